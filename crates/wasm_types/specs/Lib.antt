@@ -1,0 +1,3 @@
+pub mod Trap
+pub mod Text
+pub mod Decides
