@@ -1,7 +1,11 @@
--- The texts of values, traps and outcomes.
-use Rattle.std.specs.Prelude.{ℕ, List, ◌++◌, Some, None, codes}
+-- The texts of values, traps, outcomes and keys.
+use Rattle.std.specs.Prelude.{◌/◌, ◌%◌, ◌^◌, false, [], ◌∷◌, ℕ, List, ◌++◌, Some, None, codes}
 use Rattle.std.specs.Int.{w32, w64, cast_signed}
-use Rattle.std.specs.Fmt.{signed_decimal}
+use Rattle.std.specs.List.{flat_map}
+use Rattle.std.specs.Fmt.{decimal, signed_decimal, digit_glyph}
+use Rattle.wasm_types.specs.declared.key.RunKey.{RunKey}
+use Rattle.wasm_types.specs.declared.key.Profile.{Profile}
+use Rattle.wasm_types.specs.declared.key.Profile.TheVariants.{One, Two}
 use Rattle.wasm_types.specs.declared.value.Value.{Value}
 use Rattle.wasm_types.specs.declared.value.Value.TheVariants.{I32, I64}
 use Rattle.wasm_types.specs.declared.trap.Trap.{Trap}
@@ -33,3 +37,15 @@ outcome_text Waiting = codes "waiting"
 outcome_text (Done None) = codes "none"
 outcome_text (Done (Some value)) = value_text value
 outcome_text (Trapped trap) = trap_text trap
+
+-- two lower-case hexadecimal digits, the high one first
+abbrev pub byte_text : ℕ → List ℕ
+byte_text byte = digit_glyph false (byte / 16) ∷ digit_glyph false (byte % 16) ∷ []
+
+-- the block's size, which profile 2 alone has
+abbrev pub profile_text : Profile → List ℕ
+profile_text One = []
+profile_text (Two power) = codes ":" ++ decimal (2 ^ power)
+
+abbrev pub key_text : RunKey → List ℕ
+key_text k = flat_map byte_text k.digest ++ codes ":" ++ decimal k.run ++ profile_text k.profile

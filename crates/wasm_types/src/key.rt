@@ -4,6 +4,7 @@ use crate::block::Block;
 use crate::no_memory::NoMemory;
 use crate::same::Same;
 use std::alloc::Global;
+use std::fmt;
 
 /// The rules that a run was recorded by. Profile 1 has blocks of 64 bytes and at most 16 pages of memory, profile 2
 /// has a chosen size of blocks, at most 256 pages, and the sign-extension instructions.
@@ -19,6 +20,42 @@ pub struct RunKey {
     pub digest: [u8; 32],
     pub run: u64,
     pub profile: Profile,
+}
+
+/// A byte that is shown as two lower-case hexadecimal digits.
+#[derive(Clone, Copy)]
+struct HexByte(u8);
+
+impl fmt::Display for HexByte {
+    ghost use Rattle.std.specs.Prelude.{Some};
+    ghost use Rattle.wasm_types.specs.Text.{byte_text};
+
+    ghost output = { λ b. Some (byte_text b.0) };
+
+    #[tactic(auto, using(std::proofs::lemmas::Fmt::hex_byte))]
+    fn fmt<W: fmt::Write>(&self, f: &mut fmt::Formatter<W>) -> fmt::Result {
+        let byte = self.0;
+        write!(f, "{byte:02x}")
+    }
+}
+
+impl fmt::Display for RunKey {
+    ghost use Rattle.std.specs.Prelude.{Some};
+    ghost use Rattle.wasm_types.specs.Text.{key_text};
+
+    ghost output = { λ k. Some (key_text k) };
+
+    /// The digest in lower-case hexadecimal, `:` and the run's number; in profile 2 also `:` and the block's size.
+    fn fmt<W: fmt::Write>(&self, f: &mut fmt::Formatter<W>) -> fmt::Result {
+        for byte in &self.digest {
+            write!(f, "{}", HexByte(*byte))?;
+        }
+        write!(f, ":{}", self.run)?;
+        match self.profile {
+            Profile::One => Ok(()),
+            Profile::Two(block) => write!(f, ":{}", block.size()),
+        }
+    }
 }
 
 impl Same for Profile {

@@ -1,0 +1,4 @@
+pub mod AgreedLaws
+pub mod Entries
+pub mod Order
+pub mod SoFar

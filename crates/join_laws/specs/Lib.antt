@@ -1,0 +1,11 @@
+pub mod Join
+pub mod JoinLaws
+pub mod Flat
+pub mod FlatLaws
+pub mod Both
+pub mod BothLaws
+pub mod Keyed
+pub mod OptionLaws
+pub mod KeyedLaws
+pub mod Agreed
+pub mod Decides
