@@ -1,0 +1,9 @@
+pub mod Rules
+pub mod Loop
+pub mod Find
+pub mod Codec
+pub mod Numbers
+pub mod Fields
+pub mod Pieces
+pub mod LineLaws
+pub mod Lengths
