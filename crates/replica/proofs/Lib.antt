@@ -1,0 +1,12 @@
+pub mod LineLemmas
+pub mod Counting
+pub mod Filling
+pub mod Completeness
+pub mod ItemLemmas
+pub mod LogLemmas
+pub mod LawLemmas
+pub mod ListingLemmas
+pub mod TextLemmas
+pub mod RestLemmas
+pub mod CollectLemmas
+pub mod OneListing

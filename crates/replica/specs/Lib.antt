@@ -1,0 +1,9 @@
+pub mod Lines
+pub mod Flats
+pub mod Items
+pub mod Log
+pub mod LogOf
+pub mod Counts
+pub mod Listing
+pub mod Gathered
+pub mod Rest

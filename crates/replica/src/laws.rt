@@ -1,0 +1,27 @@
+//! Laws of the logs of pieces.
+
+ghost use Rattle.std.specs.Prelude.{◌≡◌, ℕ, List};
+ghost use Rattle.replica.specs.Gathered.{IsListing};
+ghost use Rattle.log_pieces.specs.Piece.{PieceValue};
+ghost use Rattle.replica.specs.declared.log.Log.{Log};
+ghost use Rattle.replica.specs.LogOf.{IsLogOf, Among, IsJoinedWith, IsSameLog, first_items};
+
+/// A law of logs alone: two logs of the same set of pieces have the same items, whatever the order of the pieces and
+/// their repeats.
+pub fn same_pieces_make_one_log()
+    ensures { (ps qs : List PieceValue) → ((piece : PieceValue) → Among ps piece → Among qs piece) → ((piece : PieceValue) → Among qs piece → Among ps piece)
+        → (a b : Log) → IsLogOf (Among ps) a → IsLogOf (Among qs) b → IsSameLog a b }
+{}
+
+/// A law of listings alone: the same set of pieces has one listing, byte for byte, whatever the order of the pieces and
+/// their repeats.
+pub fn same_pieces_have_one_listing()
+    ensures { (ps qs : List PieceValue) → ((piece : PieceValue) → Among ps piece → Among qs piece) → ((piece : PieceValue) → Among qs piece → Among ps piece)
+        → (text other : List ℕ) → IsListing ps text → IsListing qs other → text ≡ other }
+{}
+
+/// A law of logs alone: a log joined with the first items of a piece, and then with the piece, is joined with the piece.
+/// So delivering a piece again completes what want of memory left.
+pub fn joining_again_completes()
+    ensures { (old part new : Log) (piece : PieceValue) (count : ℕ) → IsJoinedWith old (first_items count piece) part → IsJoinedWith part piece new → IsJoinedWith old piece new }
+{}
