@@ -1,0 +1,25 @@
+# build, test, bench and install wreplay. PREFIX says where install puts it.
+PREFIX ?= /usr/local
+PROGRAM = crates/wreplay/out/wreplay
+
+.PHONY: build test bench install clean
+
+# Proves the program and what it stands on, and builds it.
+build: $(PROGRAM)
+
+$(PROGRAM): crates.txt $(wildcard crates/*/src/*.rt crates/*/specs/*.antt)
+	cd crates/wreplay && rt run >/dev/null
+
+# Every proof from nothing, the wrong bodies that must be refused, the tests and the program's stored run.
+test:
+	.ci/run
+
+# Speeds as ratios to named peers in the same run; docs/BENCH.md keeps them.
+bench: $(PROGRAM)
+	python3 bench/gather.py $(PROGRAM)
+
+install: $(PROGRAM)
+	install -D -m 755 $(PROGRAM) $(DESTDIR)$(PREFIX)/bin/wreplay
+
+clean:
+	rm -rf crates/*/out
