@@ -1,10 +1,22 @@
-//! Objects that threads read and write, and what the log of an access holds.
+//! Objects that threads read and write, the machines that do so, and what the log of an access holds.
 #![tactic(auto)]
 
+mod count;
 mod entry;
 mod few;
+mod machine;
+mod next;
+mod space;
 mod touch;
+mod versioned;
+mod versions;
 
+pub use count::Count;
 pub use entry::{Entry, Kind};
 pub use few::Few;
+pub use machine::Machine;
+pub use next::Next;
+pub use space::ObjectSpace;
 pub use touch::{Found, Mode, Touch};
+pub use versioned::Versioned;
+pub use versions::Versions;

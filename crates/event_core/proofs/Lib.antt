@@ -1,0 +1,5 @@
+pub mod Threads
+pub mod Steps
+pub mod SoundSteps
+pub mod Opens
+pub mod Places
