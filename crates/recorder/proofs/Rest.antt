@@ -1,0 +1,154 @@
+-- What is left of a recording.
+use Rattle.std.proofs.Common.{◌≡◌, ◌≢◌, ℕ, zero, suc, ◌+◌, ◌<◌, ◌≤◌, ◌==◌, ◌&&◌, Bool, true, false, cond, List, [], ◌∷◌, ◌++◌, length, Option, Some, None, slice_get, replicate, get_or, drop, drop-cons, add-one, sym, ap, ◌∙◌, refl, arith, inl, inr, append_assoc}
+use Rattle.std.proofs.lemmas.List.{append-nil}
+use Rattle.std.proofs.lemmas.Bool.Decides.{eqb_tells}
+use Rattle.rw_objects.specs.Code.{Code}
+use Rattle.rw_objects.specs.Space.{Space}
+use Rattle.rw_objects.specs.declared.entry.Entry.{Entry}
+use Rattle.event_core.specs.declared.pick.Pick.{Pick}
+use Rattle.event_core.specs.declared.step.PickStep.{PickStep}
+use Rattle.event_core.specs.declared.step.PickStep.TheVariants as step
+use Rattle.event_core.specs.declared.step.Stepped.{Stepped}
+use Rattle.event_core.specs.declared.step.Stepped.TheVariants as stepped
+use Rattle.event_core.specs.Threads.{ThreadAt, change_at, thread_after_local}
+use Rattle.event_core.specs.World.{WorldAt, step_of_pick, world_after, answer_of_step, world_after_step}
+use Rattle.event_core.proofs.SoundSteps.{length_change}
+use Rattle.std.proofs.lemmas.Option.{slice_get_within}
+use Rattle.recorder.specs.Picks.{is_taken, picks_taken, picks_passed}
+use Rattle.event_core.specs.Run.{entries, entries_of_step, world_run, IsRun}
+use Rattle.event_core.specs.PickStep.{is_enabled}
+use Rattle.event_core.specs.World.{has_steps_left}
+use Rattle.recorder.specs.Picks.{step_taken, if_ok}
+use Rattle.recorder.specs.Recorded.{list_at, entries_added, count_passed, IsNoted, IsThread}
+
+first : (b c : Bool) → (b && c) ≡ true → b ≡ true
+first true c h = refl
+first false c h = h
+
+second : (b c : Bool) → (b && c) ≡ true → c ≡ true
+second true c h = h
+second false c h = absurd (cc)
+
+module _ {State Op Reply Value Fixed : Type 0} (space : Space Op Reply Value Fixed) (code : Code State Op Reply Fixed) where
+  run_step : (steps : ℕ) (w : WorldAt State Value Fixed) (p : Pick) (ps : List Pick) (b : Bool) → is_taken space code steps w p ≡ b → IsRun space code (world_after space code w p) (picks_taken space code steps (world_after space code w p) ps) → IsRun space code w (picks_taken space code steps w ps) → IsRun space code w (cond b (p ∷ picks_taken space code steps (world_after space code w p) ps) (picks_taken space code steps w ps))
+  run_step steps w p ps true e h k = (second _ _ e, h)
+  run_step steps w p ps false e h k = k
+
+  -- the picks that a recording takes are a run
+  pub taken_is_run : (steps : ℕ) (w : WorldAt State Value Fixed) (ps : List Pick) → IsRun space code w (picks_taken space code steps w ps)
+  taken_is_run steps w [] = tt
+  taken_is_run steps w (p ∷ ps) = run_step steps w p ps (is_taken space code steps w p) refl (taken_is_run steps (world_after space code w p) ps) (taken_is_run steps w ps)
+
+  entries_added_is : (w : WorldAt State Value Fixed) (by t : ℕ) (j : PickStep Op) → entries_added by t (if_ok (answer_of_step space code w j)) ≡ entries_of_step space w.memory by t j
+  entries_added_is w by t (step.Refused f) = refl
+  entries_added_is w by t step.Local = refl
+  entries_added_is w by t (step.Event op) = refl
+
+  -- the entries of what is left, by the first pick of it
+  pub entries_step : (steps : ℕ) (w v : WorldAt State Value Fixed) (p : Pick) (ps : List Pick) (t : ℕ) (b : Bool) → is_taken space code steps w p ≡ b → v ≡ cond b (world_after space code w p) w
+      → entries space code w (picks_taken space code steps w (p ∷ ps)) t ≡ entries_added p.thread t (step_taken space code steps w p) ++ entries space code v (picks_taken space code steps v ps) t
+  entries_step steps w v p ps t true e is = rw (e, is, entries_added_is w p.thread t (step_of_pick space code w p))
+  entries_step steps w v p ps t false e is = rw (e, is)
+
+  pub world_step : (steps : ℕ) (w v : WorldAt State Value Fixed) (p : Pick) (ps : List Pick) (b : Bool) → is_taken space code steps w p ≡ b → v ≡ cond b (world_after space code w p) w
+      → world_run space code w (picks_taken space code steps w (p ∷ ps)) ≡ world_run space code v (picks_taken space code steps v ps)
+  world_step steps w v p ps true e is = rw (e, is)
+  world_step steps w v p ps false e is = rw (e, is)
+
+  taken_counts_none : (w : WorldAt State Value Fixed) (j : PickStep Op) → is_enabled j ≡ true → count_passed (if_ok (answer_of_step space code w j)) ≡ 0
+  taken_counts_none w (step.Refused f) h = absurd (cc)
+  taken_counts_none w step.Local h = refl
+  taken_counts_none w (step.Event op) h = refl
+
+  pub passed_step : (steps : ℕ) (w v : WorldAt State Value Fixed) (p : Pick) (ps : List Pick) (b : Bool) → is_taken space code steps w p ≡ b → v ≡ cond b (world_after space code w p) w
+      → picks_passed space code steps w (p ∷ ps) ≡ picks_passed space code steps v ps + count_passed (step_taken space code steps w p)
+  passed_step steps w v p ps true e is = let k : count_passed (if_ok (answer_of_step space code w (step_of_pick space code w p))) ≡ 0 = taken_counts_none w (step_of_pick space code w p) (second (has_steps_left code steps (slice_get w.threads p.thread)) (is_enabled (step_of_pick space code w p)) e) in rw (e, is) (omega (arith, k))
+  passed_step steps w v p ps false e is = rw (e, is) refl
+
+  moved_length : (w : WorldAt State Value Fixed) (t : ℕ) (j : PickStep Op) → length (world_after_step space code w t j).threads ≡ length w.threads
+  moved_length w t (step.Refused f) = refl
+  moved_length w t step.Local = length_change (thread_after_local code) w.threads t
+  moved_length w t (step.Event op) = length_change _ w.threads t
+
+  pub length_step : (w v : WorldAt State Value Fixed) (p : Pick) (b : Bool) → v ≡ cond b (world_after space code w p) w → length v.threads ≡ length w.threads
+  length_step w v p true is = rw is (moved_length w p.thread (step_of_pick space code w p))
+  length_step w v p false is = rw is
+
+  below_within : (steps : ℕ) (ts : List (ThreadAt State)) (t : ℕ) (o : Option (ThreadAt State)) → slice_get ts t ≡ o → has_steps_left code steps o ≡ true → t < length ts
+  below_within steps ts t None e h = absurd (cc)
+  below_within steps ts t (Some th) e h = slice_get_within ts t th e
+
+  within_any : (n t : ℕ) (o : Option Stepped) → t < n → IsThread n t o
+  within_any n t None h = tt
+  within_any n t (Some stepped.Local) h = tt
+  within_any n t (Some (stepped.Event e)) h = h
+
+  taken_within_ : (steps : ℕ) (w : WorldAt State Value Fixed) (p : Pick) (b : Bool) → is_taken space code steps w p ≡ b → IsThread (length w.threads) p.thread (cond b (if_ok (answer_of_step space code w (step_of_pick space code w p))) None)
+  taken_within_ steps w p true e = within_any _ _ _ (below_within steps w.threads p.thread _ refl (first _ _ e))
+  taken_within_ steps w p false e = tt
+
+  pub taken_within : (steps : ℕ) (w : WorldAt State Value Fixed) (p : Pick) → IsThread (length w.threads) p.thread (step_taken space code steps w p)
+  taken_within steps w p = taken_within_ steps w p (is_taken space code steps w p) refl
+
+list_same : (f : List Entry → List Entry) (lists : List (List Entry)) (t : ℕ) → t < length lists → list_at (change_at lists t f) t ≡ f (list_at lists t)
+list_same f [] t h = absurd (omega arith)
+list_same f (x ∷ xs) zero h = refl
+list_same f (x ∷ xs) (suc t) h = list_same f xs t (omega arith)
+
+list_other : (f : List Entry → List Entry) (lists : List (List Entry)) (by t : ℕ) → by ≢ t → list_at (change_at lists by f) t ≡ list_at lists t
+list_other f [] by t h = refl
+list_other f (x ∷ xs) zero zero h = absurd (h refl)
+list_other f (x ∷ xs) zero (suc t) h = refl
+list_other f (x ∷ xs) (suc by) zero h = refl
+list_other f (x ∷ xs) (suc by) (suc t) h = list_other f xs by t (λ e. h (ap suc e))
+
+-- the lists of a log after an entry more
+pub list_push : (lists : List (List Entry)) (by t : ℕ) (e : Entry) → t < length lists → list_at (change_at lists by (λ es. es ++ e ∷ [])) t ≡ list_at lists t ++ cond (by == t) (e ∷ []) []
+list_push lists by t e h =
+    elim (eqb_tells by t) [
+      | inl p ↦ rw p.0 (rw p.1 (list_same (λ es. es ++ e ∷ []) lists t h))
+      | inr p ↦ rw p.0 (list_other (λ es. es ++ e ∷ []) lists by t p.1 ∙ sym (append-nil _))
+    ]
+
+pub list_none : (n t : ℕ) → list_at (replicate n []) t ≡ []
+list_none zero t = refl
+list_none (suc n) zero = refl
+list_none (suc n) (suc t) = list_none n t
+
+-- the logs of a loop, by what a step adds
+pub logs_step : (lists news : List (List Entry)) (by t : ℕ) (o : Option Stepped) (rest old all : List Entry) → list_at news t ≡ list_at lists t ++ entries_added by t o → old ≡ entries_added by t o ++ rest → list_at lists t ++ old ≡ all → list_at news t ++ rest ≡ all
+logs_step lists news by t o rest old all e f h = rw e (append_assoc (list_at lists t) (entries_added by t o) rest ∙ (ap (λ x. list_at lists t ++ x) (sym f) ∙ h))
+
+list_length : (f : List Entry → List Entry) (lists : List (List Entry)) (by : ℕ) → length (change_at lists by f) ≡ length lists
+list_length f [] by = refl
+list_length f (x ∷ xs) zero = refl
+list_length f (x ∷ xs) (suc by) = ap suc (list_length f xs by)
+
+pub noted_none : (lists : List (List Entry)) (passed by : ℕ) → IsNoted lists lists passed (passed + 1) by None
+noted_none lists passed by = record { logs = λ t h. sym (append-nil _); passed = refl; len = refl }
+
+pub noted_local : (lists : List (List Entry)) (passed by : ℕ) → IsNoted lists lists passed passed by (Some stepped.Local)
+noted_local lists passed by = record { logs = λ t h. sym (append-nil _); passed = omega arith; len = refl }
+
+pub noted_event : (lists news : List (List Entry)) (passed by : ℕ) (e : Entry) → news ≡ change_at lists by (λ es. es ++ e ∷ []) → IsNoted lists news passed passed by (Some (stepped.Event e))
+noted_event lists news passed by e is = record { logs = λ t h. rw is (list_push lists by t e h); passed = omega arith; len = ap length is ∙ list_length _ lists by }
+
+-- the picks that are left, from one that is read on
+pub picks_here : (ps : List Pick) (i : ℕ) (d : Pick) → i < length ps → drop i ps ≡ get_or ps i d ∷ drop (i + 1) ps
+picks_here ps i d h = rw add-one (drop-cons ps i d h)
+
+pub passed_sum : (new old left before all o : ℕ) → new ≡ old + o → before ≡ left + o → old + before ≡ all → new + left ≡ all
+passed_sum new old left before all o e f h = omega arith
+
+over_most : (o : Option Stepped) → count_passed o ≤ 1
+over_most None = omega arith
+over_most (Some s) = omega arith
+
+pub few_step : (new old i : ℕ) (o : Option Stepped) → new ≡ old + count_passed o → old ≤ i → new ≤ i + 1
+few_step new old i o e h = omega (arith, over_most o)
+
+pub drop_past : {A : Type 0} (xs : List A) (i : ℕ) → length xs ≤ i → drop i xs ≡ []
+drop_past [] zero h = refl
+drop_past [] (suc i) h = refl
+drop_past (x ∷ xs) zero h = absurd (omega arith)
+drop_past (x ∷ xs) (suc i) h = drop_past xs i (omega arith)

@@ -1,0 +1,119 @@
+//! Recording by a list of picks.
+
+ghost use Rattle.std.specs.Prelude.{◌≡◌, ◌+◌, ◌^◌, ◌<◌, IfOk, OnOk, length, map, cond, slice_get, option_map};
+ghost use Rattle.event_core.specs.World.{world_of, world_after};
+ghost use Rattle.event_core.specs.Run.{run_end, IsRun};
+ghost use Rattle.replay_laws.specs.RunLog.{run_log, end_of_thread};
+ghost use Rattle.recorder.specs.Picks.{is_taken, step_taken, picks_taken, picks_passed};
+ghost use Rattle.recorder.specs.Recorded.{IsNoted, IsThread};
+ghost use Rattle.recorder.specs.ThreadLogAt.{log_of};
+
+use crate::logs::Logs;
+use crate::recorded::{Recorded, ThreadLog};
+use event_core::{Pick, StepFault, Stepped, World};
+use log_pieces::End;
+use rw_objects::{Entry, Machine, ObjectSpace};
+use std::alloc::Global;
+use wasm_types::NoMemory;
+
+/// Makes the step of a pick, if it is enabled and its thread has made fewer steps.
+fn try_pick<M: Machine<S>, S: ObjectSpace>(
+    world: &mut World<M, S>,
+    pick: Pick,
+    steps: u32,
+) -> Result<Option<Stepped>, NoMemory>
+    ensures taken { IfOk result (λ stepped. stepped ≡ step_taken S.meaning M.code steps (world_of world.old) pick) }
+    ensures world { OnOk result (world_of world.new ≡ cond (is_taken S.meaning M.code steps (world_of world.old) pick) (world_after S.meaning M.code (world_of world.old) pick) (world_of world.old)) }
+{
+    if !world.has_steps_left(pick.thread, steps) {
+        return Ok(None);
+    }
+    match world.step(pick) {
+        Ok(stepped) => Ok(Some(stepped)),
+        Err(StepFault::NoMemory) => Err(NoMemory),
+        Err(_) => Ok(None),
+    }
+}
+
+/// Notes the step of a pick, or that the pick was passed over.
+fn note(
+    logs: &mut Logs,
+    passed: &mut u64,
+    thread: u32,
+    stepped: Option<Stepped>,
+) -> Result<(), NoMemory>
+    requires within { IsThread (length logs.old) thread stepped }
+    requires room { passed.old + 1 < 2 ^ 64 }
+    ensures { OnOk result (IsNoted logs.old logs.new passed.old passed.new thread stepped) }
+{
+    match stepped {
+        None => *passed += 1,
+        Some(Stepped::Local) => {}
+        Some(Stepped::Event(entry)) => logs.push(thread, entry)?,
+    }
+    Ok(())
+}
+
+/// Where a thread stands, as an end.
+fn end_of<M: Machine<S>, S: ObjectSpace>(world: &World<M, S>, thread: u32) -> Option<End>
+    ensures { result ≡ option_map (end_of_thread M.code) (slice_get (world_of world.now).threads thread) }
+{
+    match (
+        world.steps(thread),
+        world.places(thread),
+        world.outcome(thread),
+    ) {
+        (Some(steps), Some(places), Some(outcome)) => Some(End {
+            steps,
+            places,
+            outcome,
+        }),
+        _ => None,
+    }
+}
+
+/// Each thread's entries with its end.
+fn thread_logs<M: Machine<S>, S: ObjectSpace>(
+    alloc: Global,
+    world: &World<M, S>,
+    lists: Vec<Vec<Entry>>,
+) -> Result<Vec<ThreadLog>, NoMemory>
+    requires { length lists.items ≡ length (world_of world.now).threads }
+    ensures entries { IfOk result (λ logs. map (λ l. l.entries) logs.items ≡ map (λ v. v.items) lists.items) }
+    ensures ends { IfOk result (λ logs. map (λ l. l.end) logs.items ≡ map (end_of_thread M.code) (world_of world.now).threads) }
+{
+    let mut logs = Vec::new(alloc);
+    let mut thread: u32 = 0;
+    for entries in lists {
+        let Some(end) = end_of(world, thread) else {
+            unreachable!()
+        };
+        logs.push(ThreadLog::new(entries, end))?;
+        thread += 1;
+    }
+    Ok(logs)
+}
+
+/// Records the run of those picks that are enabled in turn and whose thread has made fewer than `steps` steps; the others
+/// are passed over and counted. `steps` is at most 1,000,000,000; a larger number counts as that.
+pub fn record<M: Machine<S> + Drop, S: ObjectSpace + Drop>(
+    alloc: Global,
+    mut world: World<M, S>,
+    picks: &[Pick],
+    steps: u32,
+) -> Result<Recorded, NoMemory>
+    ensures run { OnOk result (IsRun S.meaning M.code (world_of world) (picks_taken S.meaning M.code steps (world_of world) picks.now)) }
+    ensures log { IfOk result (λ recorded. log_of recorded.threads ≡ run_log S.meaning M.code (world_of world) (picks_taken S.meaning M.code steps (world_of world) picks.now)) }
+    ensures end { IfOk result (λ recorded. recorded.end ≡ run_end S.meaning M.code (world_of world) (picks_taken S.meaning M.code steps (world_of world) picks.now)) }
+    ensures passed { IfOk result (λ recorded. recorded.passed ≡ picks_passed S.meaning M.code steps (world_of world) picks.now) }
+{
+    let mut logs = Logs::new(alloc, world.count())?;
+    let mut passed: u64 = 0;
+    for pick in picks {
+        let stepped = try_pick(&mut world, *pick, steps)?;
+        note(&mut logs, &mut passed, pick.thread, stepped)?;
+    }
+    let threads = thread_logs(alloc, &world, logs.into_lists())?;
+    let end = world.end(alloc)?;
+    Ok(Recorded::new(threads, end, passed))
+}

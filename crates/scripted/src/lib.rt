@@ -1,0 +1,17 @@
+//! A small space and machine for tests: three cells, and threads that are lists of operations on them and of rests.
+#![tactic(auto)]
+
+mod cells;
+mod laws;
+mod op;
+mod open;
+mod script;
+
+pub use cells::Cells;
+pub use laws::scripts_replay;
+pub use op::{Cell, CellOp, ScriptStep};
+pub use open::open_scripts;
+pub use script::Script;
+
+#[cfg(test)]
+mod tests;
