@@ -8,7 +8,7 @@ PROGRAM = crates/wreplay/out/wreplay
 build: $(PROGRAM)
 
 $(PROGRAM): crates.txt $(wildcard crates/*/src/*.rt crates/*/specs/*.antt)
-	cd crates/wreplay && rt run >/dev/null
+	cd crates/wreplay && rt run -- gather <stdin >/dev/null
 
 # Every proof from nothing, the wrong bodies that must be refused, the tests and the program's stored run.
 test:
