@@ -1,3 +1,4 @@
 pub mod Trap
 pub mod Text
 pub mod Decides
+pub mod Nesting

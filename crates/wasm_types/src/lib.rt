@@ -1,17 +1,33 @@
-//! Types that all of wreplay's crates name: values, traps, outcomes, and the key of a recorded run.
+//! Types that all of wreplay's crates name: values, instructions, modules, operations on memory, traps, outcomes, and
+//! the key of a recorded run.
 #![tactic(auto)]
 
 mod block;
+mod instruction;
+mod items;
 mod key;
+mod modules;
+mod nesting;
 mod no_memory;
+mod operation;
 mod outcome;
 mod same;
 mod trap;
 mod value;
 
 pub use block::{Block, BlockFault};
+pub use instruction::{
+    Access, AtomicOp, BinaryOp, BlockKind, Comparison, Extension, IndexOp, Instr, LabelRange, Load,
+    MemArg, MemoryOp, Narrow, Numeric, PagesOp, Plain, RmwOp, UnaryOp,
+};
+pub use items::Items;
 pub use key::{Profile, RunKey};
+pub use modules::{
+    Body, Data, Element, Export, ExportKind, FuncType, Global, Import, Limits, MemoryType, Module,
+};
+pub use nesting::{Enclosing, Nesting};
 pub use no_memory::NoMemory;
+pub use operation::{Action, Extent, Op, Reply};
 pub use outcome::Outcome;
 pub use same::Same;
 pub use trap::Trap;
