@@ -1,6 +1,7 @@
 # build, test, bench and install wreplay. PREFIX says where install puts it.
 PREFIX ?= /usr/local
 PROGRAM = crates/wreplay/out/wreplay
+STEPS = crates/steps_bench/out/steps_bench
 
 .PHONY: build test bench install clean
 
@@ -15,8 +16,13 @@ test:
 	.ci/run
 
 # Speeds as ratios to named peers in the same run; docs/BENCH.md keeps them.
-bench: $(PROGRAM)
+bench: $(PROGRAM) $(STEPS)
 	python3 bench/gather.py $(PROGRAM)
+	python3 bench/steps.py $(STEPS)
+	-python3 bench/decode.py $(PROGRAM)
+
+$(STEPS): crates.txt $(wildcard crates/*/src/*.rt crates/*/specs/*.antt)
+	cd crates/steps_bench && rt run -- parts 0 >/dev/null
 
 install: $(PROGRAM)
 	install -D -m 755 $(PROGRAM) $(DESTDIR)$(PREFIX)/bin/wreplay
