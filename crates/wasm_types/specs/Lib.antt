@@ -2,3 +2,5 @@ pub mod Trap
 pub mod Text
 pub mod Decides
 pub mod Nesting
+pub mod Leb128
+pub mod Leb128Reading

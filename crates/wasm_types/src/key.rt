@@ -1,8 +1,12 @@
 //! What names a recorded run.
 
+ghost use Rattle.std.specs.Prelude.{◌≡◌, ◌++◌};
+ghost use Rattle.sha2.specs.Sha256.{sha256};
+
 use crate::block::Block;
 use crate::no_memory::NoMemory;
 use crate::same::Same;
+use sha2::{Digest, Sha256};
 use std::alloc::Global;
 use std::fmt;
 
@@ -20,6 +24,25 @@ pub struct RunKey {
     pub digest: [u8; 32],
     pub run: u64,
     pub profile: Profile,
+}
+
+impl RunKey {
+    /// The key of a run of the module with these bytes under the plan with these: the digest is that of the module's
+    /// bytes followed by the plan's (FIPS 180-4, SHA-256). It takes no memory.
+    pub fn of(module: &[u8], plan: &[u8], run: u64, profile: Profile) -> RunKey
+        ensures digest { result.digest ≡ sha256 (module.now ++ plan.now) }
+        ensures run { result.run ≡ run }
+        ensures profile { result.profile ≡ profile }
+    {
+        let mut hasher = Sha256::new();
+        hasher.update(module);
+        hasher.update(plan);
+        RunKey {
+            digest: hasher.finalize(),
+            run,
+            profile,
+        }
+    }
 }
 
 /// A byte that is shown as two lower-case hexadecimal digits.

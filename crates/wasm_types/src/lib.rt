@@ -1,11 +1,12 @@
 //! Types that all of wreplay's crates name: values, instructions, modules, operations on memory, traps, outcomes, and
-//! the key of a recorded run.
+//! the key of a recorded run; and numbers in LEB128.
 #![tactic(auto)]
 
 mod block;
 mod instruction;
 mod items;
 mod key;
+mod leb128;
 mod modules;
 mod nesting;
 mod no_memory;
@@ -22,6 +23,7 @@ pub use instruction::{
 };
 pub use items::Items;
 pub use key::{Profile, RunKey};
+pub use leb128::{leb_signed, leb_unsigned};
 pub use modules::{
     Body, Data, Element, Export, ExportKind, FuncType, Global, Import, Limits, MemoryType, Module,
 };

@@ -1,0 +1,9 @@
+pub mod OpcodeLaws
+pub mod PartLaws
+pub mod InstrLaws
+pub mod FunctionLaws
+pub mod CustomLaws
+pub mod SlotLaws
+pub mod SectionLaws
+pub mod Verdict
+pub mod Loop

@@ -1,0 +1,4 @@
+pub mod Language
+pub mod Fault
+pub mod Reading
+pub mod Moves

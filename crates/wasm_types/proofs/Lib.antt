@@ -1,0 +1,2 @@
+pub mod Leb128Laws
+pub mod Powers
