@@ -1,0 +1,11 @@
+pub mod ClassNesting
+pub mod Sound
+pub mod Complete
+pub mod Reach
+pub mod CheckedNests
+pub mod Popping
+pub mod Stacking
+pub mod Classes
+pub mod Walking
+pub mod Names
+pub mod Ruled

@@ -1,0 +1,10 @@
+pub mod Context
+pub mod Table
+pub mod Typing
+pub mod Walk
+pub mod Reach
+pub mod Standing
+pub mod Faults
+pub mod Module
+pub mod Exports
+pub mod Valid

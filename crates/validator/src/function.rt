@@ -1,0 +1,55 @@
+//! The check of one function.
+
+ghost use Rattle.std.specs.Prelude.{◌≡◌, ◌<◌, ◌≤◌, ◌^◌, length, OnOk, IfErr};
+ghost use Rattle.validator.specs.Context.{context_of};
+ghost use Rattle.validator.specs.Table.{seq};
+ghost use Rattle.validator.specs.Walk.{Checked};
+ghost use Rattle.validator.specs.Faults.{FaultOf};
+
+use crate::fault::{CheckFault, StepFault};
+use crate::instruction::step;
+use crate::stacks::Stacks;
+use std::alloc::Global;
+use wasm_types::{Body, FuncType, Module, ValType};
+
+/// Types a function's instructions from left to right.
+pub(crate) fn check_function(
+    alloc: Global,
+    module: &Module,
+    kind: &FuncType,
+    body: &Body,
+) -> Result<(), CheckFault>
+    requires short { length body.now.code < 2 ^ 32 }
+    requires one_result { length kind.now.results ≤ 1 }
+    ensures typed { OnOk result (Checked (context_of module.now kind.now body.now) body.now.code) }
+    ensures fault { IfErr result (λ fault. FaultOf (context_of module.now kind.now body.now) body.now.code fault) }
+{
+    let code = body.code.as_slice();
+    let mut stacks = Stacks::new(alloc, only_result(kind.results.as_slice()))?;
+    for at in 0..code.len() {
+        // Nothing stands behind the function's last `end`.
+        if stacks.is_closed() {
+            return Err(CheckFault::IllTyped(at as u32));
+        }
+        match step(&mut stacks, module, kind, body, code[at]) {
+            Ok(()) => {}
+            Err(StepFault::IllTyped) => return Err(CheckFault::IllTyped(at as u32)),
+            Err(StepFault::NoMemory) => return Err(CheckFault::NoMemory),
+        }
+    }
+    if !stacks.is_closed() {
+        return Err(CheckFault::IllTyped(code.len() as u32));
+    }
+    Ok(())
+}
+
+// The result of a function, which has at most one.
+fn only_result(results: &[ValType]) -> Option<ValType>
+    requires { length results.now ≤ 1 }
+    ensures { seq result ≡ results.now }
+{
+    match results {
+        [] => None,
+        [first, ..] => Some(*first),
+    }
+}

@@ -1,0 +1,297 @@
+//! The check of one instruction.
+
+ghost use Rattle.std.specs.Prelude.{◌≡◌, ◌++◌, [], ◌∷◌, Err, OnOk, slice_get};
+ghost use Rattle.wasm_types.specs.declared.value.ValType.TheVariants.{I32};
+ghost use Rattle.validator.specs.Context.{context_of, has_memory, has_table, labels_in, function_type};
+ghost use Rattle.validator.specs.Table.{Fixed, Leaves, if_some, if_true, numeric_class, plain_class, block_class, index_class, table_class, memory_class, pages_class, atomic_class, atomic_operands, class_of, seq};
+ghost use Rattle.validator.specs.Walk.{at_frames, labels_of};
+ghost use Rattle.validator.specs.Standing.{Goes, Stops};
+
+use crate::fault::StepFault;
+use crate::labels::{each_takes, labels_of_range};
+use crate::stacks::Stacks;
+use crate::table::{
+    access_of, is_memory_there, local_type, type_of_access, type_of_function, type_of_narrow,
+    type_of_value, width_of, width_of_atomic,
+};
+use wasm_types::{
+    AtomicOp, BlockKind, Body, Enclosing, FuncType, IndexOp, Instr, LabelRange, MemArg, MemoryOp,
+    Module, Numeric, PagesOp, Plain, ValType,
+};
+
+/// Types the next instruction of a function.
+pub(crate) fn step(
+    stacks: &mut Stacks,
+    module: &Module,
+    kind: &FuncType,
+    body: &Body,
+    instr: Instr,
+) -> Result<(), StepFault>
+    ensures goes { OnOk result (Goes (λ fs. class_of (at_frames (context_of module.now kind.now body.now) fs) instr) stacks.old stacks.new) }
+    ensures stops { result ≡ Err StepFault.IllTyped → Stops (λ fs. class_of (at_frames (context_of module.now kind.now body.now) fs) instr) stacks.old }
+{
+    match instr {
+        Instr::Plain(plain) => step_plain(stacks, module, kind, body, plain),
+        Instr::Numeric(numeric) => step_numeric(stacks, numeric),
+        Instr::Block(block, result) => step_block(stacks, block, result),
+        Instr::Index(op, index) => step_index(stacks, module, kind, body, op, index),
+        Instr::BranchTable(range, default) => step_table(
+            stacks, module, kind, body, range, default,
+        ),
+        Instr::CallIndirect(index) => step_call_indirect(stacks, module, index),
+        Instr::Memory(op, argument) => step_memory(stacks, module, op, argument),
+        Instr::Pages(op) => step_pages(stacks, module, op),
+        Instr::Const(value) => stacks.fixed(&[], &[type_of_value(value)]),
+        Instr::Atomic(op, argument) => step_atomic(stacks, module, op, argument),
+        Instr::Fence => stacks.fixed(&[], &[]),
+    }
+}
+
+fn step_plain(
+    stacks: &mut Stacks,
+    module: &Module,
+    kind: &FuncType,
+    body: &Body,
+    plain: Plain,
+) -> Result<(), StepFault>
+    ensures goes { OnOk result (Goes (λ fs. plain_class (at_frames (context_of module.now kind.now body.now) fs) plain) stacks.old stacks.new) }
+    ensures stops { result ≡ Err StepFault.IllTyped → Stops (λ fs. plain_class (at_frames (context_of module.now kind.now body.now) fs) plain) stacks.old }
+{
+    match plain {
+        Plain::Unreachable => stacks.leave(&[]),
+        Plain::Nop => stacks.fixed(&[], &[]),
+        Plain::Else => stacks.turn(),
+        Plain::End => stacks.end(),
+        Plain::Return => stacks.leave(kind.results.as_slice()),
+        Plain::Discard => stacks.discard(),
+        Plain::Select => stacks.select(),
+    }
+}
+
+fn step_numeric(stacks: &mut Stacks, numeric: Numeric) -> Result<(), StepFault>
+    ensures goes { OnOk result (Goes (λ _. numeric_class numeric) stacks.old stacks.new) }
+    ensures stops { result ≡ Err StepFault.IllTyped → Stops (λ _. numeric_class numeric) stacks.old }
+{
+    match numeric {
+        Numeric::IsZero(of) => stacks.fixed(&[of], &[ValType::I32]),
+        Numeric::Compare(of, _) => stacks.fixed(&[of, of], &[ValType::I32]),
+        Numeric::Unary(of, _) => stacks.fixed(&[of], &[of]),
+        Numeric::Binary(of, _) => stacks.fixed(&[of, of], &[of]),
+        Numeric::Wrap => stacks.fixed(&[ValType::I64], &[ValType::I32]),
+        Numeric::Extend(_) => stacks.fixed(&[ValType::I32], &[ValType::I64]),
+        Numeric::ExtendLow(narrow) => {
+            let of = type_of_narrow(narrow);
+            stacks.fixed(&[of], &[of])
+        }
+    }
+}
+
+fn step_block(
+    stacks: &mut Stacks,
+    block: BlockKind,
+    leaves: Option<ValType>,
+) -> Result<(), StepFault>
+    ensures goes { OnOk result (Goes (λ _. block_class block (seq leaves)) stacks.old stacks.new) }
+    ensures stops { result ≡ Err StepFault.IllTyped → Stops (λ _. block_class block (seq leaves)) stacks.old }
+{
+    match block {
+        BlockKind::Block => stacks.enter(&[], Enclosing::Whole, leaves, leaves),
+        // A branch to a loop goes to its start.
+        BlockKind::Loop => stacks.enter(&[], Enclosing::Whole, None, leaves),
+        BlockKind::If => stacks.enter(&[ValType::I32], Enclosing::FirstArm, leaves, leaves),
+    }
+}
+
+fn step_index(
+    stacks: &mut Stacks,
+    module: &Module,
+    kind: &FuncType,
+    body: &Body,
+    op: IndexOp,
+    index: u32,
+) -> Result<(), StepFault>
+    ensures goes { OnOk result (Goes (λ fs. index_class (at_frames (context_of module.now kind.now body.now) fs) op index) stacks.old stacks.new) }
+    ensures stops { result ≡ Err StepFault.IllTyped → Stops (λ fs. index_class (at_frames (context_of module.now kind.now body.now) fs) op index) stacks.old }
+{
+    match op {
+        IndexOp::Branch => step_branch(stacks, index),
+        IndexOp::BranchIf => step_branch_if(stacks, index),
+        IndexOp::Call => step_call(stacks, module, index),
+        IndexOp::LocalGet => match local_type(kind, body, index) {
+            None => Err(StepFault::IllTyped),
+            Some(of) => stacks.fixed(&[], &[of]),
+        },
+        IndexOp::LocalSet => match local_type(kind, body, index) {
+            None => Err(StepFault::IllTyped),
+            Some(of) => stacks.fixed(&[of], &[]),
+        },
+        IndexOp::LocalTee => match local_type(kind, body, index) {
+            None => Err(StepFault::IllTyped),
+            Some(of) => stacks.fixed(&[of], &[of]),
+        },
+        IndexOp::GlobalGet => match module.globals.as_slice().get(index as usize) {
+            None => Err(StepFault::IllTyped),
+            Some(global) => stacks.fixed(&[], &[global.val_type]),
+        },
+        IndexOp::GlobalSet => match module.globals.as_slice().get(index as usize) {
+            None => Err(StepFault::IllTyped),
+            Some(global) => {
+                if !global.mutable {
+                    return Err(StepFault::IllTyped);
+                }
+                stacks.fixed(&[global.val_type], &[])
+            }
+        },
+    }
+}
+
+fn step_branch(stacks: &mut Stacks, label: u32) -> Result<(), StepFault>
+    ensures goes { OnOk result (Goes (λ fs. if_some (slice_get (labels_of fs) label) (λ takes. Leaves takes)) stacks.old stacks.new) }
+    ensures stops { result ≡ Err StepFault.IllTyped → Stops (λ fs. if_some (slice_get (labels_of fs) label) (λ takes. Leaves takes)) stacks.old }
+{
+    let Some(target) = stacks.block_at(label) else {
+        return Err(StepFault::IllTyped);
+    };
+    stacks.branch(target.label)
+}
+
+fn step_branch_if(stacks: &mut Stacks, label: u32) -> Result<(), StepFault>
+    ensures goes { OnOk result (Goes (λ fs. if_some (slice_get (labels_of fs) label) (λ takes. Fixed (takes ++ I32 ∷ []) takes)) stacks.old stacks.new) }
+    ensures stops { result ≡ Err StepFault.IllTyped → Stops (λ fs. if_some (slice_get (labels_of fs) label) (λ takes. Fixed (takes ++ I32 ∷ []) takes)) stacks.old }
+{
+    let Some(target) = stacks.block_at(label) else {
+        return Err(StepFault::IllTyped);
+    };
+    stacks.branch_if(target.label)
+}
+
+fn step_table(
+    stacks: &mut Stacks,
+    module: &Module,
+    kind: &FuncType,
+    body: &Body,
+    range: LabelRange,
+    default: u32,
+) -> Result<(), StepFault>
+    ensures goes { OnOk result (Goes (λ fs. table_class (at_frames (context_of module.now kind.now body.now) fs) (labels_in body.now.labels range) default) stacks.old stacks.new) }
+    ensures stops { result ≡ Err StepFault.IllTyped → Stops (λ fs. table_class (at_frames (context_of module.now kind.now body.now) fs) (labels_in body.now.labels range) default) stacks.old }
+{
+    let Some(labels) = labels_of_range(body.labels.as_slice(), range) else {
+        return Err(StepFault::IllTyped);
+    };
+    let Some(target) = stacks.block_at(default) else {
+        return Err(StepFault::IllTyped);
+    };
+    if !each_takes(stacks, target.label, labels) {
+        return Err(StepFault::IllTyped);
+    }
+    stacks.branch_by_index(target.label)
+}
+
+fn step_call(stacks: &mut Stacks, module: &Module, function: u32) -> Result<(), StepFault>
+    ensures goes { OnOk result (Goes (λ _. if_some (function_type module.now function) (λ kind. Fixed kind.params kind.results)) stacks.old stacks.new) }
+    ensures stops { result ≡ Err StepFault.IllTyped → Stops (λ _. if_some (function_type module.now function) (λ kind. Fixed kind.params kind.results)) stacks.old }
+{
+    let Some(callee) = type_of_function(module, function) else {
+        return Err(StepFault::IllTyped);
+    };
+    stacks.fixed(callee.params.as_slice(), callee.results.as_slice())
+}
+
+// The index of the table's element is above the parameters.
+fn step_call_indirect(stacks: &mut Stacks, module: &Module, index: u32) -> Result<(), StepFault>
+    ensures goes { OnOk result (Goes (λ _. if_true (has_table module.now) (if_some (slice_get module.now.types index) (λ kind. Fixed (kind.params ++ I32 ∷ []) kind.results))) stacks.old stacks.new) }
+    ensures stops { result ≡ Err StepFault.IllTyped → Stops (λ _. if_true (has_table module.now) (if_some (slice_get module.now.types index) (λ kind. Fixed (kind.params ++ I32 ∷ []) kind.results))) stacks.old }
+{
+    if module.tables.as_slice().is_empty() {
+        return Err(StepFault::IllTyped);
+    }
+    let Some(callee) = module.types.as_slice().get(index as usize) else {
+        return Err(StepFault::IllTyped);
+    };
+    stacks.fixed_above(
+        ValType::I32,
+        callee.params.as_slice(),
+        callee.results.as_slice(),
+    )
+}
+
+fn step_memory(
+    stacks: &mut Stacks,
+    module: &Module,
+    op: MemoryOp,
+    argument: MemArg,
+) -> Result<(), StepFault>
+    ensures goes { OnOk result (Goes (λ _. if_true (has_memory module.now) (memory_class op argument.align)) stacks.old stacks.new) }
+    ensures stops { result ≡ Err StepFault.IllTyped → Stops (λ _. if_true (has_memory module.now) (memory_class op argument.align)) stacks.old }
+{
+    if !is_memory_there(module) {
+        return Err(StepFault::IllTyped);
+    }
+    match op {
+        MemoryOp::Load(load) => {
+            let access = access_of(load);
+            if argument.align > width_of(access) {
+                return Err(StepFault::IllTyped);
+            }
+            stacks.fixed(&[ValType::I32], &[type_of_access(access)])
+        }
+        MemoryOp::Store(access) => {
+            if argument.align > width_of(access) {
+                return Err(StepFault::IllTyped);
+            }
+            stacks.fixed(&[ValType::I32, type_of_access(access)], &[])
+        }
+    }
+}
+
+fn step_pages(stacks: &mut Stacks, module: &Module, op: PagesOp) -> Result<(), StepFault>
+    ensures goes { OnOk result (Goes (λ _. if_true (has_memory module.now) (pages_class op)) stacks.old stacks.new) }
+    ensures stops { result ≡ Err StepFault.IllTyped → Stops (λ _. if_true (has_memory module.now) (pages_class op)) stacks.old }
+{
+    if !is_memory_there(module) {
+        return Err(StepFault::IllTyped);
+    }
+    match op {
+        PagesOp::Size => stacks.fixed(&[], &[ValType::I32]),
+        PagesOp::Grow => stacks.fixed(&[ValType::I32], &[ValType::I32]),
+    }
+}
+
+fn step_atomic(
+    stacks: &mut Stacks,
+    module: &Module,
+    op: AtomicOp,
+    argument: MemArg,
+) -> Result<(), StepFault>
+    ensures goes { OnOk result (Goes (λ _. if_true (has_memory module.now) (atomic_class op argument.align)) stacks.old stacks.new) }
+    ensures stops { result ≡ Err StepFault.IllTyped → Stops (λ _. if_true (has_memory module.now) (atomic_class op argument.align)) stacks.old }
+{
+    if !is_memory_there(module) {
+        return Err(StepFault::IllTyped);
+    }
+    if argument.align != width_of_atomic(op) {
+        return Err(StepFault::IllTyped);
+    }
+    step_aligned(stacks, op)
+}
+
+fn step_aligned(stacks: &mut Stacks, op: AtomicOp) -> Result<(), StepFault>
+    ensures goes { OnOk result (Goes (λ _. atomic_operands op) stacks.old stacks.new) }
+    ensures stops { result ≡ Err StepFault.IllTyped → Stops (λ _. atomic_operands op) stacks.old }
+{
+    match op {
+        AtomicOp::Notify => stacks.fixed(&[ValType::I32, ValType::I32], &[ValType::I32]),
+        AtomicOp::Wait(of) => stacks.fixed(&[ValType::I32, of, ValType::I64], &[ValType::I32]),
+        AtomicOp::Load(access) => stacks.fixed(&[ValType::I32], &[type_of_access(access)]),
+        AtomicOp::Store(access) => stacks.fixed(&[ValType::I32, type_of_access(access)], &[]),
+        AtomicOp::Rmw(_, access) => {
+            let of = type_of_access(access);
+            stacks.fixed(&[ValType::I32, of], &[of])
+        }
+        AtomicOp::CompareExchange(access) => {
+            let of = type_of_access(access);
+            stacks.fixed(&[ValType::I32, of, of], &[of])
+        }
+    }
+}

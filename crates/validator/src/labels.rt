@@ -1,0 +1,47 @@
+//! The labels of branch tables.
+
+ghost use Rattle.std.specs.Prelude.{◌≡◌, List, option_map, option_copied};
+ghost use Rattle.validator.specs.Context.{labels_in};
+ghost use Rattle.validator.specs.Table.{all_take, takes_these, seq};
+ghost use Rattle.validator.specs.Walk.{Frame, labels_of};
+ghost use Rattle.validator.specs.Standing.{Stand};
+
+use crate::stacks::{OpenBlock, Stacks, is_same};
+use wasm_types::{LabelRange, ValType};
+
+// The labels of a branch table, where its range is within the function's.
+pub(crate) fn labels_of_range(labels: &[u32], range: LabelRange) -> Option<&[u32]>
+    ensures { option_copied result ≡ labels_in labels.now range }
+{
+    let first = range.first as usize;
+    let end = first + range.count as usize;
+    if end <= labels.len() {
+        Some(&labels[first..end])
+    } else {
+        None
+    }
+}
+
+// Whether each label is there and takes what is named.
+pub(crate) fn each_takes(stacks: &Stacks, takes: Option<ValType>, labels: &[u32]) -> bool
+    ensures { (fs : List Frame) → Stand fs stacks.now → result ≡ all_take (labels_of fs) (seq takes) labels.now }
+{
+    let mut all = true;
+    for label in labels {
+        all &= block_takes(stacks.block_at(*label), takes);
+    }
+    all
+}
+
+fn block_takes(block: Option<OpenBlock>, takes: Option<ValType>) -> bool
+    ensures { result ≡ takes_these (seq takes) (option_map (λ b. seq b.label) block) }
+{
+    let Some(block) = block else { return false };
+    match takes {
+        None => block.label.is_none(),
+        Some(taken) => match block.label {
+            None => false,
+            Some(other) => is_same(taken, other),
+        },
+    }
+}

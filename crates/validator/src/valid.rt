@@ -1,0 +1,155 @@
+//! Validated modules.
+
+ghost use Rattle.std.specs.Prelude.{◌≡◌, ℕ, ◌&&◌, ◌<◌, ◌^◌, true, false, map, take, length, List, IfOk, OnOk, IfErr, option_copied, option_map, slice_get};
+ghost use Rattle.control_flow.specs.Targets.{targets_from};
+ghost use Rattle.validator.specs.Module.{rules};
+ghost use Rattle.validator.specs.Exports.{distinct, shown, named, exported_function};
+ghost use Rattle.validator.specs.Valid.{WellTyped, TypedAt, Refuses, FaultAt, IsOfFunction, all_targets, fault_in};
+
+use crate::exports::names_of;
+use crate::fault::{CheckFault, ValidFault};
+use crate::function::check_function;
+use crate::rules::keeps_rules;
+use crate::table::type_of_function;
+use control_flow::Targets;
+use indexmap::IndexMap;
+use std::alloc::Global;
+use std::marker::Model;
+use wasm_types::Module;
+
+/// A module that is well typed (WebAssembly Core 1.0, validation), with the targets of its functions' blocks.
+/// Contracts see the module.
+#[derive(Drop)]
+pub struct Valid {
+    module: Module,
+    // The names of the exports, each with the index of the function that it names, if it names one.
+    names: IndexMap<Vec<u8>, Option<u32>>,
+    // The targets of each function.
+    targets: Vec<Targets>,
+}
+
+impl Model for Valid {
+    ghost use Rattle.wasm_types.specs.declared.modules.Module.{Module};
+    ghost use Rattle.validator.specs.Valid.{WellTyped, all_targets};
+    ghost use Rattle.validator.specs.Exports.{shown, named};
+    ghost use Rattle.std.specs.Prelude.{◌≡◌};
+
+    ghost Value = { Module };
+
+    ghost view = { λ v. v.module };
+
+    ghost invariant = { λ v. WellTyped v.module × (shown v.names.entries ≡ named v.module.exports) × (v.targets.items ≡ all_targets v.module.bodies) };
+}
+
+/// Validates a module, which is given up on a refusal.
+pub fn validate(alloc: Global, module: Module) -> Result<Valid, ValidFault>
+    ensures same { IfOk result (λ valid. valid ≡ «module») }
+    ensures typed { OnOk result (WellTyped «module») }
+    ensures refuses { IfErr result (λ fault. Refuses «module» fault) }
+{
+    if !keeps_rules(&module) {
+        return Err(ValidFault::Invalid {
+            function: None,
+            instruction: 0,
+        });
+    }
+    let Some(names) = names_of(alloc, module.exports.as_slice())? else {
+        return Err(ValidFault::Invalid {
+            function: None,
+            instruction: 0,
+        });
+    };
+    let targets = check_functions(alloc, &module)?;
+    Ok(Valid {
+        module,
+        names,
+        targets,
+    })
+}
+
+// Types each function, and finds the targets of its blocks.
+fn check_functions(alloc: Global, module: &Module) -> Result<Vec<Targets>, ValidFault>
+    requires { rules module.now ≡ true }
+    ensures typed { OnOk result ((function : ℕ) → TypedAt module.now function) }
+    ensures targets { IfOk result (λ targets. targets.items ≡ all_targets module.now.bodies) }
+    ensures fault { IfErr result (λ fault. IsOfFunction module.now fault) }
+{
+    let mut targets = Vec::new(alloc);
+    for function in 0..module.bodies.as_slice().len() {
+        let found = check_at(alloc, module, function as u32)?;
+        targets.push(found)?;
+    }
+    Ok(targets)
+}
+
+// Types one function, and finds the targets of its blocks.
+fn check_at(alloc: Global, module: &Module, function: u32) -> Result<Targets, ValidFault>
+    requires rules { rules module.now ≡ true }
+    requires there { function < length module.now.bodies }
+    ensures typed { OnOk result (TypedAt module.now function) }
+    ensures targets { IfOk result (λ targets. option_map (λ body. targets_from 0 body.code) (slice_get module.now.bodies function) ≡ Some targets) }
+    ensures fault { IfErr result (λ fault. IsOfFunction module.now fault) }
+{
+    let fault = ValidFault::Invalid {
+        function: Some(function),
+        instruction: 0,
+    };
+    let body = &module.bodies.as_slice()[function as usize];
+    let Some(kind) = type_of_function(module, function) else {
+        return Err(fault)
+    };
+    match check_function(alloc, module, kind, body) {
+        Ok(()) => {}
+        Err(found) => return Err(fault_of_function(function, found)),
+    }
+    match Targets::new(alloc, body.code.as_slice())? {
+        None => Err(fault),
+        Some(targets) => Ok(targets),
+    }
+}
+
+fn fault_of_function(function: u32, fault: CheckFault) -> ValidFault
+    ensures { result ≡ fault_in function fault }
+{
+    match fault {
+        CheckFault::IllTyped(at) => ValidFault::Invalid {
+            function: Some(function),
+            instruction: at,
+        },
+        CheckFault::NoMemory => ValidFault::NoMemory,
+    }
+}
+
+impl Valid {
+    /// The module, which is well typed.
+    pub fn module(&self) -> &Module
+        ensures module { result.now ≡ self.now }
+        ensures typed { WellTyped self.now }
+    {
+        &self.module
+    }
+
+    /// The index of the function that is exported under a name. It takes no memory.
+    pub fn export(&self, name: &str) -> Option<u32>
+        ensures { result ≡ exported_function self.now.exports name.now }
+    {
+        match self.names.get(name.as_bytes()) {
+            None => None,
+            Some(found) => *found,
+        }
+    }
+
+    /// How many functions there are. It takes no memory.
+    pub fn functions(&self) -> u32
+        ensures { result ≡ length self.now.functions }
+    {
+        self.module.functions.as_slice().len() as u32
+    }
+
+    /// The targets of a function's blocks; None past the last function. It takes no memory.
+    pub fn targets(&self, function: u32) -> Option<&Targets>
+        ensures { option_copied result ≡ option_map (λ body. targets_from 0 body.code) (slice_get self.now.bodies function) }
+    {
+        self.targets.as_slice().get(function as usize)
+    }
+}
