@@ -1,0 +1,11 @@
+//! Integer arithmetic: what the numeric instructions give.
+#![tactic(auto)]
+
+mod computing;
+mod word32;
+mod word64;
+
+pub use computing::compute;
+
+#[cfg(test)]
+mod tests;

@@ -1,0 +1,8 @@
+mod Frames
+mod Simple
+mod Landing
+mod Steps
+mod Jumps
+mod Blocks
+mod Safety
+mod Reaching

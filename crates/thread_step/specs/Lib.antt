@@ -1,0 +1,5 @@
+pub mod Instance
+pub mod Activation
+pub mod Effect
+pub mod Step
+pub mod Fits

@@ -1,0 +1,6 @@
+//! The step of a thread, as a definition, and why it is never stuck.
+#![tactic(auto)]
+
+mod laws;
+
+pub use laws::{steps_are_safe, well_typed_is_never_stuck};
