@@ -1,0 +1,11 @@
+pub mod Division
+pub mod Windows
+pub mod Laws
+pub mod Values
+pub mod Geometry
+pub mod NumbersIn
+pub mod Modes
+pub mod Seen
+pub mod Accesses
+pub mod Meets
+pub mod Image

@@ -1,0 +1,8 @@
+pub mod Objects
+pub mod Access
+pub mod Widths
+pub mod Touches
+pub mod Queues
+pub mod Effects
+pub mod Memory
+pub mod SharedMemory

@@ -1,0 +1,21 @@
+//! The objects of a shared memory: what operations touch and do, and the memory's bytes.
+#![tactic(auto)]
+
+mod blocks;
+mod bounds;
+mod limits;
+mod loads;
+mod numbers;
+mod object;
+mod segments;
+mod touch_table;
+mod waiter;
+mod width;
+
+pub use blocks::Blocks;
+pub use bounds::ends_within;
+pub use limits::MemoryLimits;
+pub use object::ObjectValue;
+pub use touch_table::{block_number, kind, touches};
+pub use waiter::Waiter;
+pub use width::type_len;

@@ -1,0 +1,15 @@
+//! Waiter queues, and a shared memory with its queues as a space of objects.
+#![tactic(auto)]
+
+mod queue;
+mod queues;
+mod space;
+
+pub use queue::Queue;
+pub use queues::Queues;
+pub use space::SharedSpace;
+
+#[cfg(test)]
+mod checked;
+#[cfg(test)]
+mod tests;
