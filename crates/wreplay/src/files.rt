@@ -1,5 +1,7 @@
 //! The files that commands name.
 
+ghost use Rattle.std.specs.Prelude.{◌≡◌, ℕ, List, IfOk, Err};
+
 use std::alloc::Global;
 
 /// Why a file was not read.
@@ -11,8 +13,19 @@ pub enum FileFault {
     NoMemory,
 }
 
-/// Where the files stand that a command names.
+/// Where the files stand that a command names. What the system's files hold nobody can know beforehand; files for tests
+/// can say it.
 pub trait Files {
+    ghost use Rattle.wreplay.specs.declared.files.FileFault.TheVariants.{NotRead};
+
+    /// The file at a path may have these bytes.
+    ghost holds: { Self → List ℕ → List ℕ → Type 0 };
+
+    /// The file at a path may fail to be read.
+    ghost fails: { Self → List ℕ → Type 0 };
+
     /// The bytes of the file at that path.
-    fn read(&mut self, alloc: Global, path: &str) -> Result<Vec<u8>, FileFault>;
+    fn read(&mut self, alloc: Global, path: &str) -> Result<Vec<u8>, FileFault>
+        ensures bytes { IfOk result (λ bytes. holds self.old path.now bytes.items) }
+        ensures not_read { result ≡ Err NotRead → fails self.old path.now };
 }

@@ -1,7 +1,8 @@
 //! `wreplay` records runs of threaded WebAssembly modules and replays them; so far it gathers the pieces of a recorded
-//! run and lists the log that they claim.
+//! run and lists the log that they claim, and checks modules.
 #![tactic(auto)]
 
+mod check;
 mod command;
 mod fault;
 mod files;
@@ -25,6 +26,10 @@ struct SystemFiles {
 }
 
 impl Files for SystemFiles {
+    ghost holds = { λ files path bytes. Unit {0} };
+
+    ghost fails = { λ files path. Unit {0} };
+
     fn read(&mut self, _alloc: Global, path: &str) -> Result<Vec<u8>, FileFault> {
         match fs::read(&self.runtime, path) {
             Ok(bytes) => Ok(bytes),

@@ -17,6 +17,10 @@ const OTHER: &str =
 struct NoFiles;
 
 impl Files for NoFiles {
+    ghost holds = { λ files path bytes. Unit {0} };
+
+    ghost fails = { λ files path. Unit {0} };
+
     fn read(&mut self, _alloc: Global, _path: &str) -> Result<Vec<u8>, FileFault> {
         Err(FileFault::NotRead)
     }
@@ -174,5 +178,99 @@ fn refuses_words_that_it_does_not_know(rt: HostRuntime) -> Result<(), Fail> {
         assert_eq!(rt; text(&unknown.output), "");
         assert!(rt; text(&unknown.errors).starts_with("error: "));
     }
+    Ok(())
+}
+
+/// A module of one shared page and one function `w`, which adds 1 at address 0 twice.
+const COUNTER: [u8; 55] = [
+    0x00, 0x61, 0x73, 0x6D, 0x01, 0x00, 0x00, 0x00, 0x01, 0x05, 0x01, 0x60, 0x00, 0x01, 0x7F, 0x03,
+    0x02, 0x01, 0x00, 0x05, 0x04, 0x01, 0x03, 0x01, 0x01, 0x07, 0x05, 0x01, 0x01, 0x77, 0x00, 0x00,
+    0x0A, 0x15, 0x01, 0x13, 0x00, 0x41, 0x00, 0x41, 0x01, 0xFE, 0x1E, 0x02, 0x00, 0x1A, 0x41, 0x00,
+    0x41, 0x01, 0xFE, 0x1E, 0x02, 0x00, 0x0B,
+];
+
+/// One file.
+#[derive(Drop)]
+struct OneFile<'a> {
+    path: &'a str,
+    bytes: &'a [u8],
+}
+
+impl<'a> Files for OneFile<'a> {
+    ghost holds = { λ files path bytes. Unit {0} };
+
+    ghost fails = { λ files path. Unit {0} };
+
+    fn read(&mut self, alloc: Global, path: &str) -> Result<Vec<u8>, FileFault> {
+        if path != self.path {
+            return Err(FileFault::NotRead);
+        }
+        match Vec::from_slice(alloc, self.bytes) {
+            Ok(bytes) => Ok(bytes),
+            Err(_) => Err(FileFault::NoMemory),
+        }
+    }
+}
+
+/// Runs `check` of the file `m.wasm`, which has these bytes.
+fn check_of(alloc: Global, path: &str, bytes: &[u8]) -> Done {
+    let mut files = OneFile {
+        path: "m.wasm",
+        bytes,
+    };
+    let words = ["wreplay", "check", path];
+    let mut source = MemorySource::new(b"".as_slice(), 1, None);
+    let mut output = MemorySink::new(alloc, 8, None);
+    let mut errors = MemorySink::new(alloc, 65536, None);
+    let status = run(
+        alloc,
+        words.as_slice(),
+        &mut files,
+        &mut source,
+        &mut output,
+        &mut errors,
+    );
+    Done {
+        status,
+        output,
+        errors,
+    }
+}
+
+#[test]
+fn checks_a_module(rt: HostRuntime) -> Result<(), Fail> {
+    let done = check_of(rt.alloc(), "m.wasm", &COUNTER);
+    assert_eq!(rt; text(&done.errors), "");
+    assert_eq!(rt; done.status, 0);
+    assert_eq!(rt;
+        text(&done.output),
+        "types 1\nfunctions 1\ntable none\nmemory 1 1 shared\nglobals 0\nexports 1\nstart none\nvalid\n"
+    );
+    Ok(())
+}
+
+#[test]
+fn says_why_it_refuses_a_module(rt: HostRuntime) -> Result<(), Fail> {
+    let alloc = rt.alloc();
+    // Two bytes at a place made others, and the line: a section out of order, two instructions that push nothing, an
+    // alignment that is not the width, a minimum above the maximum.
+    let changes = [
+        (8, [0x0D, 0x05], "refused 1 Refused 8\n"),
+        (37, [0x01, 0x01], "refused 11 Invalid 0 3\n"),
+        (43, [0x01, 0x00], "refused 11 Invalid 0 2\n"),
+        (24, [0x00, 0x07], "refused 11 Invalid module\n"),
+    ];
+    for (at, [first, second], line) in changes {
+        let mut bytes = COUNTER;
+        bytes[at] = first;
+        bytes[at + 1] = second;
+        let refused = check_of(alloc, "m.wasm", &bytes);
+        assert_eq!(rt; text(&refused.errors), line);
+        assert_eq!(rt; refused.status, 1);
+        assert_eq!(rt; text(&refused.output), "");
+    }
+    let missing = check_of(alloc, "n.wasm", &COUNTER);
+    assert_eq!(rt; text(&missing.errors), "refused 44 SourceFailed\n");
+    assert_eq!(rt; missing.status, 1);
     Ok(())
 }
