@@ -45,7 +45,7 @@ pub const NARROW_LOADS: [(Narrow, Extension); 10] = [
     (Narrow::I64Of32, Extension::Unsigned),
 ];
 
-/// Stores `3A` to `3E`, and sign extensions `C0` to `C4`.
+/// Stores, bytes 0x3A to 0x3E, and the five sign extensions, bytes 0xC0 to 0xC4.
 pub const NARROWS: [Narrow; 5] = [
     Narrow::I32Of8,
     Narrow::I32Of16,
