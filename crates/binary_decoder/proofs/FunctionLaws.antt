@@ -1,81 +1,80 @@
 -- Readers of functions' bodies answer by their grammar, within the limit.
 use Rattle.std.proofs.Common.{◌≡◌, ℕ, zero, suc, ◌+◌, ◌≤◌, Bool, true, false, cond, ltb, eqb, ◌&&◌, List, [], ◌∷◌, ◌++◌, length, Ok, Err, refl, sym, ap, subst, ◌∙◌, arith}
-use Rattle.std.specs.Prelude.{replicate}
-use Rattle.std.specs.List.{flat_map}
 use Rattle.std.proofs.lemmas.Bool.{eqb-true, eqb-false, ltb-true, ltb-false}
 use Rattle.std.proofs.lemmas.List.{length-append, length-replicate}
 use Rattle.byte_reader.specs.Language.{Language, ◌⨾◌, each, u32, vector}
 use Rattle.byte_reader.specs.Fault.{Malformed, Oversized}
 use Rattle.byte_reader.specs.Reading.{u32_at, then_at, limited_at, sized_at}
 use Rattle.byte_reader.proofs.Answers.{Answers, Exact, always}
-use Rattle.byte_reader.proofs.Laws.{then_both, then_exact, as_exact, as_by, u32_exact, Keeps, limited_exact, sized_exact, alike, shrinks}
+use Rattle.byte_reader.proofs.Laws.{Counted, then_both, then_exact, as_exact, as_by, u32_exact, Keeps, limited_exact, sized_exact, alike, shrinks}
 use Rattle.std.proofs.lemmas.List.Concat.{flat_map-cons}
-use Rattle.binary_decoder.specs.Grammar.{val_type, expr, Group, group, locals, body}
+use Rattle.binary_decoder.specs.Grammar.{val_type, expr, group, locals, body}
 use Rattle.binary_decoder.specs.Limits.{Fit}
 use Rattle.binary_decoder.specs.Reader.{val_type_at, expr_at, group_at, groups_at, locals_at, inside_at, body_at, bodies_at, code_at}
 use Rattle.binary_decoder.proofs.PartLaws.{val_type_exact}
 use Rattle.binary_decoder.proofs.InstrLaws.{expr_exact}
 use Rattle.wasm_types.specs.declared.value.ValType.{ValType}
 use Rattle.wasm_types.specs.declared.instruction.Instr.{Instr}
+use Rattle.wasm_types.specs.declared.modules.LocalGroup.{LocalGroup}
 use Rattle.wasm_types.specs.declared.modules.Body.{Body}
+use Rattle.wasm_types.specs.Locals.{locals_in, locals_of}
 
 -- ---- locals
 
-group_exact : (limited : Bool) (used : ℕ) → Exact group (λ (g : Group). Keeps limited 1024 used g.count) (group_at limited used)
+group_exact : (limited : Bool) (used : ℕ) → Exact group (λ (g : LocalGroup). Keeps limited 1024 used g.count) (group_at limited used)
 unfolding group_at
 group_exact limited used =
-    as_exact (λ (p : ℕ × ValType). record { count = p.0; type = p.1 }) (λ (p : ℕ × ValType). u32 p.0 ⨾ val_type p.1) (λ (p : ℕ × ValType). Keeps limited 1024 used p.0 × Unit {0}) group (λ (g : Group). Keeps limited 1024 used g.count) (then_at (limited_at limited 1024 used) (λ _. val_type_at))
-    (λ p text l. l) (λ p w. w.0) (λ g text l. ((g.count, g.type), l, refl, λ w. (w, tt)))
+    as_exact (λ (p : ℕ × ValType). record { count = p.0; val_type = p.1 }) (λ (p : ℕ × ValType). u32 p.0 ⨾ val_type p.1) (λ (p : ℕ × ValType). Keeps limited 1024 used p.0 × Unit {0}) group (λ (g : LocalGroup). Keeps limited 1024 used g.count) (then_at (limited_at limited 1024 used) (λ _. val_type_at))
+    (λ p text l. l) (λ p w. w.0) (λ g text l. ((g.count, g.val_type), l, refl, λ w. (w, tt)))
     (then_exact u32 (λ _. val_type) (Keeps limited 1024 used) (λ _. always) (limited_at limited 1024 used) (λ _. val_type_at) (limited_exact limited 1024 used) (λ _. val_type_exact))
 
-abbrev expand : Group → List ValType
-expand g = replicate g.count g.type
+-- the locals of the groups, with so many before them, keep the limit, where limits hold
+abbrev pub Fits_locals : Bool → ℕ → List LocalGroup → Type 0
+Fits_locals limited used gs = Keeps limited 1024 used (length (locals_of gs))
 
-abbrev Groups : ℕ → List ValType → Language
-Groups n ts text = (gs : List Group) × (length gs ≡ n) × each group gs text × (ts ≡ flat_map expand gs)
+one_more : (g : LocalGroup) (gs : List LocalGroup) → length (locals_of (g ∷ gs)) ≡ g.count + length (locals_of gs)
+one_more g gs = ap length (flat_map-cons locals_in g gs) ∙ length-append (locals_in g) (locals_of gs) ∙ ap (λ (k : ℕ). k + length (locals_of gs)) (length-replicate g.count g.val_type)
 
-groups_none : (bytes : List ℕ) (ts : List ValType) (text rest : List ℕ) → Groups zero ts text → bytes ≡ text ++ rest → ◌≡◌ {A = List ValType × List ℕ} ([], bytes) (ts, rest)
-groups_none bytes ts text rest ([], n, l, is) e = let k : bytes ≡ rest = e ∙ ap (λ (t : List ℕ). t ++ rest) l in cc
-groups_none bytes ts text rest (g ∷ gs, n, l, is) e = absurd cc
+groups_none : (bytes : List ℕ) (gs : List LocalGroup) (text rest : List ℕ) → Counted group zero gs text → bytes ≡ text ++ rest → ◌≡◌ {A = List LocalGroup × List ℕ} ([], bytes) (gs, rest)
+groups_none bytes [] text rest l e = let k : bytes ≡ rest = e ∙ ap (λ (t : List ℕ). t ++ rest) l.1 in cc
+groups_none bytes (g ∷ gs) text rest l e = let k = l.0 in absurd cc
 
-groups_out : (limited : Bool) (used n : ℕ) (ts : List ValType) (text : List ℕ) → Groups (suc n) ts text
-    → (p : Group × List ValType) × (group p.0 ⨾ Groups n p.1) text × (expand p.0 ++ p.1 ≡ ts) × (Keeps limited 1024 used (length ts) → Keeps limited 1024 used p.0.count × Keeps limited 1024 (used + p.0.count) (length p.1))
-groups_out limited used n ts text ([], c, l, is) = absurd cc
-groups_out limited used n ts text (g ∷ gs, c, l, is) =
-    let split : ts ≡ expand g ++ flat_map expand gs = is ∙ flat_map-cons expand g gs in
-    let count : length gs ≡ n = omega arith in
-    let len : length ts ≡ g.count + length (flat_map expand gs) = ap length split ∙ length-append (expand g) (flat_map expand gs) ∙ ap (λ (k : ℕ). k + length (flat_map expand gs)) (length-replicate g.count g.type) in
-    ((g, flat_map expand gs), record { front = l.front; back = l.back; parts = l.parts; is_first = l.is_first; is_second = (gs, count, l.is_second, refl) }, sym split, λ w. (λ e. omega (arith, w e), λ e. omega (arith, w e)))
+groups_out : (limited : Bool) (used n : ℕ) (gs : List LocalGroup) (text : List ℕ) → Counted group (suc n) gs text
+    → (p : LocalGroup × List LocalGroup) × (group p.0 ⨾ Counted group n p.1) text × (p.0 ∷ p.1 ≡ gs) × (Fits_locals limited used gs → Keeps limited 1024 used p.0.count × Fits_locals limited (used + p.0.count) p.1)
+groups_out limited used n [] text l = let k = l.0 in absurd cc
+groups_out limited used n (g ∷ gs) text l =
+    let len = one_more g gs in
+    ((g, gs), record { front = l.1.front; back = l.1.back; parts = l.1.parts; is_first = l.1.is_first; is_second = (let k = l.0 in omega arith, l.1.is_second) }, refl, λ w. (λ e. omega (arith, w e, len), λ e. omega (arith, w e, len)))
 
-groups_exact : (limited : Bool) (used n : ℕ) → Keeps limited 1024 used 0 → (bytes : List ℕ) → Answers (Groups n) (λ (ts : List ValType). Keeps limited 1024 used (length ts)) bytes (groups_at limited used n bytes)
+groups_exact : (limited : Bool) (used n : ℕ) → Keeps limited 1024 used 0 → Exact (Counted group n) (Fits_locals limited used) (groups_at limited used n)
 unfolding groups_at
-groups_exact limited used zero le bytes = record { found = ([], refl, ([], refl, refl, refl), le); only = groups_none bytes }
+groups_exact limited used zero le bytes = record { found = ([], refl, (refl, refl), le); only = groups_none bytes }
 groups_exact limited used (suc n) le bytes =
-    as_by (λ (p : Group × List ValType). expand p.0 ++ p.1) (λ (p : Group × List ValType). group p.0 ⨾ Groups n p.1) (λ (p : Group × List ValType). Keeps limited 1024 used p.0.count × Keeps limited 1024 (used + p.0.count) (length p.1)) (Groups (suc n)) (λ ts. Keeps limited 1024 used (length ts)) bytes
+    as_by (λ (p : LocalGroup × List LocalGroup). p.0 ∷ p.1) (λ (p : LocalGroup × List LocalGroup). group p.0 ⨾ Counted group n p.1) (λ (p : LocalGroup × List LocalGroup). Keeps limited 1024 used p.0.count × Fits_locals limited (used + p.0.count) p.1) (Counted group (suc n)) (Fits_locals limited used) bytes
     (then_at (group_at limited used) (λ g. groups_at limited (used + g.count) n) bytes)
-    (λ p text l. (p.0 ∷ l.is_second.0, ap suc l.is_second.1, record { front = l.front; back = l.back; parts = l.parts; is_first = l.is_first; is_second = l.is_second.2 }, ap (λ (ts : List ValType). expand p.0 ++ ts) l.is_second.3 ∙ sym (flat_map-cons expand p.0 l.is_second.0)))
-    (λ p w. let len : length (expand p.0 ++ p.1) ≡ p.0.count + length p.1 = length-append (expand p.0) p.1 ∙ ap (λ (k : ℕ). k + length p.1) (length-replicate p.0.count p.0.type) in λ e. omega (arith, w.1 e))
+    (λ p text l. (ap suc l.is_second.0, record { front = l.front; back = l.back; parts = l.parts; is_first = l.is_first; is_second = l.is_second.1 }))
+    (λ p w. let len = one_more p.0 p.1 in λ e. omega (arith, w.1 e, len))
     (groups_out limited used n)
-    (then_both group (λ g. Groups n) (λ g. Keeps limited 1024 used g.count) (λ g ts. Keeps limited 1024 (used + g.count) (length ts)) (group_at limited used bytes) (λ g. groups_at limited (used + g.count) n) bytes (group_exact limited used bytes)
+    (then_both group (λ _. Counted group n) (λ g. Keeps limited 1024 used g.count) (λ g. Fits_locals limited (used + g.count)) (group_at limited used bytes) (λ g. groups_at limited (used + g.count) n) bytes (group_exact limited used bytes)
     (λ g text rest l w e. groups_exact limited (used + g.count) n (λ h. omega (arith, w h)) rest))
 
-pub locals_exact : (limited : Bool) (used : ℕ) → Keeps limited 1024 used 0 → Exact locals (λ (ts : List ValType). Keeps limited 1024 used (length ts)) (locals_at limited used)
+pub locals_exact : (limited : Bool) (used : ℕ) → Keeps limited 1024 used 0 → Exact locals (Fits_locals limited used) (locals_at limited used)
 unfolding locals_at
 locals_exact limited used le =
-    as_exact (λ (p : ℕ × List ValType). p.1) (λ (p : ℕ × List ValType). u32 p.0 ⨾ Groups p.0 p.1) (λ (p : ℕ × List ValType). Unit {0} × Keeps limited 1024 used (length p.1)) locals (λ (ts : List ValType). Keeps limited 1024 used (length ts)) (then_at u32_at (groups_at limited used))
-    (λ p text l. (l.is_second.0, record { front = l.front; back = l.back; parts = l.parts; is_first = subst (λ (n : ℕ). u32 n l.front) (sym l.is_second.1) l.is_first; is_second = l.is_second.2 }, l.is_second.3))
+    as_exact (λ (p : ℕ × List LocalGroup). p.1) (λ (p : ℕ × List LocalGroup). u32 p.0 ⨾ Counted group p.0 p.1) (λ (p : ℕ × List LocalGroup). Unit {0} × Fits_locals limited used p.1) locals (Fits_locals limited used) (then_at u32_at (groups_at limited used))
+    (λ p text l. record { front = l.front; back = l.back; parts = l.parts; is_first = subst (λ (n : ℕ). u32 n l.front) (sym l.is_second.0) l.is_first; is_second = l.is_second.1 })
     (λ p w. w.1)
-    (λ ts text l. ((length l.0, ts), record { front = l.1.front; back = l.1.back; parts = l.1.parts; is_first = l.1.is_first; is_second = (l.0, refl, l.1.is_second, l.2) }, refl, λ w. (tt, w)))
-    (then_exact u32 Groups always (λ _ ts. Keeps limited 1024 used (length ts)) u32_at (groups_at limited used) u32_exact (λ n. groups_exact limited used n le))
+    (λ gs text l. ((length gs, gs), record { front = l.front; back = l.back; parts = l.parts; is_first = l.is_first; is_second = (refl, l.is_second) }, refl, λ w. (tt, w)))
+    (then_exact u32 (Counted group) always (λ _. Fits_locals limited used) u32_at (groups_at limited used) u32_exact (λ n. groups_exact limited used n le))
 
-pub locals_shrink : (params : ℕ) (bytes : List ℕ) (ts : List ValType) (rest : List ℕ) → params ≤ 1024 → locals_at true params bytes ≡ Ok (ts, rest) → length rest ≤ length bytes
-locals_shrink params bytes ts rest le e = shrinks locals (λ (ts : List ValType). Keeps true 1024 params (length ts)) bytes ts rest (locals_at true params bytes) (locals_exact true params (λ h. omega (arith, le)) bytes) e
+pub locals_shrink : (params : ℕ) (bytes : List ℕ) (gs : List LocalGroup) (rest : List ℕ) → params ≤ 1024 → locals_at true params bytes ≡ Ok (gs, rest) → length rest ≤ length bytes
+locals_shrink params bytes gs rest le e = shrinks locals (Fits_locals true params) bytes gs rest (locals_at true params bytes) (locals_exact true params (λ h. omega (arith, le)) bytes) e
 
 -- ---- bodies
 
 -- with so many parameters the locals keep the limit, where limits hold
 abbrev pub Fits_body : Bool → ℕ → Body → Type 0
-Fits_body limited params b = Keeps limited 1024 params (length b.locals)
+Fits_body limited params b = Fits_locals limited params b.locals
 
 abbrev Inside : Body → Language
 Inside b = locals b.locals ⨾ expr b.code b.labels
@@ -83,9 +82,9 @@ Inside b = locals b.locals ⨾ expr b.code b.labels
 inside_exact : (limited : Bool) (params : ℕ) → Keeps limited 1024 params 0 → Exact Inside (Fits_body limited params) (inside_at limited params)
 unfolding inside_at
 inside_exact limited params le =
-    as_exact (λ (p : List ValType × (List Instr × List ℕ)). record { locals = p.0; code = p.1.0; labels = p.1.1 }) (λ (p : List ValType × (List Instr × List ℕ)). locals p.0 ⨾ expr p.1.0 p.1.1) (λ (p : List ValType × (List Instr × List ℕ)). Keeps limited 1024 params (length p.0) × Unit {0}) Inside (Fits_body limited params) (then_at (locals_at limited params) (λ _. expr_at))
+    as_exact (λ (p : List LocalGroup × (List Instr × List ℕ)). record { locals = p.0; code = p.1.0; labels = p.1.1 }) (λ (p : List LocalGroup × (List Instr × List ℕ)). locals p.0 ⨾ expr p.1.0 p.1.1) (λ (p : List LocalGroup × (List Instr × List ℕ)). Fits_locals limited params p.0 × Unit {0}) Inside (Fits_body limited params) (then_at (locals_at limited params) (λ _. expr_at))
     (λ p text l. l) (λ p w. w.0) (λ b text l. ((b.locals, (b.code, b.labels)), l, refl, λ w. (w, tt)))
-    (then_exact locals (λ _ (p : List Instr × List ℕ). expr p.0 p.1) (λ ts. Keeps limited 1024 params (length ts)) (λ _. always) (locals_at limited params) (λ _. expr_at) (locals_exact limited params le) (λ _. expr_exact))
+    (then_exact locals (λ _ (p : List Instr × List ℕ). expr p.0 p.1) (Fits_locals limited params) (λ _. always) (locals_at limited params) (λ _. expr_at) (locals_exact limited params le) (λ _. expr_exact))
 
 body_by : (limited : Bool) (params : ℕ) (bytes : List ℕ) (t : Bool) → ltb 1024 params ≡ t → Answers body (Fits_body limited params) bytes (cond (limited && t) (Err Oversized) (sized_at (inside_at limited params) bytes))
 body_by true params bytes true t = record { found = tt; only = λ b text rest l e. λ w. absurd (omega (arith, ltb-true _ _ t, w refl)) }

@@ -1,6 +1,6 @@
 -- Reading one after the other, as a loop does.
 use Rattle.std.proofs.Common.{◌≡◌, ℕ, suc, ◌-◌, ◌+◌, ◌≤◌, ◌<◌, List, [], ◌∷◌, ◌++◌, length, drop, get_or, add-one, drop-cons, Ok, Err, Some, None, true, false, eqb, vec_len, reverse, refl, sym, ap, ◌∙◌, append_assoc, arith}
-use Rattle.std.specs.Prelude.{replicate, map}
+use Rattle.std.specs.Prelude.{map}
 use Rattle.std.specs.List.{AllByRecursion}
 use Rattle.std.proofs.Common.{subst}
 use Rattle.byte_reader.specs.Language.{u32}
@@ -19,10 +19,9 @@ use Rattle.byte_reader.specs.Moves.{Fails}
 use Rattle.wasm_types.specs.Nesting.{nesting_of, opened}
 use Rattle.wasm_types.specs.declared.nesting.Enclosing.{Enclosing}
 use Rattle.wasm_types.specs.declared.instruction.Instr.{Instr}
-use Rattle.wasm_types.specs.declared.value.ValType.{ValType}
 use Rattle.wasm_types.specs.declared.modules.FuncType.{FuncType}
+use Rattle.wasm_types.specs.declared.modules.LocalGroup.{LocalGroup}
 use Rattle.wasm_types.specs.declared.modules.Body.{Body}
-use Rattle.binary_decoder.specs.Grammar.{Group}
 use Rattle.binary_decoder.specs.Limits.{params_of}
 use Rattle.binary_decoder.specs.Reader.{with_front, branch_table_at, instr_at, instrs_at, group_at, groups_at, body_at, bodies_at}
 
@@ -168,31 +167,18 @@ full_when v e = let k : vec_len v ≡ 0 → ⊥ = eqb-false _ _ (sym e) in omega
 
 -- ---- groups of locals
 
-abbrev expand : Group → List ValType
-expand g = replicate g.count g.type
-
-abbrev grouped : Group → List ValType × List ℕ → Reading (Group × List ValType)
-grouped g y = Ok ((g, y.0), y.1)
-
-abbrev spread : (Group × List ValType) × List ℕ → Reading (List ValType)
-spread z = Ok (expand z.0.0 ++ z.0.1, z.1)
-
-regroup_group : (front : List ValType) (g : Group) (read : Reading (List ValType)) → with_front front ((read >>= grouped g) >>= spread) ≡ with_front (front ++ expand g) read
-regroup_group front g (Ok y) = ap (λ (xs : List ValType). Ok (xs, y.1)) (sym (append_assoc front (expand g) y.0))
-regroup_group front g (Err f) = refl
-
-group_fails : (e : DecodeFault) (front : List ValType) (used n : ℕ) (bytes : List ℕ) (total : Reading (List ValType)) → with_front front (groups_at true used (suc n) bytes) ≡ total → Fails e (group_at true used bytes) → Fails e total
+group_fails : (e : DecodeFault) (front : List LocalGroup) (used n : ℕ) (bytes : List ℕ) (total : Reading (List LocalGroup)) → with_front front (groups_at true used (suc n) bytes) ≡ total → Fails e (group_at true used bytes) → Fails e total
 unfolding groups_at
 group_fails NoMemory front used n bytes total so_far h = tt
 group_fails TooLarge front used n bytes total so_far h = sym so_far ∙ rw h refl
 group_fails (Refused at) front used n bytes total so_far h = sym so_far ∙ rw h refl
 
-module _ (front : List ValType) (used len i : ℕ) (bytes : List ℕ) (total : Reading (List ValType)) (so_far : with_front front (groups_at true used (len - i) bytes) ≡ total) where
-  pub groups_go_on : (g : Group) (after : List ℕ) → i < len → group_at true used bytes ≡ Ok (g, after) → with_front (front ++ expand g) (groups_at true (used + g.count) (len - (i + 1)) after) ≡ total
+module _ (front : List LocalGroup) (used len i : ℕ) (bytes : List ℕ) (total : Reading (List LocalGroup)) (so_far : with_front front (groups_at true used (len - i) bytes) ≡ total) where
+  pub groups_go_on : (g : LocalGroup) (after : List ℕ) → i < len → group_at true used bytes ≡ Ok (g, after) → with_front (front ++ g ∷ []) (groups_at true (used + g.count) (len - (i + 1)) after) ≡ total
   unfolding groups_at
   groups_go_on g after lt h =
       let k : len - i ≡ suc (len - (i + 1)) = omega arith in
-      let one : with_front front (groups_at true used (suc (len - (i + 1))) bytes) ≡ with_front (front ++ expand g) (groups_at true (used + g.count) (len - (i + 1)) after) = rw h (regroup_group front g (groups_at true (used + g.count) (len - (i + 1)) after)) in
+      let one : with_front front (groups_at true used (suc (len - (i + 1))) bytes) ≡ with_front (front ++ g ∷ []) (groups_at true (used + g.count) (len - (i + 1)) after) = rw h (regroup front g (groups_at true (used + g.count) (len - (i + 1)) after)) in
       sym one ∙ sym (ap (λ (n : ℕ). with_front front (groups_at true used n bytes)) k) ∙ so_far
 
   pub groups_fail : (e : DecodeFault) → i < len → Fails e (group_at true used bytes) → Fails e total
@@ -204,7 +190,7 @@ module _ (front : List ValType) (used len i : ℕ) (bytes : List ℕ) (total : R
   unfolding groups_at
   groups_done le =
       let k : len - i ≡ 0 = omega arith in
-      sym so_far ∙ ap (λ (n : ℕ). with_front front (groups_at true used n bytes)) k ∙ ap (λ (xs : List ValType). Ok (xs, bytes)) (append-nil front)
+      sym so_far ∙ ap (λ (n : ℕ). with_front front (groups_at true used n bytes)) k ∙ ap (λ (xs : List LocalGroup). Ok (xs, bytes)) (append-nil front)
 
 -- ---- bodies
 

@@ -1,7 +1,6 @@
 -- The binary format of modules, as far as the integer profile goes. WebAssembly Core 1.0, binary format; threads proposal;
 -- sign-extension operators. It knows no limits.
-use Rattle.std.specs.Prelude.{replicate, ◌≡◌, ℕ, ℤ, Bool, true, false, List, [], ◌∷◌, ◌++◌, length, Option, Some, None, is_some, ◌⊎◌}
-use Rattle.std.specs.List.{flat_map}
+use Rattle.std.specs.Prelude.{◌≡◌, ℕ, ℤ, Bool, true, false, List, [], ◌∷◌, ◌++◌, length, Option, Some, None, is_some, ◌⊎◌}
 use Rattle.std.specs.Int.{w32, w64, cast_unsigned}
 use Rattle.byte_reader.specs.Language.{Language, nothing, anything, byte, exactly, ◌⨾◌, each, u32, s32, s64, vector, byte_vector, name, sized}
 use Rattle.wasm_types.specs.Nesting.{Nests}
@@ -22,6 +21,7 @@ use Rattle.wasm_types.specs.declared.modules.ExportKind.{ExportKind}
 use Rattle.wasm_types.specs.declared.modules.ExportKind.TheVariants as kind
 use Rattle.wasm_types.specs.declared.modules.Export.{Export}
 use Rattle.wasm_types.specs.declared.modules.Element.{Element}
+use Rattle.wasm_types.specs.declared.modules.LocalGroup.{LocalGroup}
 use Rattle.wasm_types.specs.declared.modules.Body.{Body}
 use Rattle.wasm_types.specs.declared.modules.Data.{Data}
 use Rattle.wasm_types.specs.declared.modules.Module.{Module}
@@ -141,16 +141,12 @@ expr code labels text = Nests code × instrs [] code labels text
 
 -- ---- functions
 
-pub record Group : Type 0 where
-  pub count : ℕ
-  pub type : ValType
+-- so many locals of one type
+abbrev pub group : LocalGroup → Language
+group g = u32 g.count ⨾ val_type g.val_type
 
-abbrev pub group : Group → Language
-group g = u32 g.count ⨾ val_type g.type
-
--- locals are spelled in groups of one type
-abbrev pub locals : List ValType → Language
-locals ts text = (gs : List Group) × vector group gs text × (ts ≡ flat_map (λ g. replicate g.count g.type) gs)
+abbrev pub locals : List LocalGroup → Language
+locals = vector group
 
 abbrev pub body : Body → Language
 body b = sized (locals b.locals ⨾ expr b.code b.labels)

@@ -1,6 +1,7 @@
 -- The limits of modules here.
 use Rattle.std.specs.Prelude.{ℕ, ◌+◌, ◌≤◌, List, [], ◌∷◌, length, Option, Some, None, slice_get, map}
 use Rattle.std.specs.List.{AllByRecursion}
+use Rattle.wasm_types.specs.Locals.{locals_of}
 use Rattle.wasm_types.specs.declared.modules.FuncType.{FuncType}
 use Rattle.wasm_types.specs.declared.modules.Body.{Body}
 use Rattle.wasm_types.specs.declared.modules.Module.{Module}
@@ -15,7 +16,7 @@ params_of types index = params_in (slice_get types index)
 
 -- the parameters and locals of each function are at most so many
 abbrev pub Fit : ℕ → List ℕ → List Body → Type 0
-Fit most (params ∷ others) (b ∷ bs) = (params + length b.locals ≤ most) × Fit most others bs
+Fit most (params ∷ others) (b ∷ bs) = (params + length (locals_of b.locals) ≤ most) × Fit most others bs
 Fit most [] bs = Unit {0}
 Fit most (params ∷ others) [] = Unit {0}
 

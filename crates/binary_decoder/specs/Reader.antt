@@ -1,5 +1,5 @@
 -- Reading a module from left to right. Where it is asked for, limits are kept.
-use Rattle.std.specs.Prelude.{replicate, ℕ, zero, suc, ◌+◌, Bool, true, false, ◌&&◌, List, [], ◌∷◌, ◌++◌, length, Option, Some, None, Result, Ok, Err, nat_lt, ◌==◌, if◌then◌else◌, map}
+use Rattle.std.specs.Prelude.{ℕ, zero, suc, ◌+◌, Bool, true, false, ◌&&◌, List, [], ◌∷◌, ◌++◌, length, Option, Some, None, Result, Ok, Err, nat_lt, ◌==◌, if◌then◌else◌, map}
 use Rattle.std.specs.Int.{w32, w64, cast_unsigned}
 use Rattle.wasm_types.specs.Nesting.{nesting_of, opened}
 use Rattle.wasm_types.specs.declared.nesting.Enclosing.{Enclosing}
@@ -7,7 +7,7 @@ use Rattle.wasm_types.specs.declared.nesting.Enclosing.TheVariants.{Whole}
 use Rattle.byte_reader.specs.Fault.{Fault, Malformed, Oversized, Reading, ◌>>=◌}
 use Rattle.byte_reader.specs.Reading.{byte_at, or_malformed, u32_at, s32_at, s64_at, then_at, made_at, kind_at, limited_at, vector_at, byte_vector_at, name_at, end_at, all_of, sized_all_at, sized_at}
 use Rattle.binary_decoder.specs.Opcodes.{opcode_at, atomic_at}
-use Rattle.binary_decoder.specs.Grammar.{Group, preamble}
+use Rattle.binary_decoder.specs.Grammar.{preamble}
 use Rattle.binary_decoder.specs.Limits.{params_of}
 use Rattle.wasm_types.specs.declared.value.ValType.{ValType}
 use Rattle.wasm_types.specs.declared.value.ValType.TheVariants.{I32, I64}
@@ -25,6 +25,7 @@ use Rattle.wasm_types.specs.declared.modules.ExportKind.{ExportKind}
 use Rattle.wasm_types.specs.declared.modules.ExportKind.TheVariants as kind
 use Rattle.wasm_types.specs.declared.modules.Export.{Export}
 use Rattle.wasm_types.specs.declared.modules.Element.{Element}
+use Rattle.wasm_types.specs.declared.modules.LocalGroup.{LocalGroup}
 use Rattle.wasm_types.specs.declared.modules.Body.{Body}
 use Rattle.wasm_types.specs.declared.modules.Data.{Data}
 use Rattle.binary_decoder.specs.declared.opcodes.Opcode.{Opcode}
@@ -140,14 +141,15 @@ expr_at bytes = instrs_at (length bytes) [] (Whole ∷ []) bytes
 
 -- ---- functions
 
-unfoldable pub group_at : Bool → ℕ → List ℕ → Reading Group
-group_at limited used = made_at (λ p. record { count = p.0; type = p.1 }) (then_at (limited_at limited 1024 used) (λ _. val_type_at))
+-- with the parameters and locals before them the locals are at most 1,024, where limits hold
+unfoldable pub group_at : Bool → ℕ → List ℕ → Reading LocalGroup
+group_at limited used = made_at (λ p. record { count = p.0; val_type = p.1 }) (then_at (limited_at limited 1024 used) (λ _. val_type_at))
 
-unfoldable pub groups_at : Bool → ℕ → ℕ → List ℕ → Reading (List ValType)
+unfoldable pub groups_at : Bool → ℕ → ℕ → List ℕ → Reading (List LocalGroup)
 groups_at limited used zero bytes = Ok ([], bytes)
-groups_at limited used (suc n) bytes = made_at (λ p. replicate p.0.count p.0.type ++ p.1) (then_at (group_at limited used) (λ g. groups_at limited (used + g.count) n)) bytes
+groups_at limited used (suc n) bytes = made_at (λ p. p.0 ∷ p.1) (then_at (group_at limited used) (λ g. groups_at limited (used + g.count) n)) bytes
 
-unfoldable pub locals_at : Bool → ℕ → List ℕ → Reading (List ValType)
+unfoldable pub locals_at : Bool → ℕ → List ℕ → Reading (List LocalGroup)
 locals_at limited used = made_at (λ p. p.1) (then_at u32_at (groups_at limited used))
 
 unfoldable pub inside_at : Bool → ℕ → List ℕ → Reading Body

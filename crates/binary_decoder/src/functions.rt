@@ -1,6 +1,6 @@
 //! The bodies of functions.
 
-ghost use Rattle.std.specs.Prelude.{◌≡◌, ◌++◌, ◌+◌, ◌≤◌, ◌<◌, ◌^◌, replicate, map, length, OnOk, IfOk, true};
+ghost use Rattle.std.specs.Prelude.{◌≡◌, ◌+◌, ◌≤◌, ◌<◌, ◌^◌, map, length, IfOk, true};
 ghost use Rattle.byte_reader.specs.Moves.{Moves, MovesBy, IsRefusal};
 ghost use Rattle.binary_decoder.specs.Limits.{params_of};
 ghost use Rattle.binary_decoder.specs.Reader.{group_at, groups_at, locals_at, inside_at, body_at, bodies_at, code_at};
@@ -8,32 +8,22 @@ ghost use Rattle.binary_decoder.specs.Reader.{group_at, groups_at, locals_at, in
 use crate::instructions::expr;
 use crate::parts::Spelled;
 use byte_reader::{Cursor, DecodeFault};
-use std::alloc::{AllocError, Global};
-use wasm_types::{Body, FuncType, Items, ValType};
+use std::alloc::Global;
+use wasm_types::{Body, Enclosing, FuncType, Items, LocalGroup, ValType};
 
 /// The most parameters and locals of a function.
 pub const MOST_LOCALS: u32 = 1024;
 
-/// The type, so many times more.
-fn push_many(locals: &mut Vec<ValType>, count: u32, local: ValType) -> Result<(), AllocError>
-    ensures { OnOk result (locals.new.items ≡ locals.old.items ++ replicate count local) }
-{
-    for _ in 0..count {
-        locals.push(local)?;
-    }
-    Ok(())
-}
-
-/// How many locals of one type, which with those before them keep the limit.
+/// Locals of one type, which with those before them keep the limit.
 #[tactic(auto, unfolding(crate::specs::Reader::group_at))]
-fn group(alloc: Global, used: u32, cursor: &mut Cursor) -> Result<(u32, ValType), DecodeFault>
+fn group(alloc: Global, used: u32, cursor: &mut Cursor) -> Result<LocalGroup, DecodeFault>
     requires { used ≤ 1024 }
-    ensures value { MovesBy (λ x. record { count = x.0; type = x.1 }) result cursor.new.rest.now (group_at true used cursor.old.rest.now) }
-    ensures fits { IfOk result (λ x. used + x.0 ≤ 1024) }
+    ensures value { Moves result cursor.new.rest.now (group_at true used cursor.old.rest.now) }
+    ensures fits { IfOk result (λ group. used + group.count ≤ 1024) }
 {
     let count = cursor.limited(MOST_LOCALS, used)?;
-    let local = ValType::read(alloc, cursor)?;
-    Ok((count, local))
+    let val_type = ValType::read(alloc, cursor)?;
+    Ok(LocalGroup { count, val_type })
 }
 
 /// So many groups of locals.
@@ -42,22 +32,22 @@ fn groups(
     params: u32,
     count: u32,
     cursor: &mut Cursor,
-) -> Result<Vec<ValType>, DecodeFault>
+) -> Result<Vec<LocalGroup>, DecodeFault>
     requires { params ≤ 1024 }
     ensures { MovesBy (λ x. x.items) result cursor.new.rest.now (groups_at true params count cursor.old.rest.now) }
 {
-    let mut locals = Vec::new(alloc);
+    let mut groups = Vec::new(alloc);
     let mut used = params;
     for _ in 0..count {
-        let (more, local) = group(alloc, used, cursor)?;
-        push_many(&mut locals, more, local)?;
-        used += more;
+        let group = group(alloc, used, cursor)?;
+        used += group.count;
+        groups.push(group)?;
     }
-    Ok(locals)
+    Ok(groups)
 }
 
 #[tactic(auto, unfolding(crate::specs::Reader::locals_at))]
-fn locals(alloc: Global, params: u32, cursor: &mut Cursor) -> Result<Vec<ValType>, DecodeFault>
+fn locals(alloc: Global, params: u32, cursor: &mut Cursor) -> Result<Vec<LocalGroup>, DecodeFault>
     requires { params ≤ 1024 }
     ensures { MovesBy (λ x. x.items) result cursor.new.rest.now (locals_at true params cursor.old.rest.now) }
 {
@@ -67,13 +57,18 @@ fn locals(alloc: Global, params: u32, cursor: &mut Cursor) -> Result<Vec<ValType
 
 /// What stands within the size of a body.
 #[tactic(auto, unfolding(crate::specs::Reader::inside_at))]
-fn inside(alloc: Global, params: u32, cursor: &mut Cursor) -> Result<Body, DecodeFault>
+fn inside(
+    alloc: Global,
+    blocks: &mut Vec<Enclosing>,
+    params: u32,
+    cursor: &mut Cursor,
+) -> Result<Body, DecodeFault>
     requires params { params ≤ 1024 }
     requires bytes { length cursor.now.rest.now < 2 ^ 32 }
     ensures { Moves result cursor.new.rest.now (inside_at true params cursor.old.rest.now) }
 {
     let locals = locals(alloc, params, cursor)?;
-    let (code, labels) = expr(alloc, cursor)?;
+    let (code, labels) = expr(alloc, blocks, cursor)?;
     Ok(Body {
         locals: Items::from_vec(locals),
         code: Items::from_vec(code),
@@ -83,14 +78,19 @@ fn inside(alloc: Global, params: u32, cursor: &mut Cursor) -> Result<Body, Decod
 
 /// The body of a function with so many parameters.
 #[tactic(auto, unfolding(crate::specs::Reader::body_at))]
-fn body(alloc: Global, params: usize, cursor: &mut Cursor) -> Result<Body, DecodeFault>
+fn body(
+    alloc: Global,
+    blocks: &mut Vec<Enclosing>,
+    params: usize,
+    cursor: &mut Cursor,
+) -> Result<Body, DecodeFault>
     ensures { Moves result cursor.new.rest.now (body_at true params cursor.old.rest.now) }
 {
     if (MOST_LOCALS as usize) < params {
         return Err(DecodeFault::TooLarge);
     }
     let mut content = cursor.sized()?;
-    let body = inside(alloc, params as u32, &mut content)?;
+    let body = inside(alloc, blocks, params as u32, &mut content)?;
     content.finish()?;
     Ok(body)
 }
@@ -115,8 +115,10 @@ fn bodies(
     ensures { MovesBy (λ x. x.items) result cursor.new.rest.now (bodies_at true (map (params_of types.now) functions.now) cursor.old.rest.now) }
 {
     let mut bodies = Vec::new(alloc);
+    // The blocks that are open in the body that is read.
+    let mut blocks = Vec::new(alloc);
     for function in functions {
-        let body = body(alloc, params_in(types, *function), cursor)?;
+        let body = body(alloc, &mut blocks, params_in(types, *function), cursor)?;
         bodies.push(body)?;
     }
     Ok(bodies)

@@ -136,14 +136,20 @@ fn follow(blocks: &mut Vec<Enclosing>, instr: &Instr) -> Result<bool, AllocError
     Ok(true)
 }
 
-/// Instructions up to the end that closes the body, and the labels of their branch tables.
-pub fn expr(alloc: Global, cursor: &mut Cursor) -> Result<(Vec<Instr>, Vec<u32>), DecodeFault>
+/// Instructions up to the end that closes the body, and the labels of their branch tables. What stood in the blocks is
+/// given up: their memory alone is used again.
+pub fn expr(
+    alloc: Global,
+    blocks: &mut Vec<Enclosing>,
+    cursor: &mut Cursor,
+) -> Result<(Vec<Instr>, Vec<u32>), DecodeFault>
     requires { length cursor.now.rest.now < 2 ^ 32 }
     ensures { MovesBy (λ x. (x.0.items, x.1.items)) result cursor.new.rest.now (expr_at cursor.old.rest.now) }
 {
-    let mut instrs = Vec::new(alloc);
+    // Each instruction has a byte at least. Most bodies are short.
+    let mut instrs = Vec::with_capacity(alloc, cursor.rest().len().min(16))?;
     let mut labels = Vec::new(alloc);
-    let mut blocks = Vec::new(alloc);
+    blocks.clear();
     blocks.push(Enclosing::Whole)?;
     for _ in 0..cursor.rest().len() {
         if blocks.is_empty() {
@@ -151,7 +157,7 @@ pub fn expr(alloc: Global, cursor: &mut Cursor) -> Result<(Vec<Instr>, Vec<u32>)
         }
         let refusal = cursor.refusal();
         let instr = instruction(alloc, cursor, &mut labels)?;
-        if !follow(&mut blocks, &instr)? {
+        if !follow(blocks, &instr)? {
             return Err(refusal);
         }
         instrs.push(instr)?;

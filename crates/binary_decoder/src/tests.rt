@@ -1,7 +1,7 @@
 use crate::*;
 use std::alloc::Global;
 use std::test::*;
-use wasm_types::{IndexOp, Instr, LabelRange, Module, NoMemory};
+use wasm_types::{IndexOp, Instr, LabelRange, LocalGroup, Module, NoMemory, ValType};
 
 const PREAMBLE: &str = "0061736d01000000";
 
@@ -18,6 +18,14 @@ const EACH_SECTION: &str = "\
     020901016101620201010203\
     0302000104040170000205030100010606017f0141050b07050101660000\
     0801010907010041000b01000a10020b01027e20000e020000000b02000b0b07010041000b012a";
+
+const EACH_SUMMARY: &str =
+    "types 2\nfunctions 2\ntable 2\nmemory 1 2 unshared\nglobals 1\nexports 1\nstart 1\n";
+
+const TWO_LONGS: LocalGroup = LocalGroup {
+    count: 2,
+    val_type: ValType::I64,
+};
 
 fn bytes_of(alloc: Global, text: &str) -> Result<Vec<u8>, Fail> {
     Ok(hex::decode(alloc, text)?)
@@ -97,13 +105,11 @@ fn each_section_is_read(rt: HostRuntime) -> Result<(), Fail> {
     let alloc = rt.alloc();
     let module = decode(alloc, &bytes_of(alloc, EACH_SECTION)?)?;
     let text = summary(alloc, &module)?;
-    let wanted =
-        "types 2\nfunctions 2\ntable 2\nmemory 1 2 unshared\nglobals 1\nexports 1\nstart 1\n";
-    assert!(rt; text.as_slice() == wanted.as_bytes());
+    assert!(rt; text.as_slice() == EACH_SUMMARY.as_bytes());
     let bodies = module.bodies.as_slice();
     assert_eq!(rt; bodies.len(), 2);
     for body in &bodies[..1] {
-        assert_eq!(rt; body.locals.as_slice().len(), 2);
+        assert!(rt; body.locals.as_slice() == [TWO_LONGS].as_slice());
         assert!(rt; body.labels.as_slice() == [0, 0].as_slice());
         let code = body.code.as_slice();
         assert_eq!(rt; code.len(), 3);
@@ -243,6 +249,14 @@ fn limits_are_kept(rt: HostRuntime) -> Result<(), Fail> {
         // 1,024 and 1,025 locals of one function.
         ("010401600000030201000a0701050180087f0b", true),
         ("010401600000030201000a0701050181087f0b", false),
+        // The same in groups of 1,023, of none, and of one or two.
+        ("010401600000030201000a0b010903ff077f007e017e0b", true),
+        ("010401600000030201000a0b010903ff077f007e027e0b", false),
+        // Two groups of 2^32 - 1.
+        (
+            "010401600000030201000a10010e02ffffffff0f7fffffffff0f7f0b",
+            false,
+        ),
     ] {
         let fault = fault_of(alloc, &sections_of(alloc, text)?);
         assert_eq!(rt; fault == Some(DecodeFault::TooLarge), !fits, "{text}");
@@ -268,7 +282,7 @@ fn decoding_with_refused_memory_is_an_answer(rt: HostRuntime) -> Result<(), Fail
     };
     match decode(alloc, &bytes) {
         Ok(module) => match summary(alloc, &module) {
-            Ok(text) => assert!(rt; text.as_slice().starts_with("types 2".as_bytes())),
+            Ok(text) => assert!(rt; text.as_slice() == EACH_SUMMARY.as_bytes()),
             Err(NoMemory) => {}
         },
         Err(fault) => assert_eq!(rt; fault, DecodeFault::NoMemory),

@@ -3,7 +3,7 @@
 
 mod targets;
 
-pub use targets::{Target, Targets};
+pub use targets::{Target, TargetFinder, Targets};
 
 #[cfg(test)]
 mod tests;

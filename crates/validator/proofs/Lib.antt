@@ -9,3 +9,4 @@ pub mod Classes
 pub mod Walking
 pub mod Names
 pub mod Ruled
+pub mod EndLaws

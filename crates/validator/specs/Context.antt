@@ -4,6 +4,7 @@ use Rattle.wasm_types.specs.declared.value.ValType.{ValType}
 use Rattle.wasm_types.specs.declared.value.ValType.TheVariants.{I32, I64}
 use Rattle.wasm_types.specs.declared.value.Value.{Value}
 use Rattle.wasm_types.specs.declared.value.Value.TheVariants as value
+use Rattle.wasm_types.specs.Locals.{locals_of}
 use Rattle.wasm_types.specs.declared.modules.Module.{Module}
 use Rattle.wasm_types.specs.declared.modules.FuncType.{FuncType}
 use Rattle.wasm_types.specs.declared.modules.Body.{Body}
@@ -29,7 +30,7 @@ with_labels labels c = record { within = c.within; locals = c.locals; labels = l
 
 -- a function of a type, outside its outermost block
 abbrev pub context_of : Module → FuncType → Body → Context
-context_of m kind body = record { within = m; locals = kind.params ++ body.locals; labels = []; result = kind.results; table_labels = body.labels }
+context_of m kind body = record { within = m; locals = kind.params ++ locals_of body.locals; labels = []; result = kind.results; table_labels = body.labels }
 
 -- a function's body is a block, whose label takes its result
 abbrev pub outermost : Context → Context

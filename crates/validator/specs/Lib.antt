@@ -8,3 +8,4 @@ pub mod Faults
 pub mod Module
 pub mod Exports
 pub mod Valid
+pub mod Ends

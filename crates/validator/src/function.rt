@@ -8,13 +8,14 @@ ghost use Rattle.validator.specs.Faults.{FaultOf};
 
 use crate::fault::{CheckFault, StepFault};
 use crate::instruction::step;
+use crate::locals::note_ends;
 use crate::stacks::Stacks;
-use std::alloc::Global;
 use wasm_types::{Body, FuncType, Module, ValType};
 
-/// Types a function's instructions from left to right.
+/// Types a function's instructions from left to right. What stood in the stacks and the ends is given up.
 pub(crate) fn check_function(
-    alloc: Global,
+    stacks: &mut Stacks,
+    ends: &mut Vec<u64>,
     module: &Module,
     kind: &FuncType,
     body: &Body,
@@ -25,13 +26,15 @@ pub(crate) fn check_function(
     ensures fault { IfErr result (λ fault. FaultOf (context_of module.now kind.now body.now) body.now.code fault) }
 {
     let code = body.code.as_slice();
-    let mut stacks = Stacks::new(alloc, only_result(kind.results.as_slice()))?;
+    stacks.start(only_result(kind.results.as_slice()))?;
+    note_ends(ends, body.locals.as_slice())?;
+    let ends = ends.as_slice();
     for at in 0..code.len() {
         // Nothing stands behind the function's last `end`.
         if stacks.is_closed() {
             return Err(CheckFault::IllTyped(at as u32));
         }
-        match step(&mut stacks, module, kind, body, code[at]) {
+        match step(stacks, module, kind, body, ends, code[at]) {
             Ok(()) => {}
             Err(StepFault::IllTyped) => return Err(CheckFault::IllTyped(at as u32)),
             Err(StepFault::NoMemory) => return Err(CheckFault::NoMemory),

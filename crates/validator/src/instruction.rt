@@ -4,29 +4,33 @@ ghost use Rattle.std.specs.Prelude.{◌≡◌, ◌++◌, [], ◌∷◌, Err, OnO
 ghost use Rattle.wasm_types.specs.declared.value.ValType.TheVariants.{I32};
 ghost use Rattle.validator.specs.Context.{context_of, has_memory, has_table, labels_in, function_type};
 ghost use Rattle.validator.specs.Table.{Fixed, Leaves, if_some, if_true, numeric_class, plain_class, block_class, index_class, table_class, memory_class, pages_class, atomic_class, atomic_operands, class_of, seq};
+ghost use Rattle.validator.specs.Ends.{ends_from};
 ghost use Rattle.validator.specs.Walk.{at_frames, labels_of};
 ghost use Rattle.validator.specs.Standing.{Goes, Stops};
 
 use crate::fault::StepFault;
 use crate::labels::{each_takes, labels_of_range};
+use crate::locals::local_type;
 use crate::stacks::Stacks;
 use crate::table::{
-    access_of, is_memory_there, local_type, type_of_access, type_of_function, type_of_narrow,
-    type_of_value, width_of, width_of_atomic,
+    access_of, is_memory_there, type_of_access, type_of_function, type_of_narrow, type_of_value,
+    width_of, width_of_atomic,
 };
 use wasm_types::{
     AtomicOp, BlockKind, Body, Enclosing, FuncType, IndexOp, Instr, LabelRange, MemArg, MemoryOp,
     Module, Numeric, PagesOp, Plain, ValType,
 };
 
-/// Types the next instruction of a function.
+/// Types the next instruction of a function, whose groups of locals have these ends.
 pub(crate) fn step(
     stacks: &mut Stacks,
     module: &Module,
     kind: &FuncType,
     body: &Body,
+    ends: &[u64],
     instr: Instr,
 ) -> Result<(), StepFault>
+    requires { ends.now ≡ ends_from 0 body.now.locals }
     ensures goes { OnOk result (Goes (λ fs. class_of (at_frames (context_of module.now kind.now body.now) fs) instr) stacks.old stacks.new) }
     ensures stops { result ≡ Err StepFault.IllTyped → Stops (λ fs. class_of (at_frames (context_of module.now kind.now body.now) fs) instr) stacks.old }
 {
@@ -34,7 +38,7 @@ pub(crate) fn step(
         Instr::Plain(plain) => step_plain(stacks, module, kind, body, plain),
         Instr::Numeric(numeric) => step_numeric(stacks, numeric),
         Instr::Block(block, result) => step_block(stacks, block, result),
-        Instr::Index(op, index) => step_index(stacks, module, kind, body, op, index),
+        Instr::Index(op, index) => step_index(stacks, module, kind, body, ends, op, index),
         Instr::BranchTable(range, default) => step_table(
             stacks, module, kind, body, range, default,
         ),
@@ -107,9 +111,11 @@ fn step_index(
     module: &Module,
     kind: &FuncType,
     body: &Body,
+    ends: &[u64],
     op: IndexOp,
     index: u32,
 ) -> Result<(), StepFault>
+    requires { ends.now ≡ ends_from 0 body.now.locals }
     ensures goes { OnOk result (Goes (λ fs. index_class (at_frames (context_of module.now kind.now body.now) fs) op index) stacks.old stacks.new) }
     ensures stops { result ≡ Err StepFault.IllTyped → Stops (λ fs. index_class (at_frames (context_of module.now kind.now body.now) fs) op index) stacks.old }
 {
@@ -117,15 +123,15 @@ fn step_index(
         IndexOp::Branch => step_branch(stacks, index),
         IndexOp::BranchIf => step_branch_if(stacks, index),
         IndexOp::Call => step_call(stacks, module, index),
-        IndexOp::LocalGet => match local_type(kind, body, index) {
+        IndexOp::LocalGet => match local_type(kind, body, ends, index) {
             None => Err(StepFault::IllTyped),
             Some(of) => stacks.fixed(&[], &[of]),
         },
-        IndexOp::LocalSet => match local_type(kind, body, index) {
+        IndexOp::LocalSet => match local_type(kind, body, ends, index) {
             None => Err(StepFault::IllTyped),
             Some(of) => stacks.fixed(&[of], &[]),
         },
-        IndexOp::LocalTee => match local_type(kind, body, index) {
+        IndexOp::LocalTee => match local_type(kind, body, ends, index) {
             None => Err(StepFault::IllTyped),
             Some(of) => stacks.fixed(&[of], &[of]),
         },

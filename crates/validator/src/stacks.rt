@@ -1,6 +1,6 @@
 //! The operands and the open blocks at a place of a function.
 
-ghost use Rattle.std.specs.Prelude.{◌≡◌, ◌++◌, List, [], ◌∷◌, Option, Some, Err, reverse, OnOk, IfOk, option_map, slice_get};
+ghost use Rattle.std.specs.Prelude.{◌≡◌, ◌++◌, List, [], ◌∷◌, Option, Some, Err, reverse, OnOk, option_map, slice_get};
 ghost use Rattle.wasm_types.specs.declared.value.ValType.TheVariants.{I32};
 ghost use Rattle.wasm_types.specs.declared.nesting.Enclosing.TheVariants.{Whole};
 ghost use Rattle.validator.specs.Table.{Fixed, Discards, Selects, Leaves, Enters, Turning, Ending, same_type, seq};
@@ -136,22 +136,28 @@ fn put_all(operands: &mut Vec<Option<ValType>>, gives: &[ValType]) -> Result<(),
 }
 
 impl Stacks {
-    /// Those at the start of a function with this result.
-    pub(crate) fn new(alloc: Global, leaves: Option<ValType>) -> Result<Stacks, NoMemory>
-        ensures { IfOk result (λ stacks. Stand (opened Whole (seq leaves) (seq leaves) ∷ []) stacks) }
+    /// Empty stacks. They take no memory.
+    pub(crate) fn new(alloc: Global) -> Stacks {
+        Stacks {
+            operands: Vec::new(alloc),
+            blocks: Vec::new(alloc),
+        }
+    }
+
+    /// Makes them those at the start of a function with this result.
+    pub(crate) fn start(&mut self, leaves: Option<ValType>) -> Result<(), NoMemory>
+        ensures { OnOk result (Stand (opened Whole (seq leaves) (seq leaves) ∷ []) self.new) }
     {
-        let mut blocks = Vec::new(alloc);
-        blocks.push(OpenBlock {
+        self.operands.clear();
+        self.blocks.clear();
+        self.blocks.push(OpenBlock {
             enclosing: Enclosing::Whole,
             label: leaves,
             result: leaves,
             height: 0,
             unreachable: false,
         })?;
-        Ok(Stacks {
-            operands: Vec::new(alloc),
-            blocks,
-        })
+        Ok(())
     }
 
     /// The innermost open block.

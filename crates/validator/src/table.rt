@@ -1,10 +1,10 @@
-//! The types and widths of accesses, values and locals.
+//! The types and widths of accesses and values.
 
-ghost use Rattle.std.specs.Prelude.{◌≡◌, ◌++◌, option_copied, slice_get};
+ghost use Rattle.std.specs.Prelude.{◌≡◌, option_copied};
 ghost use Rattle.validator.specs.Context.{function_type, has_memory, type_of};
 ghost use Rattle.validator.specs.Table.{narrow_type, narrow_width, type_width, access_type, access_width, load_access, atomic_width};
 
-use wasm_types::{Access, AtomicOp, Body, FuncType, Load, Module, Narrow, ValType, Value};
+use wasm_types::{Access, AtomicOp, FuncType, Load, Module, Narrow, ValType, Value};
 
 /// Whether the module has a memory, imported or its own.
 pub(crate) fn is_memory_there(module: &Module) -> bool
@@ -20,19 +20,6 @@ pub(crate) fn type_of_function(module: &Module, function: u32) -> Option<&FuncTy
     match module.functions.as_slice().get(function as usize) {
         None => None,
         Some(index) => module.types.as_slice().get(*index as usize),
-    }
-}
-
-/// The type of a function's local; the parameters come first.
-pub(crate) fn local_type(kind: &FuncType, body: &Body, local: u32) -> Option<ValType>
-    ensures { result ≡ slice_get (kind.now.params ++ body.now.locals) local }
-{
-    let at = local as usize;
-    let params = kind.params.as_slice();
-    if at < params.len() {
-        Some(params[at])
-    } else {
-        body.locals.as_slice().get(at - params.len()).copied()
     }
 }
 

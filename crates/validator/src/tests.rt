@@ -3,9 +3,9 @@ use std::alloc::Global;
 use std::test::Fail;
 use wasm_types::{
     Access, AtomicOp, BinaryOp, Block, BlockKind, Body, Comparison, Export, ExportKind, Extension,
-    FuncType, Global as ModuleGlobal, IndexOp, Instr, Items, LabelRange, Limits, Load, MemArg,
-    MemoryOp, MemoryType, Module, Narrow, Numeric, PagesOp, Plain, Profile, RmwOp, UnaryOp,
-    ValType, Value,
+    FuncType, Global as ModuleGlobal, IndexOp, Instr, Items, LabelRange, Limits, Load, LocalGroup,
+    MemArg, MemoryOp, MemoryType, Module, Narrow, NoMemory, Numeric, PagesOp, Plain, Profile,
+    RmwOp, UnaryOp, ValType, Value,
 };
 
 const I32: ValType = ValType::I32;
@@ -30,6 +30,11 @@ const WORD: Instr = Instr::Const(Value::I32(0));
 
 const LONG: Instr = Instr::Const(Value::I64(0));
 
+const ONE_LONG: LocalGroup = LocalGroup {
+    count: 1,
+    val_type: I64,
+};
+
 const fn block(leaves: Option<ValType>) -> Instr {
     Instr::Block(BlockKind::Block, leaves)
 }
@@ -38,13 +43,13 @@ const fn at(op: IndexOp, index: u32) -> Instr {
     Instr::Index(op, index)
 }
 
-fn items<T: Copy>(alloc: Global, from: &[T]) -> Result<Items<T>, Fail> {
+fn items<T: Copy>(alloc: Global, from: &[T]) -> Result<Items<T>, NoMemory> {
     let mut items = Vec::new(alloc);
     items.extend_from_slice(from)?;
     Ok(Items::from_vec(items))
 }
 
-fn one<T: Drop>(alloc: Global, item: T) -> Result<Items<T>, Fail> {
+fn one<T: Drop>(alloc: Global, item: T) -> Result<Items<T>, NoMemory> {
     let mut items = Vec::new(alloc);
     items.push(item)?;
     Ok(Items::from_vec(items))
@@ -68,10 +73,10 @@ fn module_of(
     alloc: Global,
     params: &[ValType],
     results: &[ValType],
-    locals: &[ValType],
+    locals: &[LocalGroup],
     code: &[Instr],
     labels: &[u32],
-) -> Result<Module, Fail> {
+) -> Result<Module, NoMemory> {
     let kind = FuncType {
         params: items(alloc, params)?,
         results: items(alloc, results)?,
@@ -127,7 +132,7 @@ fn fault_of(
     code: &[Instr],
     labels: &[u32],
 ) -> Result<Option<ValidFault>, Fail> {
-    let module = module_of(alloc, &[I32, I64], results, &[I64], code, labels)?;
+    let module = module_of(alloc, &[I32, I64], results, &[ONE_LONG], code, labels)?;
     Ok(validate(alloc, module).err())
 }
 
@@ -469,5 +474,50 @@ fn profile_one_has_no_sign_extension(rt: HostRuntime) -> Result<(), Fail> {
     let valid = validate(alloc, module_of(alloc, &[], &[], &[], &code, &[])?)?;
     assert!(rt; !valid.fits(&Profile::One));
     assert!(rt; valid.fits(&Profile::Two(Block::new(64)?)));
+    Ok(())
+}
+
+// The locals are found in their groups: two i32, none, three i64.
+#[test]
+fn locals_are_found_in_their_groups(rt: HostRuntime) -> Result<(), Fail> {
+    let alloc = rt.alloc();
+    let groups = [(2, I32), (0, I64), (3, I64)].map(|(count, val_type)| LocalGroup {
+        count,
+        val_type,
+    });
+    for (local, of) in [(0, I64), (1, I32), (2, I32), (3, I64), (4, I64), (5, I64)] {
+        let code = [at(IndexOp::LocalGet, local), END];
+        let module = module_of(alloc, &[I64], &[of], &groups, &code, &[])?;
+        assert!(rt; validate(alloc, module).is_ok(), "{local}");
+    }
+    let code = [at(IndexOp::LocalGet, 6), DROP, END];
+    let module = module_of(alloc, &[I64], &[], &groups, &code, &[])?;
+    let fault = validate(alloc, module).err();
+    assert_eq!(rt; fault, at_instruction(0));
+    Ok(())
+}
+
+// Under `rt try --test --fail-alloc N` the Nth growth is refused. Without it none is.
+#[test]
+fn validating_with_refused_memory_is_an_answer(rt: HostRuntime) -> Result<(), Fail> {
+    let alloc = rt.alloc();
+    let open = block(None);
+    let code = [
+        WORD, open, open, open, open, open, WORD, DROP, END, END, END, END, END, END,
+    ];
+    // The first growths are the test's own.
+    let Ok(module) = module_of(alloc, &[], &[I32], &[ONE_LONG], &code, &[]) else {
+        return Ok(());
+    };
+    match validate(alloc, module) {
+        Ok(valid) => {
+            assert_eq!(rt; valid.export("w"), Some(0));
+            let Some(targets) = valid.targets(0) else {
+                return Err(Fail::new("no targets"));
+            };
+            assert!(rt; targets.after(1).is_some_and(|target| target.end == 12));
+        }
+        Err(fault) => assert_eq!(rt; fault, ValidFault::NoMemory),
+    }
     Ok(())
 }

@@ -10,8 +10,9 @@ use crate::exports::names_of;
 use crate::fault::{CheckFault, ValidFault};
 use crate::function::check_function;
 use crate::rules::keeps_rules;
+use crate::stacks::Stacks;
 use crate::table::type_of_function;
-use control_flow::Targets;
+use control_flow::{TargetFinder, Targets};
 use indexmap::IndexMap;
 use std::alloc::Global;
 use std::marker::Model;
@@ -67,6 +68,15 @@ pub fn validate(alloc: Global, module: Module) -> Result<Valid, ValidFault>
     })
 }
 
+// What the checks of the functions work with, one after the other: the memory that one took serves the next.
+#[derive(Drop)]
+struct Workspace {
+    stacks: Stacks,
+    // Where the groups of locals end.
+    ends: Vec<u64>,
+    finder: TargetFinder,
+}
+
 // Types each function, and finds the targets of its blocks.
 fn check_functions(alloc: Global, module: &Module) -> Result<Vec<Targets>, ValidFault>
     requires { rules module.now ≡ true }
@@ -75,15 +85,25 @@ fn check_functions(alloc: Global, module: &Module) -> Result<Vec<Targets>, Valid
     ensures fault { IfErr result (λ fault. IsOfFunction module.now fault) }
 {
     let mut targets = Vec::new(alloc);
+    let mut work = Workspace {
+        stacks: Stacks::new(alloc),
+        ends: Vec::new(alloc),
+        finder: TargetFinder::new(alloc),
+    };
     for function in 0..module.bodies.as_slice().len() {
-        let found = check_at(alloc, module, function as u32)?;
+        let found = check_at(alloc, &mut work, module, function as u32)?;
         targets.push(found)?;
     }
     Ok(targets)
 }
 
 // Types one function, and finds the targets of its blocks.
-fn check_at(alloc: Global, module: &Module, function: u32) -> Result<Targets, ValidFault>
+fn check_at(
+    alloc: Global,
+    work: &mut Workspace,
+    module: &Module,
+    function: u32,
+) -> Result<Targets, ValidFault>
     requires rules { rules module.now ≡ true }
     requires there { function < length module.now.bodies }
     ensures typed { OnOk result (TypedAt module.now function) }
@@ -98,11 +118,11 @@ fn check_at(alloc: Global, module: &Module, function: u32) -> Result<Targets, Va
     let Some(kind) = type_of_function(module, function) else {
         return Err(fault)
     };
-    match check_function(alloc, module, kind, body) {
+    match check_function(&mut work.stacks, &mut work.ends, module, kind, body) {
         Ok(()) => {}
         Err(found) => return Err(fault_of_function(function, found)),
     }
-    match Targets::new(alloc, body.code.as_slice())? {
+    match work.finder.find(alloc, body.code.as_slice())? {
         None => Err(fault),
         Some(targets) => Ok(targets),
     }

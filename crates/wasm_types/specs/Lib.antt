@@ -4,3 +4,4 @@ pub mod Decides
 pub mod Nesting
 pub mod Leb128
 pub mod Leb128Reading
+pub mod Locals

@@ -25,7 +25,8 @@ pub use items::Items;
 pub use key::{Profile, RunKey};
 pub use leb128::{leb_signed, leb_unsigned};
 pub use modules::{
-    Body, Data, Element, Export, ExportKind, FuncType, Global, Import, Limits, MemoryType, Module,
+    Body, Data, Element, Export, ExportKind, FuncType, Global, Import, Limits, LocalGroup,
+    MemoryType, Module,
 };
 pub use nesting::{Enclosing, Nesting};
 pub use no_memory::NoMemory;

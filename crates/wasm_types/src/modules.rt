@@ -66,11 +66,19 @@ pub struct Element {
     pub functions: Items<u32>,
 }
 
-/// The body of a function: its locals behind the parameters, its instructions with the last `end`, and the labels of
-/// its branch tables, one table behind the other.
+/// So many locals of one type, which stand one behind the other (WebAssembly Core 1.0, binary format, code section). The
+/// count may be 0.
+#[derive(Clone, Copy, Debug, PartialEq, Eq)]
+pub struct LocalGroup {
+    pub count: u32,
+    pub val_type: ValType,
+}
+
+/// The body of a function: its locals behind the parameters, in groups, its instructions with the last `end`, and the
+/// labels of its branch tables, one table behind the other.
 #[derive(Debug, Drop)]
 pub struct Body {
-    pub locals: Items<ValType>,
+    pub locals: Items<LocalGroup>,
     pub code: Items<Instr>,
     pub labels: Items<u32>,
 }

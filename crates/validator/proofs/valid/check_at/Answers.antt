@@ -18,8 +18,8 @@ check_function-requires-clause-short c = body_is_short c.args.module.now c.args.
 pub check_function-requires-clause-one_result : goal.check_function-requires-clause-one_result
 check_function-requires-clause-one_result c = kind_has_one_result c.args.module.now c.args.function c.in-Some.kind.now c.requires.rules (sym c.in-Some.ensures)
 
-pub new-requires : goal.new-requires
-new-requires c = subst (λ x. length x < 2 ^ 32) (sym c.as_slice-2.ensures) (body_is_short c.args.module.now c.args.function c.index-as_slice-function.result c.requires.rules (body_there c.args.module.now.bodies c.as_slice.result.now c.args.function c.index-as_slice-function.result c.as_slice.ensures c.requires.there c.index-as_slice-function.is))
+pub find-requires : goal.find-requires
+find-requires c = subst (λ x. length x < 2 ^ 32) (sym c.as_slice-2.ensures) (body_is_short c.args.module.now c.args.function c.index-as_slice-function.result c.requires.rules (body_there c.args.module.now.bodies c.as_slice.result.now c.args.function c.index-as_slice-function.result c.as_slice.ensures c.requires.there c.index-as_slice-function.is))
 
 pub returns-in-Err-clause-fault : goal.returns-in-Err-clause-fault
 returns-in-Err-clause-fault c = subst (IsOfFunction c.args.module.now) (sym c.fault_of_function.ensures)
@@ -27,7 +27,7 @@ returns-in-Err-clause-fault c = subst (IsOfFunction c.args.module.now) (sym c.fa
 
 pub returns-in-None-clause-fault : goal.returns-in-None-clause-fault
 returns-in-None-clause-fault c =
-    let none = subst (λ x. IfNone x (Nests c.as_slice-2.result.now → ⊥)) c.in-None.is c.in_ok-new.ensures.none in
+    let none = subst (λ x. IfNone x (Nests c.as_slice-2.result.now → ⊥)) c.in-None.is c.in_ok-find.ensures.none in
     absurd (none (subst Nests (sym c.as_slice-2.ensures) (checked_nests (context_of c.args.module.now c.in-Some.kind.now c.index-as_slice-function.result) c.index-as_slice-function.result.code c.in-Ok.ensures.typed)))
 
 pub returns-in-Some-2-clause-typed : goal.returns-in-Some-2-clause-typed
@@ -35,5 +35,5 @@ returns-in-Some-2-clause-typed c = typed_at c.args.module.now c.args.function c.
 
 pub returns-in-Some-2-clause-targets : goal.returns-in-Some-2-clause-targets
 returns-in-Some-2-clause-targets c =
-    let found = subst (λ x. IfSome x (λ t. t ≡ targets_from 0 c.as_slice-2.result.now)) c.in-Some-2.is c.in_ok-new.ensures.targets in
+    let found = subst (λ x. IfSome x (λ t. t ≡ targets_from 0 c.as_slice-2.result.now)) c.in-Some-2.is c.in_ok-find.ensures.targets in
     ap (option_map (λ (body : Body). targets_from 0 body.code)) (body_there c.args.module.now.bodies c.as_slice.result.now c.args.function c.index-as_slice-function.result c.as_slice.ensures c.requires.there c.index-as_slice-function.is) ∙ ap (λ x. Some (targets_from 0 x)) (sym c.as_slice-2.ensures) ∙ ap (λ x. Some x) (sym found)
