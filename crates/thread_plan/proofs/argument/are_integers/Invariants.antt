@@ -1,0 +1,13 @@
+use Rattle.std.proofs.Common.{◌≡◌, length}
+use Rattle.std.specs.Prelude.{◌&&◌}
+use Rattle.std.specs.List.{list_all}
+use Rattle.thread_plan.specs.Parts.{parts_left}
+use Rattle.thread_plan.specs.Integers.{is_decimal}
+use Rattle.thread_plan.proofs.argument.are_integers.Given as goal
+
+-- the texts so far are tested, and those that are left are not
+abbrev pub invariant-loop-text : goal.invariant-loop-text
+invariant-loop-text l = list_all is_decimal (parts_left l.fn.texts) ≡ (l.integers && list_all is_decimal (parts_left l.texts))
+
+abbrev pub decreases-loop-text : goal.decreases-loop-text
+decreases-loop-text l = length (parts_left l.texts)
