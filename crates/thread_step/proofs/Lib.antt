@@ -1,4 +1,4 @@
-mod Frames
+pub mod Frames
 mod Simple
 mod Landing
 mod Steps
@@ -6,3 +6,5 @@ mod Jumps
 mod Blocks
 mod Safety
 mod Reaching
+pub mod Beginning
+pub mod Threads

@@ -60,7 +60,7 @@ safe_at m c code a (i ∷ is) (w ∷ ws) has short d tl h st f =
     go_at m c code a i is w ws p.0 has (record { typed = tl; here = d; behind_it = drop_next a.place code is i d; stepped = p.1; rest = next; fits = f; short = short })
 
 -- one type is the same from both ends
-one_again : (ts : List ValType) → length ts ≤ 1 → reverse ts ≡ ts
+pub one_again : (ts : List ValType) → length ts ≤ 1 → reverse ts ≡ ts
 one_again [] h = refl
 one_again (t ∷ []) h = refl
 one_again (t ∷ u ∷ ts) h = absurd (omega (arith, h))

@@ -1,6 +1,7 @@
 //! Laws of the thread step.
 
 ghost use Rattle.thread_step.specs.Fits.{StepsAreSafe, NeverStuck};
+ghost use Rattle.thread_step.specs.ThreadFits.{ThreadsAreSafe, ThreadsGoOn};
 
 /// An activation that fits a checked function has a step, which leads to activations that fit.
 pub fn steps_are_safe()
@@ -11,4 +12,15 @@ pub fn steps_are_safe()
 /// missing.
 pub fn well_typed_is_never_stuck()
     ensures { NeverStuck }
+{}
+
+/// A thread that fits a well typed module has a step, which leads to threads that fit, whatever the memory replies.
+pub fn threads_are_safe()
+    ensures { ThreadsAreSafe }
+{}
+
+/// In a well typed module no thread of any exported function ever lacks a step, through its start function, its calls, its
+/// waits and its returns; and a thread that is done leaves the results of its function.
+pub fn threads_go_on()
+    ensures { ThreadsGoOn }
 {}

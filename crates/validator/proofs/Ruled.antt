@@ -22,11 +22,11 @@ use Rattle.validator.proofs.Complete.{complete}
 use Rattle.validator.proofs.Sound.{checked_typed}
 use Rattle.validator.proofs.Walking.{fault_refutes}
 
-both : (a b : Bool) → (a && b) ≡ true → (a ≡ true) × (b ≡ true)
+pub both : (a b : Bool) → (a && b) ≡ true → (a ≡ true) × (b ≡ true)
 both true b h = (refl, h)
 both false b h = cc
 
-all_at : {X : Type 0} (p : X → Bool) (xs : List X) (i : ℕ) (x : X) → list_all p xs ≡ true → slice_get xs i ≡ Some x → p x ≡ true
+pub all_at : {X : Type 0} (p : X → Bool) (xs : List X) (i : ℕ) (x : X) → list_all p xs ≡ true → slice_get xs i ≡ Some x → p x ≡ true
 all_at p [] i x h e = cc
 all_at p (y ∷ ys) zero x h e = let q : y ≡ x = cc in subst (λ z. p z ≡ true) q (both (p y) (list_all p ys) h).0
 all_at p (y ∷ ys) (suc i) x h e = all_at p ys i x (both (p y) (list_all p ys) h).1 e
@@ -81,6 +81,18 @@ of_functions m h =
       short = e.1;
     }
 
+pub elements_rule : (m : Module) → rules m ≡ true → elements_fit m ≡ true
+elements_rule m h = (both (first5 m) (elements_fit m) (both (first6 m) (data_fit m) h).0).1
+
+pub start_rule : (m : Module) → rules m ≡ true → start_fits m ≡ true
+start_rule m h = (both (first4 m) (start_fits m) (both (first5 m) (elements_fit m) (both (first6 m) (data_fit m) h).0).0).1
+
+pub globals_rule : (m : Module) → rules m ≡ true → globals_fit m ≡ true
+globals_rule m h =
+    let a5 = both (first5 m) (elements_fit m) (both (first6 m) (data_fit m) h).0 in
+    let a3 = both (first3 m) (exports_fit m) (both (first4 m) (start_fits m) a5.0).0 in
+    (both (first2 m) (globals_fit m) a3.0).1
+
 pub few_functions : (m : Module) → rules m ≡ true → length m.functions < 2 ^ 32
 few_functions m h = (of_functions m h).few
 
@@ -99,10 +111,30 @@ kind_has_one_result m function kind h e =
 pub body_is_short : (m : Module) (function : ℕ) (body : Body) → rules m ≡ true → slice_get m.bodies function ≡ Some body → length body.code < 2 ^ 32
 body_is_short m function body h e = ltb-true (length body.code) (2 ^ 32) (all_at is_short m.bodies function body (of_functions m h).short e)
 
-some_there : {X : Type 0} (xs : List X) (i : ℕ) → i < length xs → (x : X) × (slice_get xs i ≡ Some x)
+pub some_there : {X : Type 0} (xs : List X) (i : ℕ) → i < length xs → (x : X) × (slice_get xs i ≡ Some x)
 some_there [] i l = absurd (omega arith)
 some_there (x ∷ xs) zero l = (x, refl)
 some_there (x ∷ xs) (suc i) l = some_there xs i (omega arith)
+
+-- what is named by a number in range is there
+pub named_type : (m : Module) (function : ℕ) → rules m ≡ true → function < length m.functions → (kind : FuncType) × (function_type m function ≡ Some kind)
+named_type m function h l =
+    let o = of_functions m h in
+    let f = some_there m.functions function l in
+    let t = some_there m.types f.0 (ltb-true f.0 (length m.types) (all_at (is_there m.types) m.functions function f.0 o.types_there f.1)) in
+    (t.0, ap (type_by m) f.1 ∙ t.1)
+
+typed_function : (m : Module) (o : Option ℕ) (kind : FuncType) → type_by m o ≡ Some kind → (index : ℕ) × (o ≡ Some index)
+typed_function m None kind h = cc
+typed_function m (Some index) kind h = (index, refl)
+
+-- a function with a type has a body
+pub typed_has_body : (m : Module) (function : ℕ) (kind : FuncType) → rules m ≡ true → function_type m function ≡ Some kind → (body : Body) × (slice_get m.bodies function ≡ Some body)
+typed_has_body m function kind h e =
+    let t = typed_function m (slice_get m.functions function) kind e in
+    let within = slice_get_within m.functions function t.0 t.1 in
+    let as_many = (of_functions m h).as_many in
+    some_there m.bodies function (omega arith)
 
 pub has_some_type : (m : Module) (function : ℕ) → rules m ≡ true → function < length m.bodies → function_type m function ≡ None → ⊥
 has_some_type m function h l e =
