@@ -1,0 +1,13 @@
+pub mod Lists
+pub mod Ranges
+pub mod Here
+pub mod Putting
+pub mod Reading
+pub mod Straight
+pub mod Variables
+pub mod Bodies
+pub mod Returns
+pub mod Opening
+pub mod Landings
+pub mod Entering
+pub mod Asking

@@ -1,0 +1,42 @@
+use Rattle.std.proofs.Common.{◌≡◌, ◌∙◌, suc, sym, subst, rules, length, Some}
+use Rattle.wasm_types.specs.declared.instruction.Instr.TheVariants as instr
+use Rattle.wasm_types.specs.declared.instruction.Plain.TheVariants.{Else}
+use Rattle.thread_step.specs.Activation.{at_place}
+use Rattle.thread_step.specs.Step.{Stays, found}
+use Rattle.thread_step.specs.Thread.{Local}
+use Rattle.control_flow.specs.Targets.{end_from}
+use Rattle.thread_words.specs.Words.{Stands}
+use Rattle.thread_words.specs.Fields.{Closes}
+use Rattle.thread_words.proofs.Here.{acts_here}
+use Rattle.thread_words.proofs.Opening.{ends_function, ends_block, else_end}
+use Rattle.thread_words.proofs.blocks.end_first_arm.Goals as goal
+
+pub leave-requires : goal.leave-requires
+leave-requires c =
+    let size : c.len.result ≡ length c.args.m.now.labels.items = search rules in
+    let z : length c.args.m.now.labels.items ≡ c.args.m.now.here.labels = sym size ∙ c.if-len-m.true in
+    let k = c.requires.1 in
+    let a = acts_here c.args.valid.now c.requires.0 (instr.Plain Else) k.0 (Local k.1) c.args.m.now k.2 in
+    (k.0, k.2.function, (ends_function c.args.valid.now c.requires.0 (instr.Plain Else) k.0 k.1 c.args.m.now a.next _ k.2 a.acts a.moves z).0)
+
+pub behind_end-place-requires : goal.behind_end-place-requires
+behind_end-place-requires c =
+    let size : c.len.result ≡ length c.args.m.now.labels.items = search rules in
+    let k = c.requires.1 in
+    let e = else_end c.args.valid.now c.requires.0 k.0 (Local k.1) c.args.m.now k.2 (λ z. c.if-len-m.false (size ∙ z)) in (e.0, e.1)
+
+pub returns-then-len-m : goal.returns-then-len-m
+returns-then-len-m c = λ instance s after k.
+    let size : c.len.result ≡ length c.args.m.now.labels.items = search rules in
+    let z : length c.args.m.now.labels.items ≡ c.args.m.now.here.labels = sym size ∙ c.if-len-m.true in
+    let a = acts_here c.args.valid.now instance (instr.Plain Else) s (Local after) c.args.m.now k in
+    let p = ends_function c.args.valid.now instance (instr.Plain Else) s after c.args.m.now a.next _ k a.acts a.moves z in
+    subst (λ x. Stands x c.leave.new.m) p.1 (c.leave.ensures s k.function p.0)
+
+pub returns-else-len-m : goal.returns-else-len-m
+returns-else-len-m c = λ instance s after k.
+    let size : c.len.result ≡ length c.args.m.now.labels.items = search rules in
+    let a = acts_here c.args.valid.now instance (instr.Plain Else) s (Local after) c.args.m.now k in
+    let e = else_end c.args.valid.now instance s (Local after) c.args.m.now k (λ z. c.if-len-m.false (size ∙ z)) in
+    ends_block c.args.valid.now instance (instr.Plain Else) s after c.args.m.now c.close.new.m a.next (λ ls. found (end_from (suc s.top.activation.place) k.is 0) (λ e. Some (Stays (at_place (suc e) s.top.activation.stack ls s.top.activation)))) (suc e.0) k a.acts a.moves (λ z. c.if-len-m.false (size ∙ z)) e.2
+    (subst (λ x. Closes x c.args.m.now c.close.new.m) (c.behind_end-place.ensures e.0 e.1) c.close.ensures)

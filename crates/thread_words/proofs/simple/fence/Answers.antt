@@ -1,0 +1,7 @@
+use Rattle.wasm_types.specs.declared.instruction.Instr.TheVariants.{Fence}
+use Rattle.thread_step.specs.Thread.{Local}
+use Rattle.thread_words.proofs.Here.{next_fits}
+use Rattle.thread_words.proofs.simple.fence.Goals as goal
+
+pub advance-requires : goal.advance-requires
+advance-requires c = let k = c.requires in next_fits k.0 k.1 (Fence) k.2.0 (Local k.2.1) c.args.m.now k.2.2

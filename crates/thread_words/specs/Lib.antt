@@ -1,0 +1,6 @@
+pub mod Words
+pub mod Moves
+pub mod Fields
+pub mod Leaving
+pub mod Calling
+pub mod Accesses

@@ -1,0 +1,120 @@
+//! Branches.
+
+ghost use Rattle.std.specs.Prelude.{◌≡◌, ℕ, ◌+◌, ◌<◌, ◌^◌, List, Some, slice_get};
+ghost use Rattle.wasm_types.specs.declared.instruction.Instr.TheVariants.{Index, BranchTable};
+ghost use Rattle.wasm_types.specs.declared.instruction.IndexOp.TheVariants.{Branch, BranchIf};
+ghost use Rattle.validator.specs.Context.{labels_in};
+ghost use Rattle.thread_step.specs.Step.{chosen_label};
+ghost use Rattle.thread_step.specs.Thread.{Function, function_at};
+ghost use Rattle.thread_words.specs.Leaving.{CanBranch, Branches, CanLand, Lands, CanLandAt, LandsAt, HasTable};
+ghost use Rattle.thread_words.specs.Moves.{CanStepIn, StepsIn};
+
+use crate::functions::{behind_end, body_of_function, instruction_at};
+use crate::leaving::leave;
+use crate::operands::{cut, drop_top, i32_operand};
+use crate::stacks::Stacks;
+use validator::Valid;
+use wasm_types::{BlockKind, Instr, LabelRange, ValType};
+
+/// Where a branch to a block goes on, whether the topmost word stays, and how many of the block's own labels stay.
+#[derive(Clone, Copy)]
+pub(crate) struct Landing {
+    pub keep: bool,
+    pub place: u32,
+    pub labels: usize,
+}
+
+/// The landing at a block of a kind and a result.
+fn land(valid: &Valid, function: u32, opener: u32, kind: BlockKind, t: Option<ValType>) -> Landing
+    requires { CanLand valid.now function opener kind t }
+    ensures { Lands valid.now function opener kind t result }
+{
+    match kind {
+        BlockKind::Loop => Landing {
+            keep: false,
+            place: opener + 1,
+            labels: 1,
+        },
+        BlockKind::Block => Landing {
+            keep: t.is_some(),
+            place: behind_end(valid, function, opener),
+            labels: 0,
+        },
+        BlockKind::If => Landing {
+            keep: t.is_some(),
+            place: behind_end(valid, function, opener),
+            labels: 0,
+        },
+    }
+}
+
+/// The landing at the block that is opened at a place.
+fn landing_at(valid: &Valid, function: u32, opener: u32) -> Landing
+    requires { CanLandAt valid.now function opener }
+    ensures { LandsAt valid.now function opener result }
+{
+    match instruction_at(valid, function, opener) {
+        Instr::Block(kind, t) => land(valid, function, opener, kind, t),
+        _ => unreachable!(),
+    }
+}
+
+/// A branch to the label at a depth, the outermost of which is the function's.
+fn branch_to(m: &mut Stacks, valid: &Valid, depth: u32)
+    requires { CanBranch valid.now depth m.old }
+    ensures { Branches valid.now depth m.old m.new }
+{
+    if m.labels.len() - m.here.labels == depth as usize {
+        leave(m, valid);
+        return;
+    }
+    let at = m.labels.len() - 1 - depth as usize;
+    let label = m.labels[at];
+    let landing = landing_at(valid, m.here.function, label.opener);
+    cut(&mut m.words, label.height, landing.keep);
+    m.labels.truncate(at + landing.labels);
+    m.here.place = landing.place;
+}
+
+/// `br`. It takes no memory.
+pub fn branch(m: &mut Stacks, valid: &Valid, depth: u32)
+    requires { CanStepIn valid.now (Index Branch depth) m.old }
+    ensures { StepsIn valid.now (Index Branch depth) m.old m.new }
+{
+    branch_to(m, valid, depth);
+}
+
+/// `br_if`. It takes no memory.
+pub fn branch_if(m: &mut Stacks, valid: &Valid, depth: u32)
+    requires { CanStepIn valid.now (Index BranchIf depth) m.old }
+    ensures { StepsIn valid.now (Index BranchIf depth) m.old m.new }
+{
+    let condition = i32_operand(m, 0);
+    drop_top(m, 1);
+    if condition != 0 {
+        branch_to(m, valid, depth);
+    }
+}
+
+/// The label of a branch table by an operand, or the default where that is too large.
+fn label_at(valid: &Valid, function: u32, range: LabelRange, default: u32, at: u32) -> u32
+    requires { HasTable valid.now function range }
+    ensures { (f : Function) (labels : List ℕ) → function_at valid.now function ≡ Some f → labels_in f.body.labels range ≡ Some labels → result ≡ chosen_label (slice_get labels at) default }
+{
+    if at < range.count {
+        body_of_function(valid, function).labels.as_slice()[range.first as usize + at as usize]
+    } else {
+        default
+    }
+}
+
+/// `br_table`. It takes no memory.
+pub fn branch_table(m: &mut Stacks, valid: &Valid, range: LabelRange, default: u32)
+    requires { CanStepIn valid.now (BranchTable range default) m.old }
+    ensures { StepsIn valid.now (BranchTable range default) m.old m.new }
+{
+    let at = i32_operand(m, 0);
+    let depth = label_at(valid, m.here.function, range, default, at);
+    drop_top(m, 1);
+    branch_to(m, valid, depth);
+}

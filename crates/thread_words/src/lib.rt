@@ -1,0 +1,26 @@
+//! The steps of a thread on untyped words: one stack of words and one of labels for all of its functions.
+#![tactic(auto)]
+
+mod blocks;
+mod branches;
+mod calls;
+mod functions;
+mod indirect;
+mod leaving;
+mod locals;
+mod numerics;
+mod operands;
+mod replies;
+mod simple;
+mod stacks;
+
+pub use blocks::{block, end, end_first_arm};
+pub use branches::{branch, branch_if, branch_table};
+pub use calls::call;
+pub use indirect::call_indirect;
+pub use leaving::return_now;
+pub use locals::{global_get, global_set, local_get, local_set, local_tee};
+pub use numerics::numeric;
+pub use replies::{answer, wake};
+pub use simple::{constant, discard, fence, nop, select, unreachable};
+pub use stacks::{Instance, Label, Level, Stacks, Stage};
