@@ -2,6 +2,8 @@
 PREFIX ?= /usr/local
 PROGRAM = crates/wreplay/out/wreplay
 STEPS = crates/steps_bench/out/steps_bench
+ACCESSES = crates/accesses_bench/out/accesses_bench
+DECODE = crates/decode_bench/out/decode_bench
 
 .PHONY: build test bench install clean
 
@@ -16,13 +18,20 @@ test:
 	.ci/run
 
 # Speeds as ratios to named peers in the same run; docs/BENCH.md keeps them.
-bench: $(PROGRAM) $(STEPS)
+bench: $(PROGRAM) $(STEPS) $(ACCESSES) $(DECODE)
 	python3 bench/gather.py $(PROGRAM)
 	python3 bench/steps.py $(STEPS)
-	-python3 bench/decode.py $(PROGRAM)
+	python3 bench/accesses.py $(ACCESSES)
+	-python3 bench/decode.py $(DECODE)
 
 $(STEPS): crates.txt $(wildcard crates/*/src/*.rt crates/*/specs/*.antt)
 	cd crates/steps_bench && rt run -- parts 0 >/dev/null
+
+$(ACCESSES): crates.txt $(wildcard crates/*/src/*.rt crates/*/specs/*.antt)
+	cd crates/accesses_bench && rt run -- load 1 64 0 >/dev/null
+
+$(DECODE): crates.txt $(wildcard crates/*/src/*.rt crates/*/specs/*.antt)
+	cd crates/decode_bench && rt run >/dev/null
 
 install: $(PROGRAM)
 	install -D -m 755 $(PROGRAM) $(DESTDIR)$(PREFIX)/bin/wreplay

@@ -9,3 +9,4 @@ pub mod Seen
 pub mod Accesses
 pub mod Meets
 pub mod Image
+pub mod Below

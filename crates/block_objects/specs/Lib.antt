@@ -6,3 +6,4 @@ pub mod Queues
 pub mod Effects
 pub mod Memory
 pub mod SharedMemory
+pub mod Bounds

@@ -11,6 +11,7 @@ mod segments;
 mod touch_table;
 mod waiter;
 mod width;
+mod within;
 
 pub use blocks::Blocks;
 pub use bounds::ends_within;
@@ -19,3 +20,4 @@ pub use object::ObjectValue;
 pub use touch_table::{block_number, kind, touches};
 pub use waiter::Waiter;
 pub use width::type_len;
+pub use within::operations_within_fit;

@@ -78,13 +78,17 @@ fn touch_access(
 ) -> Few<Touch>
     ensures { result ≡ access_touches extent.now mode address (byte_len (width_of width)) }
 {
-    let mut touches = touch_length(alloc, extent, address, width.len());
     let first = block_at(extent.block, address);
     let last = last_block(extent.block, address, width.len());
-    touches.push(Touch {
+    let touch = Touch {
         object: first,
         mode,
-    });
+    };
+    if first == last && ends_within(extent.initial, address, width.len()) {
+        return Few::one(alloc, touch);
+    }
+    let mut touches = touch_length(alloc, extent, address, width.len());
+    touches.push(touch);
     if first != last {
         touches.push(Touch { object: last, mode });
     }
@@ -158,9 +162,7 @@ pub fn touches(alloc: Global, op: &Op) -> Few<Touch>
 fn touch_of_length(alloc: Global, mode: Mode) -> Few<Touch>
     ensures { result ≡ touch_of mode 0 ∷ [] }
 {
-    let mut touches = Few::new(alloc);
-    touches.push(Touch { object: 0, mode });
-    touches
+    Few::one(alloc, Touch { object: 0, mode })
 }
 
 /// The touch of a waiter queue alone.

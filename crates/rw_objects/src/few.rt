@@ -2,7 +2,7 @@
 
 ghost use Rattle.std.specs.Prelude.{◌≡◌, ℕ, ◌+◌, ◌<◌, ◌≤◌, ◌∷◌, [], ◌++◌, length, slice_index_or, IsTrue, ◌↔◌};
 
-use smallvec::SmallVec;
+use arrayvec::ArrayVec;
 use std::alloc::Global;
 use std::marker::Model;
 use wasm_types::{NoMemory, Same};
@@ -10,7 +10,7 @@ use wasm_types::{NoMemory, Same};
 /// At most three items, which stand in the value and take no memory. Contracts see the list.
 #[derive(Debug, Drop)]
 pub struct Few<T> {
-    list: SmallVec<T, 3>,
+    list: ArrayVec<T, 3>,
 }
 
 impl<T> Model for Few<T> {
@@ -20,7 +20,7 @@ impl<T> Model for Few<T> {
 
     ghost view = { λ f. f.list.items };
 
-    ghost invariant = { λ f. (f.list.capacity ≡ 3) × (length f.list.items ≤ 3) };
+    ghost invariant = { λ f. length f.list.items ≤ 3 };
 }
 
 impl<T: Copy + Default> Few<T> {
@@ -29,8 +29,17 @@ impl<T: Copy + Default> Few<T> {
         ensures { result ≡ [] }
     {
         Few {
-            list: SmallVec::new(alloc),
+            list: ArrayVec::new(),
         }
+    }
+
+    /// One item.
+    pub fn one(alloc: Global, item: T) -> Self
+        ensures { result ≡ item ∷ [] }
+    {
+        let mut few = Few::new(alloc);
+        few.push(item);
+        few
     }
 
     /// How many items there are, from 0 to 3.
@@ -69,7 +78,7 @@ impl<T: Copy + Default> Few<T> {
         requires { length self.old < 3 }
         ensures { self.new ≡ self.old ++ item ∷ [] }
     {
-        self.list.push_reserved(item);
+        self.list.push(item);
     }
 }
 
@@ -81,7 +90,7 @@ impl<T: PartialEq> PartialEq for Few<T> {
     ghost laws = { lists_per T.PartialEq.laws };
 
     fn eq(&self, other: &Few<T>) -> bool {
-        self.list == other.list
+        self.list.as_slice() == other.list.as_slice()
     }
 }
 

@@ -1,6 +1,6 @@
 //! The versions and read totals of a space's objects.
 
-ghost use Rattle.std.specs.Prelude.{◌≡◌, ◌<◌, length, slice_set, IfOk, replicate};
+ghost use Rattle.std.specs.Prelude.{◌≡◌, ◌<◌, [], ◌∷◌, length, slice_set, IfOk, replicate};
 ghost use Rattle.rw_objects.specs.Counts.{no_count, count_at, count_after, found_by, CanCount, CanCountAll, all_found, counts_after};
 ghost use Rattle.rw_objects.specs.Space.{RisesFrom, AllBelow};
 
@@ -91,6 +91,18 @@ impl Versions {
         }
     }
 
+    /// Counts the one touch of an operation.
+    fn touch_one(&mut self, touch: Touch) -> Few<Found>
+        requires below { AllBelow (length self.old) (touch ∷ []) }
+        requires room { CanCountAll (touch ∷ []) self.old }
+        ensures found { result ≡ all_found (touch ∷ []) (count_at self.old) }
+        ensures counts { count_at self.new ≡ counts_after (touch ∷ []) (count_at self.old) }
+        ensures len { length self.new ≡ length self.old }
+    {
+        let found = self.touch(touch);
+        Few::one(self.allocator(), found)
+    }
+
     /// Counts the touches of an operation, and answers what they found. It takes no memory.
     pub fn touch_all(&mut self, touches: &Few<Touch>) -> Few<Found>
         requires rising { RisesFrom 0 touches.now }
@@ -100,6 +112,9 @@ impl Versions {
         ensures counts { count_at self.new ≡ counts_after touches.now (count_at self.old) }
         ensures len { length self.new ≡ length self.old }
     {
+        if let [touch] = touches.as_slice() {
+            return self.touch_one(*touch);
+        }
         let mut found = Few::new(self.allocator());
         for touch in touches.as_slice() {
             found.push(self.touch(*touch));
