@@ -57,6 +57,13 @@ impl Block {
         }
     }
 
+    /// The least block, of 64 bytes.
+    pub fn least() -> Block
+        ensures { result ≡ 6 }
+    {
+        Block { power: 6 }
+    }
+
     /// The block of two to that power, of which there is one from 6 to 12.
     pub fn of_power(power: u8) -> Option<Block>
         ensures power { IfSome result (λ block. (block ≡ power) × (6 ≤ power) × (power ≤ 12)) }

@@ -1,0 +1,4 @@
+pub mod Asking
+pub mod Machine
+pub mod Meaning
+pub mod Putting

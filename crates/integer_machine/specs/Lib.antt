@@ -1,0 +1,2 @@
+pub mod ThreadCode
+pub mod Meaning

@@ -1,0 +1,56 @@
+//! The table of a module as its threads begin.
+
+ghost use Rattle.std.specs.Prelude.{◌≡◌, ◌+◌, ◌≤◌, true, length, slice_get, IfOk};
+ghost use Rattle.std.specs.List.{list_all};
+ghost use Rattle.thread_plan.specs.Segments.{elements_are_within, is_within, unsigned};
+ghost use Rattle.thread_step.specs.Opening.{with_functions, with_elements, empty_by, opening_table};
+ghost use Rattle.integer_ops.specs.Numeric.{bits_of};
+
+use std::alloc::Global;
+use wasm_types::{Element, Limits, Module, NoMemory, Value};
+
+/// Puts functions into a table from a place on.
+fn put_functions(table: &mut Vec<Option<u32>>, at: usize, functions: &[u32])
+    requires { at + length functions.now ≤ length table.old.items }
+    ensures { table.new.items ≡ with_functions at functions.now table.old.items }
+{
+    for index in 0..functions.len() {
+        table[at + index] = Some(functions[index]);
+    }
+}
+
+/// A segment's offset, as an unsigned number.
+fn offset_of(element: &Element) -> u64
+    ensures { result ≡ bits_of element.now.offset }
+{
+    match element.offset {
+        Value::I32(bits) => u64::from(bits),
+        Value::I64(bits) => bits,
+    }
+}
+
+/// A table without functions.
+fn empty_table(alloc: Global, tables: &[Limits]) -> Result<Vec<Option<u32>>, NoMemory>
+    ensures { IfOk result (λ table. table.items ≡ empty_by (slice_get tables.now 0)) }
+{
+    match tables {
+        [] => Ok(Vec::new(alloc)),
+        [limits, ..] => {
+            let empty: Option<u32> = None;
+            Ok(vec![in alloc; empty; limits.minimum as usize]?)
+        }
+    }
+}
+
+/// The table with which each thread of a module begins (WebAssembly Core 1.0, instantiation).
+pub(crate) fn first_table(alloc: Global, module: &Module) -> Result<Vec<Option<u32>>, NoMemory>
+    requires { elements_are_within «module».now ≡ true }
+    ensures { IfOk result (λ table. table.items ≡ opening_table «module».now) }
+{
+    let mut table = empty_table(alloc, module.tables.as_slice())?;
+    for element in module.elements.as_slice() {
+        let at = offset_of(element);
+        put_functions(&mut table, at as usize, element.functions.as_slice());
+    }
+    Ok(table)
+}
