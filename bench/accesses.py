@@ -4,39 +4,47 @@
 usage: accesses.py PATH_OF_ACCESSES_BENCH [COUNT]
 
 A memory of one page in blocks of 64 bytes; COUNT loads, or stores, of four bytes, each 68 bytes behind the one before, so
-that each is of another block. Each access through the memory finds its blocks, counts their versions, makes an entry and
-makes the load or the store. What opening the memory costs is taken off: it is timed with no access. It prints, best of
-five each, nanoseconds an access, millions of accesses a second, and the ratio to the slice.
+that each is of another block. Each access through the memory finds its block, counts its version, makes an entry and
+makes the load or the store. One more row makes loads whose kind is read from a table, so that the compiler does not know it.
+What opening the memory costs is taken off: it is timed with no access. It prints, best of nine rounds each, nanoseconds an
+access, millions of accesses a second, and the ratio to the slice. Each round runs each kind once, the slice first.
 """
 
 import subprocess
 import sys
 import time
 
-RUNS = 5
+ROUNDS = 9
+ROWS = (
+    ("slice-load", "loads of a slice", "slice-load"),
+    ("load", "loads through the memory", "slice-load"),
+    ("load-of-kind", "loads of a kind from a table", "slice-load"),
+    ("slice-store", "stores of a slice", "slice-store"),
+    ("store", "stores through the memory", "slice-store"),
+)
 
 
 def seconds(program, word, count):
-    """The best time of so many runs."""
-    best = float("inf")
-    for _ in range(RUNS):
-        begin = time.perf_counter()
-        subprocess.run([program, word, "1", "64", str(count)], stdout=subprocess.DEVNULL, check=True)
-        best = min(best, time.perf_counter() - begin)
-    return best
+    """The time of one run."""
+    begin = time.perf_counter()
+    subprocess.run([program, word, "1", "64", str(count)], stdout=subprocess.DEVNULL, check=True)
+    return time.perf_counter() - begin
 
 
 def main():
     program = sys.argv[1]
     count = int(sys.argv[2]) if len(sys.argv) > 2 else 100_000_000
+    full = {word: float("inf") for word, _, _ in ROWS}
+    empty = dict(full)
+    for _ in range(ROUNDS):
+        for word, _, _ in ROWS:
+            empty[word] = min(empty[word], seconds(program, word, 0))
+            full[word] = min(full[word], seconds(program, word, count))
+    each = {word: (full[word] - empty[word]) / count * 1e9 for word in full}
     print("| accesses | ns an access | million accesses a second | ratio to the slice |")
     print("|---|---:|---:|---:|")
-    for kind in ("load", "store"):
-        base = None
-        for word, name in ((f"slice-{kind}", f"{kind}s of a slice"), (kind, f"{kind}s through the memory")):
-            each = (seconds(program, word, count) - seconds(program, word, 0)) / count * 1e9
-            base = base or each
-            print(f"| {name} | {each:.2f} | {1000 / each:.0f} | {each / base:.1f} |")
+    for word, name, peer in ROWS:
+        print(f"| {name} | {each[word]:.2f} | {1000 / each[word]:.0f} | {each[word] / each[peer]:.1f} |")
 
 
 main()

@@ -46,8 +46,8 @@ ready limits values op h k = memory_laws.access_ready limits op values (fits lim
 pub none_made : {fixed : MemoryLimits} {values : ℕ → ObjectAt} (limits : MemoryLimits) (m : Memory ObjectAt MemoryLimits) → m ≡ memory_with fixed values no_counts → fixed ≡ limits → Counted limits 0 m
 none_made limits m e same = subst (Counted limits 0) (sym e) (record { fixed = same; versions = λ o. omega arith; reads = λ o. omega arith })
 
--- a word of four bytes in the first page
-pub word_within : (limits : MemoryLimits) (op : Op) (address : ℕ) → 1 ≤ limits.capacity → limits.block ≤ 12 → address + 4 ≤ 65536 → op.extent ≡ record { initial = limits.initial; block = limits.block }
-    → ((bytes : ℕ) → address + 4 ≤ bytes → InBounds bytes op.action) → IsWithin limits op
-word_within limits op address one low h e f =
+-- at most so many bytes at an address in the first page
+pub few_within : (limits : MemoryLimits) (op : Op) (address len : ℕ) → 1 ≤ limits.capacity → limits.block ≤ 12 → address + len ≤ 65536 → op.extent ≡ record { initial = limits.initial; block = limits.block }
+    → ((bytes : ℕ) → address + len ≤ bytes → InBounds bytes op.action) → IsWithin limits op
+few_within limits op address len one low h e f =
     record { power = omega (arith, low); carries = (ap (λ x. x.initial) e, ap (λ x. x.block) e); ends = f (limits.capacity * 65536) (omega (arith, one, h)) }

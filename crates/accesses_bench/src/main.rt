@@ -1,6 +1,6 @@
 //! Makes accesses of a memory for measurements: through a shared memory with its versions, or of a plain slice of bytes.
-//! `make bench` runs it; its words are `slice-load`, `slice-store`, `load` or `store`, the pages of the memory, the bytes of a
-//! block, and how many accesses to make.
+//! `make bench` runs it; its words are `slice-load`, `slice-store`, `load`, `load-of-kind` or `store`, the pages of the memory,
+//! the bytes of a block, and how many accesses to make.
 #![tactic(auto)]
 
 ghost use Rattle.std.specs.Prelude.{◌≤◌, IfSome};
@@ -9,7 +9,7 @@ mod plain;
 mod versioned;
 
 use crate::plain::{plain_loads, plain_stores};
-use crate::versioned::{loads, stores};
+use crate::versioned::{loads, loads_of_kinds, stores};
 use block_objects::MemoryLimits;
 use std::alloc::Global;
 use std::env;
@@ -25,6 +25,8 @@ enum Mode {
     SliceStore,
     /// Loads by `act`.
     Load,
+    /// Loads by `act` of a kind that is read from a table.
+    LoadOfKind,
     /// Stores by `act`.
     Store,
 }
@@ -35,6 +37,7 @@ fn mode_of(word: &str) -> Option<Mode> {
         "slice-load" => Some(Mode::SliceLoad),
         "slice-store" => Some(Mode::SliceStore),
         "load" => Some(Mode::Load),
+        "load-of-kind" => Some(Mode::LoadOfKind),
         "store" => Some(Mode::Store),
         _ => None,
     }
@@ -51,6 +54,7 @@ fn measured(alloc: Global, mode: Mode, limits: MemoryLimits, count: u32) -> Resu
         Mode::SliceLoad => plain_loads(alloc, bytes, count),
         Mode::SliceStore => plain_stores(alloc, bytes, count),
         Mode::Load => loads(alloc, limits, count),
+        Mode::LoadOfKind => loads_of_kinds(alloc, limits, count),
         Mode::Store => stores(alloc, limits, count),
     }
 }
@@ -75,7 +79,9 @@ fn limits_of(pages: &str, block: &str) -> Option<MemoryLimits>
 fn main(rt: HostRuntime) -> anyhow::Result<ExitCode> {
     let words: Vec<String> = env::args(&rt)?.collect(rt.alloc())?;
     let [_, word, pages, block, count] = words.as_slice() else {
-        eprintln!(rt; "usage: accesses_bench slice-load|slice-store|load|store PAGES BLOCK COUNT")?;
+        eprintln!(rt;
+            "usage: accesses_bench slice-load|slice-store|load|load-of-kind|store PAGES BLOCK COUNT"
+        )?;
         return Ok(ExitCode::from(2));
     };
     let (Some(mode), Some(limits), Ok(count)) = (
@@ -83,7 +89,9 @@ fn main(rt: HostRuntime) -> anyhow::Result<ExitCode> {
         limits_of(pages.as_str(), block.as_str()),
         count.as_str().parse::<u32>(),
     ) else {
-        eprintln!(rt; "usage: accesses_bench slice-load|slice-store|load|store PAGES BLOCK COUNT")?;
+        eprintln!(rt;
+            "usage: accesses_bench slice-load|slice-store|load|load-of-kind|store PAGES BLOCK COUNT"
+        )?;
         return Ok(ExitCode::from(2));
     };
     let sum = measured(rt.alloc(), mode, limits, count)?;

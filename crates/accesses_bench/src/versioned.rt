@@ -9,7 +9,7 @@ ghost use Rattle.accesses_bench.specs.Counted.{Counted};
 
 use crate::plain::address_of;
 use block_objects::MemoryLimits;
-use rw_objects::Versioned;
+use rw_objects::{Entry, Found, Versioned};
 use std::alloc::Global;
 use waiter_queues::SharedSpace;
 use wasm_types::{Access, Action, Extent, Load, NoMemory, Op, Reply, ValType, Value};
@@ -24,7 +24,7 @@ fn extent_of(limits: &MemoryLimits) -> Extent
     }
 }
 
-/// The load of an access.
+/// A load of four bytes of an access.
 fn load_at(limits: &MemoryLimits, access: u32) -> Op
     requires { 1 ≤ limits.now.capacity }
     ensures within { IsWithin limits.now result }
@@ -38,6 +38,20 @@ fn load_at(limits: &MemoryLimits, access: u32) -> Op
             load: Load::Whole(ValType::I32),
             address,
         },
+    }
+}
+
+/// A load of any kind of an access: at most eight bytes, which end within the first page.
+fn load_of(limits: &MemoryLimits, load: Load, access: u32) -> Op
+    requires { 1 ≤ limits.now.capacity }
+    ensures within { IsWithin limits.now result }
+    ensures kind { op_kind result ≡ kinds.Access }
+{
+    let address = address_of(access).min(65_528);
+    let _small = limits.block.power();
+    Op {
+        extent: extent_of(limits),
+        action: Action::Load { load, address },
     }
 }
 
@@ -68,7 +82,26 @@ fn number_of(reply: Reply) -> u64 {
     }
 }
 
+/// A number that depends on what the first touch of an entry found.
+fn number_found(entry: &Entry) -> u64 {
+    match entry.found.as_slice() {
+        [Found::Read { object, version }, ..] => u64::from(*object).wrapping_add(*version),
+        [
+            Found::Write {
+                object,
+                version,
+                reads,
+            },
+            ..
+        ] => u64::from(*object)
+            .wrapping_add(*version)
+            .wrapping_add(*reads),
+        [] => 0,
+    }
+}
+
 /// Makes an operation, and answers a number that depends on its reply and its entry.
+#[inline(always)]
 fn one(memory: &mut Versioned<SharedSpace>, op: &Op, made: u32) -> u64
     requires within { IsWithin (memory_of memory.old).fixed op.now }
     requires kind { op_kind op.now ≡ kinds.Access }
@@ -76,7 +109,7 @@ fn one(memory: &mut Versioned<SharedSpace>, op: &Op, made: u32) -> u64
     ensures { Counted (memory_of memory.old).fixed (made + 1) (memory_of memory.new) }
 {
     let (reply, entry) = memory.act(op);
-    number_of(reply).wrapping_add(entry.found.len() as u64)
+    number_of(reply).wrapping_add(number_found(&entry))
 }
 
 /// A memory of zeros.
@@ -99,6 +132,23 @@ pub fn loads(alloc: Global, limits: MemoryLimits, count: u32) -> Result<u64, NoM
     let mut sum = 0u64;
     for access in 0..count {
         let op = load_at(&limits, access);
+        sum = sum.wrapping_add(one(&mut memory, &op, access));
+    }
+    Ok(sum)
+}
+
+/// Makes so many loads of four bytes of a memory, each of a kind that is read from a table, so that it is not known where
+/// the loop is compiled. Answers a number that depends on each of them.
+pub fn loads_of_kinds(alloc: Global, limits: MemoryLimits, count: u32) -> Result<u64, NoMemory>
+    requires some { 1 ≤ limits.capacity }
+    requires order { limits.initial ≤ limits.capacity }
+    requires limit { limits.capacity ≤ 65536 }
+{
+    let mut memory = open(alloc, limits)?;
+    let table = vec![in alloc; Load::Whole(ValType::I32); 16]?;
+    let mut sum = 0u64;
+    for access in 0..count {
+        let op = load_of(&limits, table[access as usize % 16], access);
         sum = sum.wrapping_add(one(&mut memory, &op, access));
     }
     Ok(sum)

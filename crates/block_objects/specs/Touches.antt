@@ -1,7 +1,7 @@
 -- The objects that an operation on a shared memory touches, by the operation alone (this project's own table): an access
 -- touches each block that holds a byte of it, a wait reads its block and writes its queue, a notify, going on and a
 -- time-out write the queue. What ends past the initial length reads the length as well.
-use Rattle.std.specs.Prelude.{ℕ, ◌+◌, ◌-◌, cond, ◌==◌, List, [], ◌∷◌, ◌++◌}
+use Rattle.std.specs.Prelude.{ℕ, ◌+◌, ◌-◌, cond, ◌==◌, ◌&&◌, List, [], ◌∷◌, ◌++◌, Option, Some, None}
 use Rattle.std.specs.Int.{byte_len}
 use Rattle.rw_objects.specs.declared.touch.Mode.{Mode}
 use Rattle.rw_objects.specs.declared.touch.Mode.TheVariants.{Read, Write}
@@ -29,6 +29,10 @@ block_touches mode first last = cond (first == last) (touch_of mode (block_objec
 -- an access of at most as many bytes as a block has stands in one block or two
 abbrev pub access_touches : Extent → Mode → ℕ → ℕ → List Touch
 access_touches e mode address len = length_touches e address len ++ block_touches mode (block_of e.block address) (block_of e.block (address + len - 1))
+
+-- the one object that such an access touches, where its bytes lie in one block and end within the initial length
+abbrev pub lone_object : Extent → ℕ → ℕ → Option ℕ
+lone_object e address len = cond (block_of e.block address == block_of e.block (address + len - 1) && is_within e.initial address len) (Some (block_object (block_of e.block address))) None
 
 abbrev pub queue_touches : Extent → ℕ → List Touch
 queue_touches e address = touch_of Write (queue_object (block_of e.block address)) ∷ []

@@ -99,6 +99,15 @@ impl Blocks {
         if !ends_within(self.pages, address, Width::of_load(load).len()) {
             return Reply::Trap(Trap::OutOfBounds);
         }
+        self.load_within(load, address)
+    }
+
+    /// Loads a number that ends within the length.
+    #[inline(always)]
+    pub fn load_within(&self, load: Load, address: u32) -> Reply
+        requires { is_within self.now.pages address (byte_len (load_width load)) ≡ true }
+        ensures { result ≡ access_answer self.now address (load_width load) (λ n. replies.Value (loaded load n)) }
+    {
         Reply::Value(load_value(&self.bytes, load, address as usize))
     }
 
@@ -111,6 +120,17 @@ impl Blocks {
         if !ends_within(self.pages, address, width.len()) {
             return Reply::Trap(Trap::OutOfBounds);
         }
+        self.store_within(access, address, operand)
+    }
+
+    /// Stores the low bits of an operand where they end within the length.
+    #[inline(always)]
+    pub fn store_within(&mut self, access: Access, address: u32, operand: u64) -> Reply
+        requires { is_within self.old.pages address (byte_len (access_width access)) ≡ true }
+        ensures reply { result ≡ access_answer self.old address (access_width access) (λ n. replies.Stored) }
+        ensures memory { self.new ≡ after_access self.old address (access_width access) (λ n. Some operand) }
+    {
+        let width = Width::of_access(access);
         write_number(&mut self.bytes, width, address as usize, operand);
         Reply::Stored
     }

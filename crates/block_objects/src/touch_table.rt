@@ -2,7 +2,7 @@
 
 ghost use Rattle.std.specs.Prelude.{◌≡◌, ◌+◌, ◌-◌, ◌^◌, ◌<◌, ◌≤◌, [], ◌∷◌, ◌++◌, length};
 ghost use Rattle.block_objects.specs.Objects.{block_of, block_object, queue_object};
-ghost use Rattle.block_objects.specs.Touches.{touch_of, length_touches, access_touches, queue_touches, wait_touches, op_touches, op_kind};
+ghost use Rattle.block_objects.specs.Touches.{touch_of, length_touches, access_touches, lone_object, queue_touches, wait_touches, op_touches, op_kind};
 ghost use Rattle.rw_objects.specs.declared.touch.Mode.TheVariants.{Write};
 ghost use Rattle.block_objects.specs.Access.{access_width};
 ghost use Rattle.block_objects.specs.Widths.{width_of};
@@ -51,6 +51,23 @@ fn last_block(block: Block, address: u32, len: u32) -> u32
     ensures { result ≡ block_object (block_of block (address + len - 1)) }
 {
     1 + 2 * block_index(block, u64::from(address) + u64::from(len) - 1)
+}
+
+/// The object of the block in which all of some bytes at an address lie, if they lie in one block and end within the
+/// initial length: an access of them touches this object alone.
+#[inline(always)]
+pub fn lone_block(extent: &Extent, address: u32, len: u32) -> Option<u32>
+    requires some { 0 < len }
+    requires few { len ≤ 8 }
+    ensures { result ≡ lone_object extent.now address len }
+{
+    let first = block_index(extent.block, u64::from(address));
+    let last = block_index(extent.block, u64::from(address) + u64::from(len) - 1);
+    if first == last && ends_within(extent.initial, address, len) {
+        Some(1 + 2 * first)
+    } else {
+        None
+    }
 }
 
 /// The touch of the length, where so many bytes at an address end past the initial length.

@@ -1,6 +1,6 @@
 //! How many bytes an access takes.
 
-ghost use Rattle.std.specs.Prelude.{◌≡◌, ◌<◌};
+ghost use Rattle.std.specs.Prelude.{◌≡◌, ◌<◌, ◌≤◌};
 ghost use Rattle.std.specs.Int.{byte_len};
 ghost use Rattle.block_objects.specs.Access.{type_width, narrow_width, access_width, load_width};
 ghost use Rattle.block_objects.specs.Widths.{width_of};
@@ -79,4 +79,24 @@ pub fn type_len(of: ValType) -> u32
     ensures some { 0 < result }
 {
     Width::of_type(of).len()
+}
+
+/// How many bytes a load takes, from 1 to 8.
+#[inline(always)]
+pub fn load_len(load: Load) -> u32
+    ensures len { result ≡ byte_len (load_width load) }
+    ensures some { 0 < result }
+    ensures few { result ≤ 8 }
+{
+    Width::of_load(load).len()
+}
+
+/// How many bytes another access takes, from 1 to 8.
+#[inline(always)]
+pub fn access_len(access: Access) -> u32
+    ensures len { result ≡ byte_len (access_width access) }
+    ensures some { 0 < result }
+    ensures few { result ≤ 8 }
+{
+    Width::of_access(access).len()
 }

@@ -1,11 +1,13 @@
 //! Spaces of objects.
 
-ghost use Rattle.std.specs.Prelude.{◌≡◌, ℕ, true, IfOk};
-ghost use Rattle.rw_objects.specs.Space.{Space, Fits, is_ready, reply_of, values_after, SpaceLaws};
+ghost use Rattle.std.specs.Prelude.{◌≡◌, ℕ, true, length, IfOk};
+ghost use Rattle.rw_objects.specs.Space.{Space, Fits, RisesFrom, AllBelow, is_ready, reply_of, values_after, SpaceLaws};
+ghost use Rattle.rw_objects.specs.Counts.{count_at, counts_after, CanCountAll, all_found};
 
-use crate::entry::Kind;
+use crate::entry::{Entry, Kind};
 use crate::few::Few;
 use crate::touch::Touch;
+use crate::versions::Versions;
 use std::alloc::Global;
 use wasm_types::NoMemory;
 
@@ -57,6 +59,29 @@ pub trait ObjectSpace {
         ensures reply { result ≡ reply_of meaning (fixed self.old) (values self.old) op.now }
         ensures values { values self.new ≡ values_after meaning (fixed self.old) (values self.old) op.now }
         ensures fixed { fixed self.new ≡ fixed self.old };
+
+    /// One event: makes a ready operation, counts its touches, and answers its reply and its entry. It takes no memory.
+    /// A space may have a shorter way for the operations that are made most.
+    fn act(&mut self, versions: &mut Versions, op: &Self::Op) -> (Self::Reply, Entry)
+        requires fits { Fits meaning (fixed self.old) op.now }
+        requires ready { is_ready meaning (fixed self.old) (values self.old) op.now ≡ true }
+        requires rising { RisesFrom 0 (meaning.touches op.now) }
+        requires below { AllBelow (length versions.old) (meaning.touches op.now) }
+        requires room { CanCountAll (meaning.touches op.now) versions.old }
+        ensures reply { result.0 ≡ reply_of meaning (fixed self.old) (values self.old) op.now }
+        ensures kind { result.1.kind ≡ meaning.kind op.now }
+        ensures found { result.1.found ≡ all_found (meaning.touches op.now) (count_at versions.old) }
+        ensures values { values self.new ≡ values_after meaning (fixed self.old) (values self.old) op.now }
+        ensures fixed { fixed self.new ≡ fixed self.old }
+        ensures counts { count_at versions.new ≡ counts_after (meaning.touches op.now) (count_at versions.old) }
+        ensures len { length versions.new ≡ length versions.old }
+    {
+        let kind = Self::kind(op);
+        let touches = Self::touches(versions.allocator(), op);
+        let found = versions.touch_all(&touches);
+        let reply = self.apply(op);
+        (reply, Entry { kind, found })
+    }
 
     /// The bytes that stand for the space at the end of a run.
     fn image(&self, alloc: Global) -> Result<Vec<u8>, NoMemory>

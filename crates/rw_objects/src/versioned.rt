@@ -34,6 +34,7 @@ impl<S: ObjectSpace> Versioned<S> {
     ghost use Rattle.rw_objects.specs.Memory.{memory_of, memory_after, entry_of};
 
     /// One event: makes a ready operation, counts its touches, and answers its reply and its entry. It takes no memory.
+    #[inline(always)]
     pub fn act(&mut self, op: &S::Op) -> (S::Reply, Entry)
         requires fits { Fits S.meaning (S.fixed self.old.space) op.now }
         requires ready { is_ready S.meaning (S.fixed self.old.space) (S.values self.old.space) op.now ≡ true }
@@ -42,10 +43,6 @@ impl<S: ObjectSpace> Versioned<S> {
         ensures entry { result.1 ≡ entry_of S.meaning (memory_of self.old) op.now }
         ensures memory { memory_of self.new ≡ memory_after S.meaning (memory_of self.old) op.now }
     {
-        let kind = S::kind(op);
-        let touches = S::touches(self.versions.allocator(), op);
-        let found = self.versions.touch_all(&touches);
-        let reply = self.space.apply(op);
-        (reply, Entry { kind, found })
+        self.space.act(&mut self.versions, op)
     }
 }

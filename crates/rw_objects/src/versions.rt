@@ -39,7 +39,8 @@ impl Versions {
         Ok(Versions { counts })
     }
 
-    pub(crate) fn allocator(&self) -> Global {
+    /// The allocator of the counts.
+    pub fn allocator(&self) -> Global {
         *self.counts.allocator()
     }
 
@@ -58,6 +59,7 @@ impl Versions {
 
     /// Counts one touch, and answers what it found. A read adds one to the read total; a write sets it to 0 and adds
     /// one to the version.
+    #[inline]
     pub fn touch(&mut self, touch: Touch) -> Found
         requires within { touch.object < length self.old }
         requires room { CanCount (count_at self.old touch.object) }
@@ -91,8 +93,9 @@ impl Versions {
         }
     }
 
-    /// Counts the one touch of an operation.
-    fn touch_one(&mut self, touch: Touch) -> Few<Found>
+    /// Counts the one touch of an operation, and answers what it found. It takes no memory.
+    #[inline]
+    pub fn touch_one(&mut self, touch: Touch) -> Few<Found>
         requires below { AllBelow (length self.old) (touch ∷ []) }
         requires room { CanCountAll (touch ∷ []) self.old }
         ensures found { result ≡ all_found (touch ∷ []) (count_at self.old) }

@@ -1,22 +1,31 @@
 //! A shared memory with its waiter queues.
 
-ghost use Rattle.std.specs.Prelude.{◌≡◌, ◌+◌, ◌*◌, ◌%◌, ◌<◌, ◌≤◌, ◌==◌, ◌&&◌, cond, length, slice_set, IfOk};
+ghost use Rattle.std.specs.Prelude.{◌≡◌, ◌+◌, ◌*◌, ◌%◌, ◌<◌, ◌≤◌, ◌==◌, ◌&&◌, cond, true, [], ◌∷◌, length, slice_set, IfOk, Some};
 ghost use Rattle.std.specs.List.{All};
 ghost use Rattle.std.specs.Int.{byte_len};
 ghost use Rattle.block_objects.specs.Objects.{block_of, blocks_in};
-ghost use Rattle.block_objects.specs.Access.{is_within, number_at, type_width};
+ghost use Rattle.rw_objects.specs.declared.touch.Mode.TheVariants.{Read, Write};
+ghost use Rattle.rw_objects.specs.declared.entry.Kind.TheVariants as kinds;
+ghost use Rattle.rw_objects.specs.Space.{Fits, RisesFrom, AllBelow, is_ready, reply_of, values_after};
+ghost use Rattle.rw_objects.specs.Counts.{count_at, counts_after, CanCountAll, all_found};
+ghost use Rattle.wasm_types.specs.declared.operation.Reply.TheVariants as replies;
+ghost use Rattle.block_objects.specs.Touches.{touch_of, op_touches, op_kind};
+ghost use Rattle.block_objects.specs.Access.{is_within, number_at, type_width, load_width, access_width, loaded};
 ghost use Rattle.block_objects.specs.Queues.{after_wait, after_notify, after_resume, after_time_out};
 ghost use Rattle.block_objects.specs.Effects.{i32_reply, wait_reply, notify_reply};
-ghost use Rattle.block_objects.specs.Memory.{IsSound, segment_fits};
+ghost use Rattle.block_objects.specs.Memory.{IsSound, access_answer, after_access, segment_fits};
 ghost use Rattle.block_objects.specs.SharedMemory.{shared_memory};
 ghost use Rattle.block_objects.proofs.Laws.{memory_laws};
 ghost use Rattle.waiter_queues.specs.Shared.{queue_at, shared_values, opening_values};
 
 use crate::queues::Queues;
-use block_objects::{Blocks, MemoryLimits, ObjectValue, block_number, ends_within, type_len};
-use rw_objects::{Few, Kind, ObjectSpace, Touch};
+use block_objects::{
+    Blocks, MemoryLimits, ObjectValue, access_len, block_number, ends_within, load_len, lone_block,
+    type_len,
+};
+use rw_objects::{Entry, Few, Kind, Mode, ObjectSpace, Touch, Versions};
 use std::alloc::Global;
-use wasm_types::{Action, Block, Data, NoMemory, Op, Reply, Trap, ValType, Value};
+use wasm_types::{Access, Action, Block, Data, Load, NoMemory, Op, Reply, Trap, ValType, Value};
 
 /// A shared memory as a space of objects: object 0 is its length in pages, object `1 + 2b` is block `b`, and object
 /// `2 + 2b` is the waiter queue of block `b`. All objects up to the capacity exist from the start. The image is the
@@ -59,6 +68,59 @@ impl SharedSpace {
         ensures { result ≡ self.now.blocks.pages }
     {
         self.blocks.pages()
+    }
+
+    /// A load that touches one object, of a block: counts it, and makes the load and its entry.
+    #[inline(always)]
+    fn load_alone(
+        &self,
+        versions: &mut Versions,
+        object: u32,
+        load: Load,
+        address: u32,
+    ) -> (Reply, Entry)
+        requires within { is_within self.now.blocks.pages address (byte_len (load_width load)) ≡ true }
+        requires below { AllBelow (length versions.old) (touch_of Read object ∷ []) }
+        requires room { CanCountAll (touch_of Read object ∷ []) versions.old }
+        ensures reply { result.0 ≡ access_answer self.now.blocks address (load_width load) (λ n. replies.Value (loaded load n)) }
+        ensures entry { result.1 ≡ record { kind = kinds.Access; found = all_found (touch_of Read object ∷ []) (count_at versions.old) } }
+        ensures counts { count_at versions.new ≡ counts_after (touch_of Read object ∷ []) (count_at versions.old) }
+        ensures len { length versions.new ≡ length versions.old }
+    {
+        let mode = Mode::Read;
+        let found = versions.touch_one(Touch { object, mode });
+        let kind = Kind::Access;
+        (
+            self.blocks.load_within(load, address),
+            Entry { kind, found },
+        )
+    }
+
+    /// A store that touches one object, of a block: counts it, and makes the store and its entry.
+    #[inline(always)]
+    fn store_alone(
+        &mut self,
+        versions: &mut Versions,
+        object: u32,
+        access: Access,
+        address: u32,
+        operand: u64,
+    ) -> (Reply, Entry)
+        requires within { is_within self.old.blocks.pages address (byte_len (access_width access)) ≡ true }
+        requires below { AllBelow (length versions.old) (touch_of Write object ∷ []) }
+        requires room { CanCountAll (touch_of Write object ∷ []) versions.old }
+        ensures reply { result.0 ≡ access_answer self.old.blocks address (access_width access) (λ n. replies.Stored) }
+        ensures entry { result.1 ≡ record { kind = kinds.Access; found = all_found (touch_of Write object ∷ []) (count_at versions.old) } }
+        ensures blocks { self.new.blocks ≡ after_access self.old.blocks address (access_width access) (λ n. Some operand) }
+        ensures queues { self.new.queues ≡ self.old.queues }
+        ensures counts { count_at versions.new ≡ counts_after (touch_of Write object ∷ []) (count_at versions.old) }
+        ensures len { length versions.new ≡ length versions.old }
+    {
+        let mode = Mode::Write;
+        let found = versions.touch_one(Touch { object, mode });
+        let reply = self.blocks.store_within(access, address, operand);
+        let kind = Kind::Access;
+        (reply, Entry { kind, found })
     }
 
     /// Compares the number at an address with the expected one, and queues the thread where they are equal.
@@ -106,6 +168,50 @@ impl SharedSpace {
         }
         let at = block_number(block, address) as usize;
         Reply::Value(Value::I32(self.queues.notify(at, address, count)))
+    }
+
+    /// Any operation: finds its touches and counts them, and makes it and its entry. It stays a function of its own, so that
+    /// the short ways can be compiled into the caller.
+    #[inline(never)]
+    fn act_by_touches(&mut self, versions: &mut Versions, op: &Op) -> (Reply, Entry)
+        requires fits { Fits shared_memory self.old.blocks.limits op.now }
+        requires ready { is_ready shared_memory self.old.blocks.limits (shared_values self.old.blocks self.old.queues) op.now ≡ true }
+        requires rising { RisesFrom 0 (op_touches op.now) }
+        requires below { AllBelow (length versions.old) (op_touches op.now) }
+        requires room { CanCountAll (op_touches op.now) versions.old }
+        ensures reply { result.0 ≡ reply_of shared_memory self.old.blocks.limits (shared_values self.old.blocks self.old.queues) op.now }
+        ensures entry { result.1 ≡ record { kind = op_kind op.now; found = all_found (op_touches op.now) (count_at versions.old) } }
+        ensures values { shared_values self.new.blocks self.new.queues ≡ values_after shared_memory self.old.blocks.limits (shared_values self.old.blocks self.old.queues) op.now }
+        ensures limits { self.new.blocks.limits ≡ self.old.blocks.limits }
+        ensures counts { count_at versions.new ≡ counts_after (op_touches op.now) (count_at versions.old) }
+        ensures len { length versions.new ≡ length versions.old }
+    {
+        let kind = block_objects::kind(op);
+        let touches = block_objects::touches(versions.allocator(), op);
+        let found = versions.touch_all(&touches);
+        let reply = self.apply(op);
+        (reply, Entry { kind, found })
+    }
+
+    /// The same, for an operation that goes no short way: the copy of the operation and the place for the answer, which
+    /// `act_by_touches` reaches by their addresses, are made here, so the short ways do not pay for them.
+    #[inline(always)]
+    fn act_the_long_way(&mut self, versions: &mut Versions, op: &Op) -> (Reply, Entry)
+        requires fits { Fits shared_memory self.old.blocks.limits op.now }
+        requires ready { is_ready shared_memory self.old.blocks.limits (shared_values self.old.blocks self.old.queues) op.now ≡ true }
+        requires rising { RisesFrom 0 (op_touches op.now) }
+        requires below { AllBelow (length versions.old) (op_touches op.now) }
+        requires room { CanCountAll (op_touches op.now) versions.old }
+        ensures reply { result.0 ≡ reply_of shared_memory self.old.blocks.limits (shared_values self.old.blocks self.old.queues) op.now }
+        ensures entry { result.1 ≡ record { kind = op_kind op.now; found = all_found (op_touches op.now) (count_at versions.old) } }
+        ensures values { shared_values self.new.blocks self.new.queues ≡ values_after shared_memory self.old.blocks.limits (shared_values self.old.blocks self.old.queues) op.now }
+        ensures limits { self.new.blocks.limits ≡ self.old.blocks.limits }
+        ensures counts { count_at versions.new ≡ counts_after (op_touches op.now) (count_at versions.old) }
+        ensures len { length versions.new ≡ length versions.old }
+    {
+        let other = *op;
+        let (reply, entry) = self.act_by_touches(versions, &other);
+        (reply, entry)
     }
 
     /// A woken thread goes on: its wait answers 0.
@@ -209,6 +315,31 @@ impl ObjectSpace for SharedSpace {
             Action::Resume { thread, address } => self.resume(limits.block, thread, address),
             Action::TimeOut { thread, address } => self.time_out(limits.block, thread, address),
         }
+    }
+
+    /// A load or a store that lies in one block and within the initial length goes a short way: a test of its bounds, one
+    /// count, and the load or the store.
+    #[inline(always)]
+    fn act(&mut self, versions: &mut Versions, op: &Op) -> (Reply, Entry) {
+        let _from_initial = self.blocks.limits();
+        match op.action {
+            Action::Load { load, address } => {
+                if let Some(object) = lone_block(&op.extent, address, load_len(load)) {
+                    return self.load_alone(versions, object, load, address);
+                }
+            }
+            Action::Store {
+                access,
+                address,
+                operand,
+            } => {
+                if let Some(object) = lone_block(&op.extent, address, access_len(access)) {
+                    return self.store_alone(versions, object, access, address, operand);
+                }
+            }
+            _ => {}
+        }
+        self.act_the_long_way(versions, op)
     }
 
     fn image(&self, alloc: Global) -> Result<Vec<u8>, NoMemory> {
