@@ -3,6 +3,7 @@ pub mod Ranges
 pub mod Here
 pub mod Putting
 pub mod Reading
+pub mod Held
 pub mod Straight
 pub mod Variables
 pub mod Bodies
@@ -11,3 +12,4 @@ pub mod Opening
 pub mod Landings
 pub mod Entering
 pub mod Asking
+pub mod Replying

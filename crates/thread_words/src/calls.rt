@@ -14,7 +14,7 @@ use validator::Valid;
 use wasm_types::{Body, NoMemory, Outcome, Trap};
 
 /// How many locals a body declares. No memory has room for as many as there are no numbers for.
-fn declared_locals(body: &Body) -> Result<usize, NoMemory>
+pub fn declared_locals(body: &Body) -> Result<usize, NoMemory>
     ensures ok { IfOk result (λ count. count ≡ length (locals_of body.now.locals)) }
     ensures err { OnErr result (2 ^ 64 ≤ length (locals_of body.now.locals)) }
 {
@@ -36,8 +36,8 @@ fn frame_limit(starting: bool) -> usize
     if starting { 257 } else { 256 }
 }
 
-/// Zeros come in the place of words on top.
-fn put_zeros(words: &mut Vec<u64>, taken: usize, zeros: usize) -> Result<(), NoMemory>
+/// Zeros come in the place of so many words on top. Where memory is wanted the words stay.
+pub fn put_zeros(words: &mut Vec<u64>, taken: usize, zeros: usize) -> Result<(), NoMemory>
     requires { taken ≤ length words.old.items }
     ensures ok { OnOk result (words.new.items ≡ take (length words.old.items - taken) words.old.items ++ replicate zeros 0) }
     ensures err { OnErr result (words.new.items ≡ words.old.items) }

@@ -1,6 +1,7 @@
 //! The steps of a thread on untyped words: one stack of words and one of labels for all of its functions.
 #![tactic(auto)]
 
+mod accesses;
 mod blocks;
 mod branches;
 mod calls;
@@ -13,10 +14,13 @@ mod operands;
 mod replies;
 mod simple;
 mod stacks;
+mod widths;
 
+pub use accesses::{access_of, stop_access};
 pub use blocks::{block, end, end_first_arm};
 pub use branches::{branch, branch_if, branch_table};
-pub use calls::call;
+pub use calls::{call, declared_locals, put_zeros};
+pub use functions::instruction_at;
 pub use indirect::call_indirect;
 pub use leaving::return_now;
 pub use locals::{global_get, global_set, local_get, local_set, local_tee};

@@ -3,7 +3,9 @@
 ghost use Rattle.std.specs.Prelude.{◌≡◌, ℕ, ◌+◌, ◌-◌, ◌<◌, ◌≤◌, ◌^◌, List, [], ◌∷◌, ◌++◌, length, OnOk, OnErr, IsOk, take, drop, get_or, slice_set, vec_capacity};
 ghost use Rattle.wasm_types.specs.declared.value.ValType.TheVariants.{I32};
 ghost use Rattle.integer_ops.specs.Numeric.{bits_of, value_of};
+ghost use Rattle.thread_step.specs.Effect.{operand as operand_bits};
 ghost use Rattle.thread_words.specs.Words.{IsInRange};
+ghost use Rattle.thread_words.specs.Accesses.{Holds, HasOperands};
 ghost use Rattle.thread_words.specs.Fields.{Puts, one_if, HasOperand, IsOperand};
 ghost use Rattle.thread_words.specs.Moves.{Unchanged, HasRoom};
 
@@ -132,4 +134,44 @@ pub(crate) fn i32_operand(m: &Stacks, depth: usize) -> u32
     ensures { IsOperand I32 depth m.now (Value.I32 result) }
 {
     operand(&m.words, depth) as u32
+}
+
+/// The bits of the operand of an access that has one, an i32.
+pub(crate) fn one_operand(m: &Stacks) -> u32
+    requires { HasOperands (I32 ∷ []) m.now }
+    ensures { (vs : List Value) → Holds (I32 ∷ []) vs m.now → result ≡ operand_bits 0 vs }
+{
+    operand(&m.words, 0) as u32
+}
+
+/// The bits of the operands of an access that has two, the first of which is an i32.
+pub(crate) fn two_operands(m: &Stacks) -> (u32, u64)
+    requires { (t : ValType) × HasOperands (I32 ∷ t ∷ []) m.now }
+    ensures first { (t : ValType) (vs : List Value) → Holds (I32 ∷ t ∷ []) vs m.now → result.0 ≡ operand_bits 0 vs }
+    ensures second { (t : ValType) (vs : List Value) → Holds (I32 ∷ t ∷ []) vs m.now → result.1 ≡ operand_bits 1 vs }
+{
+    (operand(&m.words, 1) as u32, operand(&m.words, 0))
+}
+
+/// The bits of the operands of an access that has two, both of them i32.
+pub(crate) fn two_i32_operands(m: &Stacks) -> (u32, u32)
+    requires { HasOperands (I32 ∷ I32 ∷ []) m.now }
+    ensures first { (vs : List Value) → Holds (I32 ∷ I32 ∷ []) vs m.now → result.0 ≡ operand_bits 0 vs }
+    ensures second { (vs : List Value) → Holds (I32 ∷ I32 ∷ []) vs m.now → result.1 ≡ operand_bits 1 vs }
+{
+    (operand(&m.words, 1) as u32, operand(&m.words, 0) as u32)
+}
+
+/// The bits of the operands of an access that has three, the first of which is an i32.
+pub(crate) fn three_operands(m: &Stacks) -> (u32, u64, u64)
+    requires { (t u : ValType) × HasOperands (I32 ∷ t ∷ u ∷ []) m.now }
+    ensures first { (t u : ValType) (vs : List Value) → Holds (I32 ∷ t ∷ u ∷ []) vs m.now → result.0 ≡ operand_bits 0 vs }
+    ensures second { (t u : ValType) (vs : List Value) → Holds (I32 ∷ t ∷ u ∷ []) vs m.now → result.1 ≡ operand_bits 1 vs }
+    ensures third { (t u : ValType) (vs : List Value) → Holds (I32 ∷ t ∷ u ∷ []) vs m.now → result.2 ≡ operand_bits 2 vs }
+{
+    (
+        operand(&m.words, 2) as u32,
+        operand(&m.words, 1),
+        operand(&m.words, 0),
+    )
 }

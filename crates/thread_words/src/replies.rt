@@ -6,10 +6,10 @@ ghost use Rattle.validator.specs.Table.{access_type, narrow_type};
 ghost use Rattle.integer_ops.specs.Numeric.{bits_of};
 ghost use Rattle.thread_step.specs.Thread.{value_by};
 ghost use Rattle.thread_words.specs.Fields.{Puts};
-ghost use Rattle.thread_words.specs.Accesses.{takes_of, reply_of, reply_words, WakesWith, IsPlainAccess, CanAsk, Answers, IsAsleep, Wakes};
+ghost use Rattle.thread_words.specs.Accesses.{takes_of, reply_of, wait_offset, reply_words, WakesWith, IsAccess, CanAsk, Answers, CanWait, FallsAsleep, IsAsleep, Wakes};
 ghost use Rattle.thread_words.specs.Moves.{Unchanged, HasRoom};
 
-use crate::operands::{drop_top, push, replace_top, word};
+use crate::operands::{drop_top, push, replace_top, three_operands, word};
 use crate::stacks::{Stacks, Stage};
 use wasm_types::{
     Access, AtomicOp, Instr, Load, MemoryOp, Narrow, NoMemory, Outcome, PagesOp, Reply, ValType,
@@ -71,7 +71,7 @@ fn access_type(access: Access) -> ValType
 
 /// How many operands an access takes.
 fn operand_count(instr: Instr) -> usize
-    requires { IsPlainAccess instr }
+    requires { IsAccess instr }
     ensures { result ≡ length (takes_of instr) }
 {
     match instr {
@@ -80,6 +80,7 @@ fn operand_count(instr: Instr) -> usize
         Instr::Pages(PagesOp::Size) => 0,
         Instr::Pages(PagesOp::Grow) => 1,
         Instr::Atomic(AtomicOp::Notify, _) => 2,
+        Instr::Atomic(AtomicOp::Wait(_), _) => 3,
         Instr::Atomic(AtomicOp::Load(_), _) => 1,
         Instr::Atomic(AtomicOp::Store(_), _) => 2,
         Instr::Atomic(AtomicOp::Rmw(_, _), _) => 2,
@@ -90,7 +91,7 @@ fn operand_count(instr: Instr) -> usize
 
 /// The type of the value that the reply to an access leaves, if it leaves one.
 fn reply_type(instr: Instr) -> Option<ValType>
-    requires { IsPlainAccess instr }
+    requires { IsAccess instr }
     ensures { result ≡ reply_of instr }
 {
     match instr {
@@ -99,6 +100,7 @@ fn reply_type(instr: Instr) -> Option<ValType>
         Instr::Memory(MemoryOp::Store(_), _) => None,
         Instr::Pages(_) => Some(ValType::I32),
         Instr::Atomic(AtomicOp::Notify, _) => Some(ValType::I32),
+        Instr::Atomic(AtomicOp::Wait(_), _) => Some(ValType::I32),
         Instr::Atomic(AtomicOp::Load(access), _) => Some(access_type(access)),
         Instr::Atomic(AtomicOp::Store(_), _) => None,
         Instr::Atomic(AtomicOp::Rmw(_, access), _) => Some(access_type(access)),
@@ -107,9 +109,33 @@ fn reply_type(instr: Instr) -> Option<ValType>
     }
 }
 
-/// The reply to an access that is no wait: its operands go, and the value of the reply comes. A trap stops the thread.
+/// The offset of a wait, and nothing for another instruction.
+fn wait_offset(instr: Instr) -> Option<u32>
+    ensures { result ≡ wait_offset instr }
+{
+    match instr {
+        Instr::Atomic(AtomicOp::Wait(_), argument) => Some(argument.offset),
+        _ => None,
+    }
+}
+
+/// Takes the operands of a wait with this offset, and sleeps at its effective address.
+fn fall_asleep(m: &mut Stacks, offset: u32)
+    requires { CanWait offset m.old }
+    ensures { FallsAsleep offset m.old m.new }
+{
+    let (base, _, time) = three_operands(m);
+    drop_top(m, 3);
+    m.stage = Stage::Sleeping {
+        address: base + offset,
+        time: time.cast_signed(),
+    };
+}
+
+/// The reply to an access: its operands go, and the value of the reply comes, or the thread sleeps behind its wait. A
+/// trap stops the thread.
 pub fn answer(m: &mut Stacks, instr: Instr, reply: Reply) -> Result<(), NoMemory>
-    requires access { IsPlainAccess instr }
+    requires access { IsAccess instr }
     requires can { CanAsk instr m.old }
     ensures ok { OnOk result (Answers instr reply m.old m.new) }
     ensures err { OnErr result (Unchanged m.old m.new) }
@@ -124,7 +150,13 @@ pub fn answer(m: &mut Stacks, instr: Instr, reply: Reply) -> Result<(), NoMemory
         }
         Reply::Value(value) => resume(m, taken, t, word(value)),
         Reply::Stored => resume(m, taken, t, 0),
-        Reply::Sleeps => resume(m, taken, t, 0),
+        Reply::Sleeps => match wait_offset(instr) {
+            Some(offset) => {
+                fall_asleep(m, offset);
+                Ok(())
+            }
+            None => resume(m, taken, t, 0),
+        },
     }
 }
 
