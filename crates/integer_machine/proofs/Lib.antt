@@ -1,4 +1,7 @@
-pub mod Asking
-pub mod Machine
+pub mod Going
 pub mod Meaning
+pub mod Moving
+pub mod Beginning
+pub mod Choosing
+pub mod Counting
 pub mod Putting

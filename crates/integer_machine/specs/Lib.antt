@@ -1,2 +1,5 @@
-pub mod ThreadCode
 pub mod Meaning
+pub mod Entry
+pub mod First
+pub mod Rooms
+pub mod Sound

@@ -3,7 +3,12 @@
 
 mod instance;
 mod laws;
+mod moves;
+mod opening;
+mod state;
+mod step;
 mod table;
 
 pub use instance::instance_for;
-pub use laws::{fields_have_one_meaning, threads_are_machines};
+pub use laws::fields_have_one_meaning;
+pub use state::ThreadState;

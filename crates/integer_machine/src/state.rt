@@ -1,0 +1,191 @@
+//! Threads of a plan.
+
+ghost use Rattle.std.specs.Prelude.{◌≡◌, ◌<◌, ◌≤◌, IfOk, Some, length};
+ghost use Rattle.wasm_types.specs.declared.modules.Body.{Body as FunctionBody};
+ghost use Rattle.thread_plan.specs.Plans.{IsPlanOf};
+ghost use Rattle.integer_machine.specs.Sound.{HasMostOf};
+ghost use Rattle.integer_machine.specs.First.{first_of};
+
+use crate::instance::instance_for;
+use crate::moves::{local_of, next_of, take_of};
+use crate::opening::opening_stacks;
+use rw_objects::{Machine, Next};
+use std::alloc::Global;
+use std::marker::Model;
+use thread_plan::Plan;
+use thread_words::{Instance, Stacks, declared_locals};
+use validator::Valid;
+use waiter_queues::SharedSpace;
+use wasm_types::{Body, NoMemory, Op, Profile, Reply};
+
+/// What contracts see of a thread.
+pub struct ThreadSeen {}
+
+impl Model for ThreadSeen {
+    ghost use Rattle.thread_code.specs.ThreadCode.{ThreadAt, no_thread};
+
+    ghost Value = { ThreadAt };
+
+    ghost view = { λ _. no_thread };
+}
+
+/// One thread of a plan, which runs an exported function of a valid module over a shared memory, step by step
+/// (WebAssembly Core 1.0, execution; threads proposal). Contracts see its typed state, how many steps it made, and the
+/// room that is left in its stacks.
+#[derive(Drop)]
+pub struct ThreadState<'a> {
+    valid: &'a Valid,
+    instance: Instance,
+    stacks: Stacks,
+    steps: u32,
+    /// No function declares more locals.
+    most_locals: usize,
+}
+
+impl<'a> Model for ThreadState<'a> {
+    ghost use Rattle.std.specs.Prelude.{◌-◌, vec_len, vec_capacity};
+    ghost use Rattle.thread_words.specs.Words.{instance_at};
+    ghost use Rattle.integer_machine.specs.Meaning.{meaning};
+    ghost use Rattle.integer_machine.specs.Sound.{ThreadWithRoom, Sound, HasMost};
+
+    ghost Value = { ThreadWithRoom };
+
+    ghost view = { λ t. record {
+      thread = record { within = t.valid.now; instance = instance_at t.instance; state = meaning t.valid.now t.stacks; steps = t.steps };
+      most_locals = t.most_locals;
+      words_left = vec_capacity t.stacks.words - vec_len t.stacks.words;
+      labels_left = vec_capacity t.stacks.labels - vec_len t.stacks.labels;
+      callers_left = vec_capacity t.stacks.callers - vec_len t.stacks.callers;
+    } };
+
+    ghost invariant = { λ t. Sound t.valid.now t.instance t.stacks × HasMost t.valid.now t.most_locals };
+}
+
+/// The greatest number of locals that a function declares.
+fn most_locals(bodies: &[Body]) -> Result<usize, NoMemory>
+    ensures { IfOk result (λ most. HasMostOf bodies.now most) }
+{
+    let mut most = 0;
+    for body in bodies {
+        most = most.max(declared_locals(body)?);
+    }
+    Ok(most)
+}
+
+/// The greatest number of steps of a thread.
+const MOST_STEPS: u32 = 1_000_000_000;
+
+impl<'a> ThreadState<'a> {
+    /// A thread of a plan by its number, before its first step. The plan is one of the same module.
+    pub fn new(
+        alloc: Global,
+        valid: &'a Valid,
+        plan: &Plan,
+        thread: u32,
+        profile: Profile,
+    ) -> Result<ThreadState<'a>, NoMemory>
+        requires plan { IsPlanOf valid.now plan.now }
+        requires there { thread < length plan.now.threads }
+        ensures { IfOk result (λ t. first_of valid.now plan.now profile thread ≡ Some t.thread) }
+    {
+        let Some(planned) = plan.thread(thread) else {
+            unreachable!()
+        };
+        let module = valid.module();
+        let most_locals = most_locals(module.bodies.as_slice())?;
+        let instance = instance_for(alloc, module, profile, thread)?;
+        let arguments = planned.arguments.as_slice();
+        let stacks = opening_stacks(alloc, valid, planned.function, arguments)?;
+        Ok(ThreadState {
+            valid,
+            instance,
+            stacks,
+            steps: 0,
+            most_locals,
+        })
+    }
+}
+
+impl<'a> Machine<SharedSpace> for ThreadState<'a> {
+    ghost use Rattle.integer_machine.specs.Sound.{thread_of, HasRoomLeft};
+    ghost use Rattle.thread_code.specs.ThreadCode.{thread_code};
+    ghost use Rattle.thread_code.proofs.Machine.{threads_are_machines};
+
+    type State = ThreadSeen;
+
+    ghost code = { thread_code };
+
+    ghost state = { thread_of };
+
+    ghost has_room = { HasRoomLeft };
+
+    fn next(&self) -> Next<Op> {
+        next_of(self.valid, &self.instance, &self.stacks)
+    }
+
+    fn steps(&self) -> u32 {
+        self.steps
+    }
+
+    fn local(&mut self) -> Result<(), NoMemory> {
+        local_of(self.valid, &self.instance, &mut self.stacks)?;
+        self.steps += 1;
+        Ok(())
+    }
+
+    fn take(&mut self, reply: Reply) -> Result<(), NoMemory> {
+        take_of(self.valid, &self.instance, &mut self.stacks, reply)?;
+        self.steps += 1;
+        Ok(())
+    }
+
+    fn room(&mut self) -> Result<(), NoMemory> {
+        let words = self.most_locals.saturating_add(1);
+        self.stacks.words.reserve(words)?;
+        self.stacks.labels.reserve(1)?;
+        self.stacks.callers.reserve(1)?;
+        Ok(())
+    }
+
+    ghost laws = { threads_are_machines };
+}
+
+impl<'a> ThreadState<'a> {
+    ghost use Rattle.std.specs.Prelude.{ℕ, IfOk, OnErr};
+    ghost use Rattle.rw_objects.specs.declared.next.Next.TheVariants.{Local};
+    ghost use Rattle.thread_code.specs.ThreadCode.{thread_code, GoesLocally, IsAtEnd, TriesLocally};
+
+    /// Makes a step where the next one is local, and says whether it did. Where memory is wanted the thread stays as it
+    /// was.
+    fn try_local(&mut self) -> Result<bool, NoMemory>
+        ensures ok { IfOk result (λ made. TriesLocally made self.old.thread self.new.thread) }
+        ensures err { OnErr result (self.new.thread ≡ self.old.thread) }
+        ensures local { OnErr result (thread_code.next self.old.thread ≡ Local) }
+    {
+        if self.steps >= MOST_STEPS {
+            return Ok(false);
+        }
+        let Next::Local = self.next() else {
+            return Ok(false);
+        };
+        self.local()?;
+        Ok(true)
+    }
+
+    /// Makes local steps, as many as there are, but no more than `most`, and answers how many it made. Where memory is
+    /// wanted for a step, those before it are made, and it stays the next.
+    pub fn local_run(&mut self, most: u32) -> Result<u32, NoMemory>
+        ensures goes { IfOk result (λ made. GoesLocally made self.old.thread self.new.thread) }
+        ensures few { IfOk result (λ made. made ≤ most) }
+        ensures all { IfOk result (λ made. made < most → IsAtEnd self.new.thread) }
+        ensures err { OnErr result ((made : ℕ) × GoesLocally made self.old.thread self.new.thread) }
+        ensures local { OnErr result (thread_code.next self.new.thread ≡ Local) }
+    {
+        for made in 0..most {
+            if !self.try_local()? {
+                return Ok(made);
+            }
+        }
+        Ok(most)
+    }
+}

@@ -1,0 +1,79 @@
+//! The step of a thread by the instruction at which it stands.
+
+ghost use Rattle.std.specs.Prelude.{OnOk, OnErr, IsOk};
+ghost use Rattle.wasm_types.specs.declared.instruction.Instr.TheVariants.{Plain as PlainInstr, Index as IndexInstr};
+ghost use Rattle.thread_step.specs.Instance.{Instance as StepInstance};
+ghost use Rattle.thread_words.specs.Words.{instance_at};
+ghost use Rattle.thread_words.specs.Moves.{CanStep, Steps, CanStepIn, StepsIn, Unchanged};
+ghost use Rattle.integer_machine.specs.Rooms.{IsNoAccess, HasRoomFor};
+
+use thread_words::{
+    Instance, Stacks, block, branch, branch_if, branch_table, call, call_indirect, constant,
+    discard, end, end_first_arm, fence, global_get, global_set, local_get, local_set, local_tee,
+    nop, numeric, return_now, select, unreachable,
+};
+use validator::Valid;
+use wasm_types::{IndexOp, Instr, NoMemory, Plain};
+
+/// Makes the step of an instruction of one byte that is not numeric. It takes no memory.
+fn plain_step(m: &mut Stacks, valid: &Valid, op: Plain)
+    requires { CanStepIn valid.now (PlainInstr op) m.old }
+    ensures { StepsIn valid.now (PlainInstr op) m.old m.new }
+{
+    match op {
+        Plain::Unreachable => unreachable(m),
+        Plain::Nop => nop(m),
+        Plain::Else => end_first_arm(m, valid),
+        Plain::End => end(m, valid),
+        Plain::Return => return_now(m, valid),
+        Plain::Discard => discard(m),
+        Plain::Select => select(m),
+    }
+}
+
+/// Makes the step of an instruction with one index. Where memory is wanted, all stays as it was.
+fn index_step(m: &mut Stacks, valid: &Valid, op: IndexOp, index: u32) -> Result<(), NoMemory>
+    requires { CanStepIn valid.now (IndexInstr op index) m.old }
+    ensures ok { OnOk result (StepsIn valid.now (IndexInstr op index) m.old m.new) }
+    ensures err { OnErr result (Unchanged m.old m.new) }
+    ensures room { (instance : StepInstance) → HasRoomFor valid.now instance (IndexInstr op index) m.old → IsOk result }
+{
+    match op {
+        IndexOp::Branch => branch(m, valid, index),
+        IndexOp::BranchIf => branch_if(m, valid, index),
+        IndexOp::Call => return call(m, valid, index),
+        IndexOp::LocalGet => return local_get(m, index),
+        IndexOp::LocalSet => local_set(m, index),
+        IndexOp::LocalTee => local_tee(m, index),
+        IndexOp::GlobalGet => return global_get(m, index),
+        IndexOp::GlobalSet => global_set(m, index),
+    }
+    Ok(())
+}
+
+/// Makes the step of an instruction that touches no object. Where memory is wanted, all stays as it was.
+pub(crate) fn step(
+    m: &mut Stacks,
+    valid: &Valid,
+    instance: &Instance,
+    instr: Instr,
+) -> Result<(), NoMemory>
+    requires no_access { IsNoAccess instr }
+    requires can { CanStep valid.now (instance_at instance.now) instr m.old }
+    ensures ok { OnOk result (Steps valid.now (instance_at instance.now) instr m.old m.new) }
+    ensures err { OnErr result (Unchanged m.old m.new) }
+    ensures room { HasRoomFor valid.now (instance_at instance.now) instr m.old → IsOk result }
+{
+    match instr {
+        Instr::Plain(op) => plain_step(m, valid, op),
+        Instr::Numeric(op) => numeric(m, op),
+        Instr::Block(kind, _) => return block(m, valid, kind),
+        Instr::Index(op, index) => return index_step(m, valid, op, index),
+        Instr::BranchTable(range, default) => branch_table(m, valid, range, default),
+        Instr::CallIndirect(index) => return call_indirect(m, valid, instance, index),
+        Instr::Const(value) => return constant(m, value),
+        Instr::Fence => fence(m),
+        Instr::Memory(_, _) | Instr::Pages(_) | Instr::Atomic(_, _) => unreachable!(),
+    }
+    Ok(())
+}

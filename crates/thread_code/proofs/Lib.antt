@@ -1,0 +1,4 @@
+pub mod Acts
+pub mod Asking
+pub mod Machine
+pub mod Runs
