@@ -1,4 +1,5 @@
 pub mod Going
+pub mod Tries
 pub mod Meaning
 pub mod Moving
 pub mod Beginning

@@ -3,3 +3,4 @@ pub mod Entry
 pub mod First
 pub mod Rooms
 pub mod Sound
+pub mod Trying

@@ -3,7 +3,6 @@
 ghost use Rattle.std.specs.Prelude.{◌≡◌, ℕ, ◌+◌, true, false, OnOk, OnErr, IsOk, option_map};
 ghost use Rattle.wasm_types.specs.declared.instruction.Instr.{Instr as Instruction};
 ghost use Rattle.rw_objects.specs.Code.{TakesReply};
-ghost use Rattle.rw_objects.specs.declared.next.Next.TheVariants.{Local};
 ghost use Rattle.thread_step.specs.Thread.{move, time_out};
 ghost use Rattle.thread_words.specs.declared.stacks.Stage.TheVariants.{Running};
 ghost use Rattle.thread_words.specs.Accesses.{IsAccess};
@@ -13,26 +12,30 @@ ghost use Rattle.thread_words.specs.Words.{instance_at};
 ghost use Rattle.integer_machine.specs.Meaning.{meaning};
 ghost use Rattle.integer_machine.specs.Rooms.{IsNoAccess};
 ghost use Rattle.integer_machine.specs.Sound.{Sound, HasMost};
+ghost use Rattle.integer_machine.specs.Trying.{IsNextLocal};
 ghost use Rattle.thread_code.specs.ThreadCode.{op_of, next_by, local_by, replied_by};
 
-use crate::step::step;
+use crate::trying::try_step;
 use rw_objects::Next;
-use thread_words::{Instance, Stacks, Stage, access_of, answer, instruction_at, stop_access, wake};
+use thread_words::{
+    Instance, Stacks, Stage, access_of, answer, code_of_function, instruction_at, wake,
+};
 use validator::Valid;
 use wasm_types::{Action, Instr, NoMemory, Op, Reply};
 
 /// Whether an instruction is an access of the memory, or one that asks for its length.
-fn is_access(instr: Instr) -> bool
-    ensures access { result ≡ true → IsAccess instr }
-    ensures no_access { result ≡ false → IsNoAccess instr }
+pub(crate) fn is_access(instr: &Instr) -> bool
+    ensures access { result ≡ true → IsAccess instr.now }
+    ensures no_access { result ≡ false → IsNoAccess instr.now }
 {
     matches!(
-        instr,
+        *instr,
         Instr::Memory(_, _) | Instr::Pages(_) | Instr::Atomic(_, _)
     )
 }
 
 /// An operation that carries the memory's numbers.
+#[inline(always)]
 fn operation(instance: &Instance, action: Action) -> Op
     ensures { result ≡ op_of (instance_at instance.now) action }
 {
@@ -54,14 +57,16 @@ fn time_out_of(instance: &Instance, address: u32, time: i64) -> Option<Op>
 }
 
 /// The instruction at which a thread that runs stands.
-fn instruction(valid: &Valid, m: &Stacks) -> Instr
+#[inline(always)]
+fn instruction<'a>(valid: &'a Valid, m: &Stacks) -> &'a Instr
     requires { (i : Instruction) × InstructionAt valid.now m.now.here.function m.now.here.place i }
-    ensures { (i : Instruction) → InstructionAt valid.now m.now.here.function m.now.here.place i → result ≡ i }
+    ensures { (i : Instruction) → InstructionAt valid.now m.now.here.function m.now.here.place i → result.now ≡ i }
 {
     instruction_at(valid, m.here.function, m.here.place)
 }
 
 /// What a thread that runs does next.
+#[inline(always)]
 fn next_running(valid: &Valid, instance: &Instance, m: &Stacks) -> Next<Op>
     requires sound { Sound valid.now instance.now m.now }
     requires running { m.now.stage ≡ Running }
@@ -71,13 +76,14 @@ fn next_running(valid: &Valid, instance: &Instance, m: &Stacks) -> Next<Op>
     if !is_access(instr) {
         return Next::Local;
     }
-    match access_of(m, instance, instr) {
+    match access_of(m, instance, *instr) {
         Ok(action) => Next::Ask(operation(instance, action)),
         Err(_) => Next::Local,
     }
 }
 
 /// What a thread does next.
+#[inline(always)]
 pub(crate) fn next_of(valid: &Valid, instance: &Instance, m: &Stacks) -> Next<Op>
     requires { Sound valid.now instance.now m.now }
     ensures { result ≡ next_by (instance_at instance.now) (move valid.now (instance_at instance.now) (meaning valid.now m.now)) }
@@ -98,21 +104,19 @@ pub(crate) fn next_of(valid: &Valid, instance: &Instance, m: &Stacks) -> Next<Op
 /// Makes a local step. Where memory is wanted the thread stays as it was.
 pub(crate) fn local_of(valid: &Valid, instance: &Instance, m: &mut Stacks) -> Result<(), NoMemory>
     requires sound { Sound valid.now instance.now m.old }
-    requires next { next_by (instance_at instance.now) (move valid.now (instance_at instance.now) (meaning valid.now m.old)) ≡ Local }
+    requires next { IsNextLocal valid.now instance.now m.old }
     ensures ok { OnOk result (meaning valid.now m.new ≡ local_by (meaning valid.now m.old) (move valid.now (instance_at instance.now) (meaning valid.now m.old))) }
     ensures sound { OnOk result (Sound valid.now instance.now m.new) }
     ensures err { OnErr result (Unchanged m.old m.new) }
     ensures room { (most : ℕ) → HasMost valid.now most → HasRoom (most + 1) m.old → IsOk result }
 {
-    let instr = instruction(valid, m);
-    if is_access(instr) {
-        stop_access(m, instance, instr);
-        return Ok(());
-    }
-    step(m, valid, instance, instr)
+    let code = code_of_function(valid, m.here.function);
+    let _tried = try_step(valid, instance, m, code)?;
+    Ok(())
 }
 
 /// Takes the reply of an operation. Where memory is wanted the thread stays as it was.
+#[inline(always)]
 pub(crate) fn take_of(
     valid: &Valid,
     instance: &Instance,
@@ -129,7 +133,7 @@ pub(crate) fn take_of(
     match m.stage {
         Stage::Running => {
             let instr = instruction(valid, m);
-            answer(m, instr, reply)
+            answer(m, *instr, reply)
         }
         _ => wake(m, reply),
     }

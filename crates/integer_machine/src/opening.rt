@@ -10,20 +10,9 @@ ghost use Rattle.thread_words.specs.Words.{words_of, IsInRange, AreInRange, Stan
 ghost use Rattle.integer_machine.specs.Entry.{entry_words, HasType};
 
 use std::alloc::Global;
-use thread_words::{Level, Stacks, Stage, declared_locals, put_zeros};
+use thread_words::{Level, Stacks, Stage, declared_locals, put_zeros, word};
 use validator::Valid;
 use wasm_types::{Body, Module, NoMemory, Value};
-
-/// The bits of a value as a word.
-fn word(value: Value) -> u64
-    ensures bits { result ≡ bits_of value }
-    ensures range { IsInRange value }
-{
-    match value {
-        Value::I32(bits) => u64::from(bits),
-        Value::I64(bits) => bits,
-    }
-}
 
 /// Gives the words of values.
 fn push_values(words: &mut Vec<u64>, values: &[Value]) -> Result<(), NoMemory>

@@ -9,6 +9,7 @@ ghost use Rattle.integer_machine.specs.First.{first_of};
 use crate::instance::instance_for;
 use crate::moves::{local_of, next_of, take_of};
 use crate::opening::opening_stacks;
+use crate::running::run_locally;
 use rw_objects::{Machine, Next};
 use std::alloc::Global;
 use std::marker::Model;
@@ -119,6 +120,7 @@ impl<'a> Machine<SharedSpace> for ThreadState<'a> {
 
     ghost has_room = { HasRoomLeft };
 
+    #[inline(always)]
     fn next(&self) -> Next<Op> {
         next_of(self.valid, &self.instance, &self.stacks)
     }
@@ -133,6 +135,7 @@ impl<'a> Machine<SharedSpace> for ThreadState<'a> {
         Ok(())
     }
 
+    #[inline(always)]
     fn take(&mut self, reply: Reply) -> Result<(), NoMemory> {
         take_of(self.valid, &self.instance, &mut self.stacks, reply)?;
         self.steps += 1;
@@ -153,24 +156,7 @@ impl<'a> Machine<SharedSpace> for ThreadState<'a> {
 impl<'a> ThreadState<'a> {
     ghost use Rattle.std.specs.Prelude.{ℕ, IfOk, OnErr};
     ghost use Rattle.rw_objects.specs.declared.next.Next.TheVariants.{Local};
-    ghost use Rattle.thread_code.specs.ThreadCode.{thread_code, GoesLocally, IsAtEnd, TriesLocally};
-
-    /// Makes a step where the next one is local, and says whether it did. Where memory is wanted the thread stays as it
-    /// was.
-    fn try_local(&mut self) -> Result<bool, NoMemory>
-        ensures ok { IfOk result (λ made. TriesLocally made self.old.thread self.new.thread) }
-        ensures err { OnErr result (self.new.thread ≡ self.old.thread) }
-        ensures local { OnErr result (thread_code.next self.old.thread ≡ Local) }
-    {
-        if self.steps >= MOST_STEPS {
-            return Ok(false);
-        }
-        let Next::Local = self.next() else {
-            return Ok(false);
-        };
-        self.local()?;
-        Ok(true)
-    }
+    ghost use Rattle.thread_code.specs.ThreadCode.{thread_code, GoesLocally, IsAtEnd};
 
     /// Makes local steps, as many as there are, but no more than `most`, and answers how many it made. Where memory is
     /// wanted for a step, those before it are made, and it stays the next.
@@ -181,11 +167,11 @@ impl<'a> ThreadState<'a> {
         ensures err { OnErr result ((made : ℕ) × GoesLocally made self.old.thread self.new.thread) }
         ensures local { OnErr result (thread_code.next self.new.thread ≡ Local) }
     {
-        for made in 0..most {
-            if !self.try_local()? {
-                return Ok(made);
-            }
-        }
-        Ok(most)
+        let first = self.steps;
+        let last = first + MOST_STEPS.saturating_sub(first).min(most);
+        let (steps, end) = run_locally(self.valid, &self.instance, &mut self.stacks, first, last);
+        self.steps = steps;
+        end?;
+        Ok(steps - first)
     }
 }

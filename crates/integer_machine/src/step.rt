@@ -1,9 +1,10 @@
 //! The step of a thread by the instruction at which it stands.
 
-ghost use Rattle.std.specs.Prelude.{OnOk, OnErr, IsOk};
+ghost use Rattle.std.specs.Prelude.{◌≡◌, true, IfOk, OnOk, OnErr, IsOk};
 ghost use Rattle.wasm_types.specs.declared.instruction.Instr.TheVariants.{Plain as PlainInstr, Index as IndexInstr};
 ghost use Rattle.thread_step.specs.Instance.{Instance as StepInstance};
 ghost use Rattle.thread_words.specs.Words.{instance_at};
+ghost use Rattle.thread_words.specs.Fields.{Keeps};
 ghost use Rattle.thread_words.specs.Moves.{CanStep, Steps, CanStepIn, StepsIn, Unchanged};
 ghost use Rattle.integer_machine.specs.Rooms.{IsNoAccess, HasRoomFor};
 
@@ -31,49 +32,71 @@ fn plain_step(m: &mut Stacks, valid: &Valid, op: Plain)
     }
 }
 
-/// Makes the step of an instruction with one index. Where memory is wanted, all stays as it was.
-fn index_step(m: &mut Stacks, valid: &Valid, op: IndexOp, index: u32) -> Result<(), NoMemory>
+/// Makes the step of an instruction with one index, and answers whether the same function is known to go on. Where memory
+/// is wanted, all stays as it was.
+fn index_step(m: &mut Stacks, valid: &Valid, op: IndexOp, index: u32) -> Result<bool, NoMemory>
     requires { CanStepIn valid.now (IndexInstr op index) m.old }
     ensures ok { OnOk result (StepsIn valid.now (IndexInstr op index) m.old m.new) }
+    ensures kept { IfOk result (λ same. same ≡ true → Keeps m.old m.new) }
     ensures err { OnErr result (Unchanged m.old m.new) }
     ensures room { (instance : StepInstance) → HasRoomFor valid.now instance (IndexInstr op index) m.old → IsOk result }
 {
     match op {
         IndexOp::Branch => branch(m, valid, index),
         IndexOp::BranchIf => branch_if(m, valid, index),
-        IndexOp::Call => return call(m, valid, index),
-        IndexOp::LocalGet => return local_get(m, index),
-        IndexOp::LocalSet => local_set(m, index),
-        IndexOp::LocalTee => local_tee(m, index),
-        IndexOp::GlobalGet => return global_get(m, index),
-        IndexOp::GlobalSet => global_set(m, index),
+        IndexOp::Call => call(m, valid, index)?,
+        IndexOp::LocalGet => {
+            local_get(m, index)?;
+            return Ok(true);
+        }
+        IndexOp::LocalSet => {
+            local_set(m, index);
+            return Ok(true);
+        }
+        IndexOp::LocalTee => {
+            local_tee(m, index);
+            return Ok(true);
+        }
+        IndexOp::GlobalGet => {
+            global_get(m, index)?;
+            return Ok(true);
+        }
+        IndexOp::GlobalSet => {
+            global_set(m, index);
+            return Ok(true);
+        }
     }
-    Ok(())
+    Ok(false)
 }
 
-/// Makes the step of an instruction that touches no object. Where memory is wanted, all stays as it was.
+/// Makes the step of an instruction that touches no object, and answers whether the same function is known to go on.
+/// Where memory is wanted, all stays as it was.
 pub(crate) fn step(
     m: &mut Stacks,
     valid: &Valid,
     instance: &Instance,
-    instr: Instr,
-) -> Result<(), NoMemory>
-    requires no_access { IsNoAccess instr }
-    requires can { CanStep valid.now (instance_at instance.now) instr m.old }
-    ensures ok { OnOk result (Steps valid.now (instance_at instance.now) instr m.old m.new) }
+    instr: &Instr,
+) -> Result<bool, NoMemory>
+    requires no_access { IsNoAccess instr.now }
+    requires can { CanStep valid.now (instance_at instance.now) instr.now m.old }
+    ensures ok { OnOk result (Steps valid.now (instance_at instance.now) instr.now m.old m.new) }
+    ensures kept { IfOk result (λ same. same ≡ true → Keeps m.old m.new) }
     ensures err { OnErr result (Unchanged m.old m.new) }
-    ensures room { HasRoomFor valid.now (instance_at instance.now) instr m.old → IsOk result }
+    ensures room { HasRoomFor valid.now (instance_at instance.now) instr.now m.old → IsOk result }
 {
-    match instr {
-        Instr::Plain(op) => plain_step(m, valid, op),
-        Instr::Numeric(op) => numeric(m, op),
-        Instr::Block(kind, _) => return block(m, valid, kind),
+    match *instr {
+        Instr::Numeric(op) => return Ok(numeric(m, op)),
         Instr::Index(op, index) => return index_step(m, valid, op, index),
+        Instr::Const(value) => {
+            constant(m, value)?;
+            return Ok(true);
+        }
+        Instr::Plain(op) => plain_step(m, valid, op),
+        Instr::Block(kind, _) => block(m, valid, kind)?,
         Instr::BranchTable(range, default) => branch_table(m, valid, range, default),
-        Instr::CallIndirect(index) => return call_indirect(m, valid, instance, index),
-        Instr::Const(value) => return constant(m, value),
+        Instr::CallIndirect(index) => call_indirect(m, valid, instance, index)?,
         Instr::Fence => fence(m),
         Instr::Memory(_, _) | Instr::Pages(_) | Instr::Atomic(_, _) => unreachable!(),
     }
-    Ok(())
+    Ok(false)
 }

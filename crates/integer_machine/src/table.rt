@@ -7,7 +7,8 @@ ghost use Rattle.thread_step.specs.Opening.{with_functions, with_elements, empty
 ghost use Rattle.integer_ops.specs.Numeric.{bits_of};
 
 use std::alloc::Global;
-use wasm_types::{Element, Limits, Module, NoMemory, Value};
+use thread_words::word;
+use wasm_types::{Limits, Module, NoMemory};
 
 /// Puts functions into a table from a place on.
 fn put_functions(table: &mut Vec<Option<u32>>, at: usize, functions: &[u32])
@@ -16,16 +17,6 @@ fn put_functions(table: &mut Vec<Option<u32>>, at: usize, functions: &[u32])
 {
     for index in 0..functions.len() {
         table[at + index] = Some(functions[index]);
-    }
-}
-
-/// A segment's offset, as an unsigned number.
-fn offset_of(element: &Element) -> u64
-    ensures { result ≡ bits_of element.now.offset }
-{
-    match element.offset {
-        Value::I32(bits) => u64::from(bits),
-        Value::I64(bits) => bits,
     }
 }
 
@@ -49,7 +40,7 @@ pub(crate) fn first_table(alloc: Global, module: &Module) -> Result<Vec<Option<u
 {
     let mut table = empty_table(alloc, module.tables.as_slice())?;
     for element in module.elements.as_slice() {
-        let at = offset_of(element);
+        let at = word(element.offset);
         put_functions(&mut table, at as usize, element.functions.as_slice());
     }
     Ok(table)

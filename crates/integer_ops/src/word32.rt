@@ -8,6 +8,7 @@ ghost use Rattle.integer_ops.specs.Integers.{compared, unary, binary, overflows}
 use wasm_types::{BinaryOp, Comparison, Trap, UnaryOp};
 
 /// Compares two integers.
+#[inline(always)]
 pub fn compare(op: Comparison, a: u32, b: u32) -> bool
     ensures { result ≡ compared w32 op a b }
 {
@@ -26,6 +27,7 @@ pub fn compare(op: Comparison, a: u32, b: u32) -> bool
 }
 
 /// An operation on one integer.
+#[inline(always)]
 pub fn apply_to_one(op: UnaryOp, a: u32) -> u32
     ensures { result ≡ unary w32 op a }
 {
@@ -89,6 +91,7 @@ fn remainder_unsigned(a: u32, b: u32) -> Result<u32, Trap>
 }
 
 /// An operation on two integers.
+#[inline(always)]
 pub fn apply_to_two(op: BinaryOp, a: u32, b: u32) -> Result<u32, Trap>
     ensures { result ≡ binary w32 op a b }
 {

@@ -8,6 +8,7 @@ ghost use Rattle.integer_ops.specs.Integers.{compared, unary, binary, overflows}
 use wasm_types::{BinaryOp, Comparison, Trap, UnaryOp};
 
 /// Compares two integers.
+#[inline(always)]
 pub fn compare(op: Comparison, a: u64, b: u64) -> bool
     ensures { result ≡ compared w64 op a b }
 {
@@ -26,6 +27,7 @@ pub fn compare(op: Comparison, a: u64, b: u64) -> bool
 }
 
 /// An operation on one integer.
+#[inline(always)]
 pub fn apply_to_one(op: UnaryOp, a: u64) -> u64
     ensures { result ≡ unary w64 op a }
 {
@@ -89,6 +91,7 @@ fn remainder_unsigned(a: u64, b: u64) -> Result<u64, Trap>
 }
 
 /// An operation on two integers.
+#[inline(always)]
 pub fn apply_to_two(op: BinaryOp, a: u64, b: u64) -> Result<u64, Trap>
     ensures { result ≡ binary w64 op a b }
 {

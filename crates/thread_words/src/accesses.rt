@@ -20,6 +20,7 @@ use wasm_types::{
 
 /// The effective address of an access of 2 ^ `width` bytes, without wrapping. An access that ends past the greatest
 /// length of the memory is a trap.
+#[inline(always)]
 fn address_within(instance: &Instance, base: u32, offset: u32, width: u32) -> Result<u32, Trap>
     requires capacity { instance.now.capacity ≤ 65536 }
     requires width { width ≤ 3 }
@@ -46,6 +47,7 @@ fn aligned_address(instance: &Instance, base: u32, offset: u32, width: u32) -> R
 }
 
 /// What a load or a store that is not atomic asks for, or its trap.
+#[inline(always)]
 fn memory_access(
     m: &Stacks,
     instance: &Instance,
@@ -238,6 +240,7 @@ fn atomic_access(
 
 /// What an access asks of the shared memory, or the trap that stops the thread before it asks: a wait on a memory that
 /// is not shared, then an atomic access that is not aligned, then an access past the greatest length.
+#[inline(always)]
 pub fn access_of(m: &Stacks, instance: &Instance, instr: Instr) -> Result<Action, Trap>
     requires access { IsAccess instr }
     requires can { CanMove (instance_at instance.now) instr m.now }

@@ -53,7 +53,7 @@ fn landing_at(valid: &Valid, function: u32, opener: u32) -> Landing
     requires { CanLandAt valid.now function opener }
     ensures { LandsAt valid.now function opener result }
 {
-    match instruction_at(valid, function, opener) {
+    match *instruction_at(valid, function, opener) {
         Instr::Block(kind, t) => land(valid, function, opener, kind, t),
         _ => unreachable!(),
     }

@@ -3,6 +3,7 @@
 ghost use Rattle.std.specs.Prelude.{◌≡◌, OnOk, OnErr, IsOk};
 ghost use Rattle.wasm_types.specs.declared.instruction.Instr.TheVariants.{Index};
 ghost use Rattle.wasm_types.specs.declared.instruction.IndexOp.TheVariants.{LocalGet, LocalSet, LocalTee, GlobalGet, GlobalSet};
+ghost use Rattle.thread_words.specs.Fields.{Keeps};
 ghost use Rattle.thread_words.specs.Moves.{CanStepSomewhere, StepsAnywhere, Unchanged, HasRoom};
 
 use crate::operands::{advance, drop_top, operand, push, store, write};
@@ -13,6 +14,7 @@ use wasm_types::NoMemory;
 pub fn local_get(m: &mut Stacks, local: u32) -> Result<(), NoMemory>
     requires { CanStepSomewhere (Index LocalGet local) m.old }
     ensures ok { OnOk result (StepsAnywhere (Index LocalGet local) m.old m.new) }
+    ensures kept { OnOk result (Keeps m.old m.new) }
     ensures err { OnErr result (Unchanged m.old m.new) }
     ensures room { HasRoom 1 m.old → IsOk result }
 {
@@ -23,7 +25,8 @@ pub fn local_get(m: &mut Stacks, local: u32) -> Result<(), NoMemory>
 /// `local.set`. It takes no memory.
 pub fn local_set(m: &mut Stacks, local: u32)
     requires { CanStepSomewhere (Index LocalSet local) m.old }
-    ensures { StepsAnywhere (Index LocalSet local) m.old m.new }
+    ensures steps { StepsAnywhere (Index LocalSet local) m.old m.new }
+    ensures kept { Keeps m.old m.new }
 {
     store(&mut m.words, m.here.words + local as usize);
     drop_top(m, 1);
@@ -32,7 +35,8 @@ pub fn local_set(m: &mut Stacks, local: u32)
 /// `local.tee`. It takes no memory.
 pub fn local_tee(m: &mut Stacks, local: u32)
     requires { CanStepSomewhere (Index LocalTee local) m.old }
-    ensures { StepsAnywhere (Index LocalTee local) m.old m.new }
+    ensures steps { StepsAnywhere (Index LocalTee local) m.old m.new }
+    ensures kept { Keeps m.old m.new }
 {
     store(&mut m.words, m.here.words + local as usize);
     advance(m);
@@ -42,6 +46,7 @@ pub fn local_tee(m: &mut Stacks, local: u32)
 pub fn global_get(m: &mut Stacks, global: u32) -> Result<(), NoMemory>
     requires { CanStepSomewhere (Index GlobalGet global) m.old }
     ensures ok { OnOk result (StepsAnywhere (Index GlobalGet global) m.old m.new) }
+    ensures kept { OnOk result (Keeps m.old m.new) }
     ensures err { OnErr result (Unchanged m.old m.new) }
     ensures room { HasRoom 1 m.old → IsOk result }
 {
@@ -52,7 +57,8 @@ pub fn global_get(m: &mut Stacks, global: u32) -> Result<(), NoMemory>
 /// `global.set`. It takes no memory.
 pub fn global_set(m: &mut Stacks, global: u32)
     requires { CanStepSomewhere (Index GlobalSet global) m.old }
-    ensures { StepsAnywhere (Index GlobalSet global) m.old m.new }
+    ensures steps { StepsAnywhere (Index GlobalSet global) m.old m.new }
+    ensures kept { Keeps m.old m.new }
 {
     let word = operand(&m.words, 0);
     write(&mut m.globals, global as usize, word);

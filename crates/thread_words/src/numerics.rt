@@ -1,10 +1,10 @@
 //! Numeric instructions.
 
-ghost use Rattle.std.specs.Prelude.{◌≡◌, ◌+◌, ◌<◌, ◌≤◌, ◌^◌, length};
+ghost use Rattle.std.specs.Prelude.{◌≡◌, ◌+◌, ◌<◌, ◌≤◌, ◌^◌, length, true};
 ghost use Rattle.integer_ops.specs.Numeric.{operand_types};
 ghost use Rattle.wasm_types.specs.declared.instruction.Instr.TheVariants.{Numeric as NumericInstr};
 ghost use Rattle.thread_words.specs.Moves.{CanStepSomewhere, StepsAnywhere};
-ghost use Rattle.thread_words.specs.Fields.{Finishes, listed};
+ghost use Rattle.thread_words.specs.Fields.{Finishes, Keeps, listed};
 
 use crate::operands::{replace_top, typed_operand, word};
 use crate::stacks::{Stacks, Stage};
@@ -36,34 +36,42 @@ fn operands_of(op: Numeric) -> Operands
     }
 }
 
-/// A value in the place of operands, or a trap.
-fn finish(m: &mut Stacks, taken: usize, computed: Result<Value, Trap>)
+/// A value in the place of operands, or a trap. Answers whether the thread goes on.
+fn finish(m: &mut Stacks, taken: usize, computed: Result<Value, Trap>) -> bool
     requires place { m.old.here.place + 1 < 2 ^ 32 }
     requires some { 0 < taken }
     requires enough { taken ≤ length m.old.words.items }
-    ensures { Finishes taken computed m.old m.new }
+    ensures finishes { Finishes taken computed m.old m.new }
+    ensures kept { result ≡ true → Keeps m.old m.new }
 {
     match computed {
-        Ok(value) => replace_top(m, taken, word(value)),
-        Err(trap) => m.stage = Stage::Ended(Outcome::Trapped(trap)),
+        Ok(value) => {
+            replace_top(m, taken, word(value));
+            true
+        }
+        Err(trap) => {
+            m.stage = Stage::Ended(Outcome::Trapped(trap));
+            false
+        }
     }
 }
 
 /// A numeric instruction behind the constants. A division by zero, or a quotient that has too many bits, stops the
-/// thread (WebAssembly Core 1.0, numeric instructions). It takes no memory.
-pub fn numeric(m: &mut Stacks, op: Numeric)
+/// thread (WebAssembly Core 1.0, numeric instructions). It takes no memory. Answers whether the thread goes on.
+pub fn numeric(m: &mut Stacks, op: Numeric) -> bool
     requires { CanStepSomewhere (NumericInstr op) m.old }
-    ensures { StepsAnywhere (NumericInstr op) m.old m.new }
+    ensures steps { StepsAnywhere (NumericInstr op) m.old m.new }
+    ensures kept { result ≡ true → Keeps m.old m.new }
 {
     match operands_of(op) {
         Operands::One(t) => {
             let a = typed_operand(m, t, 0);
-            finish(m, 1, compute(op, a, Value::I64(0)));
+            finish(m, 1, compute(op, a, Value::I64(0)))
         }
         Operands::Two(t) => {
             let b = typed_operand(m, t, 0);
             let a = typed_operand(m, t, 1);
-            finish(m, 2, compute(op, a, b));
+            finish(m, 2, compute(op, a, b))
         }
     }
 }

@@ -110,7 +110,7 @@ pub(crate) fn value(t: ValType, word: u64) -> Value
 }
 
 /// The bits of a value as a word.
-pub(crate) fn word(value: Value) -> u64
+pub fn word(value: Value) -> u64
     ensures bits { result ≡ bits_of value }
     ensures range { IsInRange value }
 {

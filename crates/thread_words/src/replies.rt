@@ -26,6 +26,7 @@ fn low_bits(t: ValType, bits: u64) -> u64
 }
 
 /// Takes operands, gives the value of a reply, and goes on.
+#[inline(always)]
 fn resume(m: &mut Stacks, taken: usize, t: Option<ValType>, bits: u64) -> Result<(), NoMemory>
     requires place { m.old.here.place + 1 < 2 ^ 32 }
     requires enough { taken ≤ length m.old.words.items }
@@ -70,6 +71,7 @@ fn access_type(access: Access) -> ValType
 }
 
 /// How many operands an access takes.
+#[inline(always)]
 fn operand_count(instr: Instr) -> usize
     requires { IsAccess instr }
     ensures { result ≡ length (takes_of instr) }
@@ -90,6 +92,7 @@ fn operand_count(instr: Instr) -> usize
 }
 
 /// The type of the value that the reply to an access leaves, if it leaves one.
+#[inline(always)]
 fn reply_type(instr: Instr) -> Option<ValType>
     requires { IsAccess instr }
     ensures { result ≡ reply_of instr }
@@ -134,6 +137,7 @@ fn fall_asleep(m: &mut Stacks, offset: u32)
 
 /// The reply to an access: its operands go, and the value of the reply comes, or the thread sleeps behind its wait. A
 /// trap stops the thread.
+#[inline(always)]
 pub fn answer(m: &mut Stacks, instr: Instr, reply: Reply) -> Result<(), NoMemory>
     requires access { IsAccess instr }
     requires can { CanAsk instr m.old }

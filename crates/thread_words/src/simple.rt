@@ -3,6 +3,7 @@
 ghost use Rattle.std.specs.Prelude.{◌≡◌, OnOk, OnErr, IsOk};
 ghost use Rattle.wasm_types.specs.declared.instruction.Instr.TheVariants.{Const, Plain, Fence};
 ghost use Rattle.wasm_types.specs.declared.instruction.Plain.TheVariants.{Unreachable, Nop, Discard, Select};
+ghost use Rattle.thread_words.specs.Fields.{Keeps};
 ghost use Rattle.thread_words.specs.Moves.{CanStepSomewhere, StepsAnywhere, Unchanged, HasRoom};
 
 use crate::operands::{advance, drop_top, i32_operand, operand, push, replace_top, word};
@@ -13,6 +14,7 @@ use wasm_types::{NoMemory, Outcome, Trap, Value};
 pub fn constant(m: &mut Stacks, value: Value) -> Result<(), NoMemory>
     requires { CanStepSomewhere (Const value) m.old }
     ensures ok { OnOk result (StepsAnywhere (Const value) m.old m.new) }
+    ensures kept { OnOk result (Keeps m.old m.new) }
     ensures err { OnErr result (Unchanged m.old m.new) }
     ensures room { HasRoom 1 m.old → IsOk result }
 {

@@ -15,26 +15,26 @@ instruction-instr-requires c = reads c.args.valid.now c.args.instance.now c.args
 pub returns-then-not-is_access : goal.returns-then-not-is_access
 returns-then-not-is_access c =
     let v = moving c.args.valid.now c.args.instance.now c.args.m.now c.requires.sound c.requires.running in
-    let at = at_read c.args.valid.now c.args.instance.now c.args.m.now c.requires.sound.results v c.instruction-instr.result c.instruction-instr.ensures in
-    let n : IsNoAccess c.instruction-instr.result = search rules in
-    let q = no_access_is_local c.args.valid.now (instance_at c.args.instance.now) c.instruction-instr.result v.stack v.next c.args.m.now at n in
+    let at = at_read c.args.valid.now c.args.instance.now c.args.m.now c.requires.sound.results v c.instruction-instr.result.now c.instruction-instr.ensures in
+    let n : IsNoAccess c.instruction-instr.result.now = search rules in
+    let q = no_access_is_local c.args.valid.now (instance_at c.args.instance.now) c.instruction-instr.result.now v.stack v.next c.args.m.now at n in
     next_is c.args.valid.now c.args.instance.now c.args.m.now c.requires.sound.results v (Local q.0) q.1
 
 pub access_of-requires-clause-can : goal.access_of-requires-clause-can
 access_of-requires-clause-can c =
     let v = moving c.args.valid.now c.args.instance.now c.args.m.now c.requires.sound c.requires.running in
-    (c.args.valid.now, v.stack, v.next, at_read c.args.valid.now c.args.instance.now c.args.m.now c.requires.sound.results v c.instruction-instr.result c.instruction-instr.ensures)
+    (c.args.valid.now, v.stack, v.next, at_read c.args.valid.now c.args.instance.now c.args.m.now c.requires.sound.results v c.instruction-instr.result.now c.instruction-instr.ensures)
 
 pub returns-in-Ok : goal.returns-in-Ok
 returns-in-Ok c =
     let v = moving c.args.valid.now c.args.instance.now c.args.m.now c.requires.sound c.requires.running in
-    let at = at_read c.args.valid.now c.args.instance.now c.args.m.now c.requires.sound.results v c.instruction-instr.result c.instruction-instr.ensures in
+    let at = at_read c.args.valid.now c.args.instance.now c.args.m.now c.requires.sound.results v c.instruction-instr.result.now c.instruction-instr.ensures in
     let a : IsAsked (Ok c.in-Ok.action) v.next = subst (λ y. IsAsked y v.next) c.in-Ok.is (c.access_of.ensures c.args.valid.now v.stack v.next at) in
     ap next.Ask c.operation.ensures ∙ next_is c.args.valid.now c.args.instance.now c.args.m.now c.requires.sound.results v (Ask c.in-Ok.action a.0) a.1
 
 pub returns-in-Err : goal.returns-in-Err
 returns-in-Err c =
     let v = moving c.args.valid.now c.args.instance.now c.args.m.now c.requires.sound c.requires.running in
-    let at = at_read c.args.valid.now c.args.instance.now c.args.m.now c.requires.sound.results v c.instruction-instr.result c.instruction-instr.ensures in
+    let at = at_read c.args.valid.now c.args.instance.now c.args.m.now c.requires.sound.results v c.instruction-instr.result.now c.instruction-instr.ensures in
     let a : IsAsked (Err c.in-Err.field-0) v.next = subst (λ y. IsAsked y v.next) c.in-Err.is (c.access_of.ensures c.args.valid.now v.stack v.next at) in
     next_is c.args.valid.now c.args.instance.now c.args.m.now c.requires.sound.results v (Local (Ends (Trapped c.in-Err.field-0))) a

@@ -9,22 +9,22 @@ instruction-instr-requires c = reads c.args.valid.now c.args.instance.now c.args
 
 pub answer-requires-clause-access : goal.answer-requires-clause-access
 answer-requires-clause-access c =
-    let a = ask_at c.args.valid.now c.args.instance.now c.args.m.now c.requires.sound c.instruction-instr.result c.in-Running.is c.requires.next c.instruction-instr.ensures in
-    asks_by_access c.args.valid.now (instance_at c.args.instance.now) c.instruction-instr.result a.stack a.action a.after c.args.m.now a.at
+    let a = ask_at c.args.valid.now c.args.instance.now c.args.m.now c.requires.sound c.instruction-instr.result.now c.in-Running.is c.requires.next c.instruction-instr.ensures in
+    asks_by_access c.args.valid.now (instance_at c.args.instance.now) c.instruction-instr.result.now a.stack a.action a.after c.args.m.now a.at
 
 pub answer-requires-clause-can : goal.answer-requires-clause-can
 answer-requires-clause-can c =
-    let a = ask_at c.args.valid.now c.args.instance.now c.args.m.now c.requires.sound c.instruction-instr.result c.in-Running.is c.requires.next c.instruction-instr.ensures in
+    let a = ask_at c.args.valid.now c.args.instance.now c.args.m.now c.requires.sound c.instruction-instr.result.now c.in-Running.is c.requires.next c.instruction-instr.ensures in
     (c.args.valid.now, instance_at c.args.instance.now, a.stack, a.action, a.after, a.at, c.requires.sound.capacity)
 
 pub returns-in-Running-clause-ok : goal.returns-in-Running-clause-ok
 returns-in-Running-clause-ok c =
-    let a = ask_at c.args.valid.now c.args.instance.now c.args.m.now c.requires.sound c.instruction-instr.result c.in-Running.is c.requires.next c.instruction-instr.ensures in
+    let a = ask_at c.args.valid.now c.args.instance.now c.args.m.now c.requires.sound c.instruction-instr.result.now c.in-Running.is c.requires.next c.instruction-instr.ensures in
     on_ok_weaker c.answer.result (λ h. (a.gives c.args.reply c.answer.new.m (h c.args.valid.now (instance_at c.args.instance.now) a.stack a.action a.after a.at)).means) c.answer.ensures.ok
 
 pub returns-in-Running-clause-sound : goal.returns-in-Running-clause-sound
 returns-in-Running-clause-sound c =
-    let a = ask_at c.args.valid.now c.args.instance.now c.args.m.now c.requires.sound c.instruction-instr.result c.in-Running.is c.requires.next c.instruction-instr.ensures in
+    let a = ask_at c.args.valid.now c.args.instance.now c.args.m.now c.requires.sound c.instruction-instr.result.now c.in-Running.is c.requires.next c.instruction-instr.ensures in
     on_ok_weaker c.answer.result (λ h. (a.gives c.args.reply c.answer.new.m (h c.args.valid.now (instance_at c.args.instance.now) a.stack a.action a.after a.at)).sound) c.answer.ensures.ok
 
 pub returns-in_default : goal.returns-in_default

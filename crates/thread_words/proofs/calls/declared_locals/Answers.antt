@@ -1,5 +1,5 @@
 use Rattle.std.proofs.lemmas.Bool.{cases_lt}
-use Rattle.std.proofs.Common.{ℕ, ◌<◌, inl, inr, rules, arith, ◌≡◌, ◌+◌, ◌^◌, ◌≤◌, ◌∙◌, List, length, get_or, take, ap, sym}
+use Rattle.std.proofs.Common.{ℕ, ◌<◌, inl, inr, rules, arith, ◌≡◌, ◌+◌, ◌≤◌, ◌∙◌, List, length, get_or, take, ap}
 use Rattle.std.proofs.lemmas.List.{length-replicate}
 use Rattle.std.proofs.lemmas.List.Folds.{length-flat_map-take}
 use Rattle.wasm_types.specs.declared.modules.LocalGroup.{LocalGroup}

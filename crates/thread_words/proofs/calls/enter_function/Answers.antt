@@ -1,4 +1,4 @@
-use Rattle.std.proofs.Common.{rules, arith, ◌≡◌, ◌∙◌, ◌-◌, ◌+◌, ◌++◌, ◌∷◌, [], ◌≤◌, true, false, length, take, replicate, vec_len, refl, sym, ap}
+use Rattle.std.proofs.Common.{rules, arith, ◌≡◌, ◌∙◌, ◌-◌, ◌+◌, ◌++◌, ◌∷◌, [], true, false, length, take, replicate, refl, sym, ap}
 use Rattle.wasm_types.specs.declared.modules.Body.{Body}
 use Rattle.wasm_types.specs.declared.modules.FuncType.{FuncType}
 use Rattle.wasm_types.specs.Locals.{locals_of}

@@ -9,8 +9,8 @@ use Rattle.thread_words.proofs.locals.global_set.Goals as goal
 pub drop_top-requires-clause-place : goal.drop_top-requires-clause-place
 drop_top-requires-clause-place c = let k = c.requires in next_fits k.0 k.1 (Index GlobalSet c.args.global) k.2.0 (Local k.2.1) c.args.m.now k.2.2
 
-pub returns : goal.returns
-returns c = λ m instance s after k.
+pub returns-clause-steps : goal.returns-clause-steps
+returns-clause-steps c = λ m instance s after k.
     sets_global m instance s after c.args.m.now _ c.drop_top.new.m c.args.global k (record { stage = refl; function = refl; low_words = refl; low_labels = refl; callers = refl; starting = refl }) refl refl refl
     (c.write.ensures.items ∙ ap (slice_set c.args.m.now.globals.items c.args.global) (top_word c.args.m.now.words.items c.deref.result.now c.operand-word.result c.deref.ensures.value (can_set_global m instance s (Local after) c.args.m.now c.args.global k).1 c.operand-word.ensures)) c.drop_top.ensures
 

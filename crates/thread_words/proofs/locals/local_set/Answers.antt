@@ -9,8 +9,8 @@ use Rattle.thread_words.proofs.locals.local_set.Goals as goal
 pub drop_top-requires-clause-place : goal.drop_top-requires-clause-place
 drop_top-requires-clause-place c = let k = c.requires in next_fits k.0 k.1 (Index LocalSet c.args.local) k.2.0 (Local k.2.1) c.args.m.now k.2.2
 
-pub returns : goal.returns
-returns c = λ m instance s after k.
+pub returns-clause-steps : goal.returns-clause-steps
+returns-clause-steps c = λ m instance s after k.
     sets_local m instance s after c.args.m.now _ c.drop_top.new.m c.args.local k (record { stage = refl; function = refl; low_words = refl; low_labels = refl; callers = refl; starting = refl }) refl c.store.ensures.items refl refl c.drop_top.ensures
 
 pub store-requires : goal.store-requires

@@ -35,18 +35,18 @@ finish-requires-in-Two-clause-place c = let k = c.requires in next_fits k.0 k.1 
 pub finish-requires-in-Two-clause-enough : goal.finish-requires-in-Two-clause-enough
 finish-requires-in-Two-clause-enough c = let k = c.requires in (takes_two k.0 k.1 c.args.op c.in-Two.t k.2.0 (Local k.2.1) c.args.m.now k.2.2 c.in-Two.ensures).enough
 
-pub returns-in-One : goal.returns-in-One
-returns-in-One c = λ m instance s after k.
+pub returns-in-One-clause-steps : goal.returns-in-One-clause-steps
+returns-in-One-clause-steps c = λ m instance s after k.
     let p = takes_one m instance c.args.op c.in-One.t s (Local after) c.args.m.now k c.in-One.ensures in
     let a = acts_here m instance (NumericInstr c.args.op) s (Local after) c.args.m.now k in
     finishes m instance (NumericInstr c.args.op) s after c.args.m.now c.finish.new.m a.next (p.only ∷ []) p.rest (computed c.args.op (bits_of p.only) 0) k p.gives a.moves p.stack
-    (subst (λ y. Finishes 1 (computed c.args.op (bits_of y) 0) c.args.m.now c.finish.new.m) (c.typed_operand-a.ensures s p.only p.there) (subst (λ y. Finishes 1 y c.args.m.now c.finish.new.m) c.compute.ensures c.finish.ensures))
+    (subst (λ y. Finishes 1 (computed c.args.op (bits_of y) 0) c.args.m.now c.finish.new.m) (c.typed_operand-a.ensures s p.only p.there) (subst (λ y. Finishes 1 y c.args.m.now c.finish.new.m) c.compute.ensures c.finish.ensures.finishes))
 
-pub returns-in-Two : goal.returns-in-Two
-returns-in-Two c = λ m instance s after k.
+pub returns-in-Two-clause-steps : goal.returns-in-Two-clause-steps
+returns-in-Two-clause-steps c = λ m instance s after k.
     let p = takes_two m instance c.args.op c.in-Two.t s (Local after) c.args.m.now k c.in-Two.ensures in
     let a = acts_here m instance (NumericInstr c.args.op) s (Local after) c.args.m.now k in
     finishes m instance (NumericInstr c.args.op) s after c.args.m.now c.finish-in-Two.new.m a.next (p.second ∷ p.first ∷ []) p.rest (computed c.args.op (bits_of p.first) (bits_of p.second)) k p.gives a.moves p.stack
     (subst (λ y. Finishes 2 (computed c.args.op (bits_of y) (bits_of p.second)) c.args.m.now c.finish-in-Two.new.m) (c.typed_operand-a-in-Two.ensures s p.first p.first_there)
     (subst (λ y. Finishes 2 (computed c.args.op (bits_of c.typed_operand-a-in-Two.result) (bits_of y)) c.args.m.now c.finish-in-Two.new.m) (c.typed_operand-b.ensures s p.second p.second_there)
-    (subst (λ y. Finishes 2 y c.args.m.now c.finish-in-Two.new.m) c.compute-in-Two.ensures c.finish-in-Two.ensures)))
+    (subst (λ y. Finishes 2 y c.args.m.now c.finish-in-Two.new.m) c.compute-in-Two.ensures c.finish-in-Two.ensures.finishes)))
