@@ -4,6 +4,7 @@ PROGRAM = crates/wreplay/out/wreplay
 STEPS = crates/steps_bench/out/steps_bench
 ACCESSES = crates/accesses_bench/out/accesses_bench
 DECODE = crates/decode_bench/out/decode_bench
+MACHINE = crates/machine_bench/out/machine_bench
 
 .PHONY: build test bench install clean
 
@@ -18,11 +19,12 @@ test:
 	.ci/run
 
 # Speeds as ratios to named peers in the same run; docs/BENCH.md keeps them.
-bench: $(PROGRAM) $(STEPS) $(ACCESSES) $(DECODE)
+bench: $(PROGRAM) $(STEPS) $(ACCESSES) $(DECODE) $(MACHINE)
 	python3 bench/gather.py $(PROGRAM)
 	python3 bench/steps.py $(STEPS)
 	python3 bench/accesses.py $(ACCESSES)
 	-python3 bench/decode.py $(DECODE)
+	-python3 bench/machine.py $(MACHINE)
 
 $(STEPS): crates.txt $(wildcard crates/*/src/*.rt crates/*/specs/*.antt)
 	cd crates/steps_bench && rt run -- parts 0 >/dev/null
@@ -32,6 +34,9 @@ $(ACCESSES): crates.txt $(wildcard crates/*/src/*.rt crates/*/specs/*.antt)
 
 $(DECODE): crates.txt $(wildcard crates/*/src/*.rt crates/*/specs/*.antt)
 	cd crates/decode_bench && rt run >/dev/null
+
+$(MACHINE): crates.txt $(wildcard crates/*/src/*.rt crates/*/specs/*.antt)
+	cd crates/machine_bench && rt run -- data/sieve.wasm data/sieve.plan >/dev/null
 
 install: $(PROGRAM)
 	install -D -m 755 $(PROGRAM) $(DESTDIR)$(PREFIX)/bin/wreplay

@@ -1,0 +1,148 @@
+//! A thread that runs with no other thread.
+
+ghost use Rattle.std.specs.Prelude.{◌≡◌, ◌<◌, ◌≤◌, true, IfOk, OnOk, IfSome, IsSome, IsNone, Some};
+ghost use Rattle.rw_objects.specs.Counts.{no_counts};
+ghost use Rattle.rw_objects.specs.Memory.{memory_of, memory_with};
+ghost use Rattle.waiter_queues.specs.Shared.{opening_values};
+ghost use Rattle.event_core.specs.End.{outcome_of};
+ghost use Rattle.thread_plan.specs.Plans.{IsPlanOf};
+ghost use Rattle.thread_plan.specs.Segments.{segments_fit, memory_of as memory_of_module};
+ghost use Rattle.thread_step.specs.Opening.{instance_of, initial_by};
+ghost use Rattle.thread_code.specs.ThreadCode.{thread_code, limits_of};
+ghost use Rattle.machine_bench.specs.Alone.{GoesTo, IsOver, IsSound, IsOpening, alone_of, after_step};
+
+use crate::ended::Ended;
+use crate::fault::Fault;
+use block_objects::MemoryLimits;
+use integer_machine::{ThreadState, instance_for};
+use rw_objects::{Machine, Next, Versioned};
+use std::alloc::Global;
+use thread_plan::Plan;
+use validator::Valid;
+use waiter_queues::SharedSpace;
+use wasm_types::{Block, Extent, Module, NoMemory, Op, Outcome, Profile};
+
+/// The greatest number of steps of a thread.
+const MOST_STEPS: u32 = 1_000_000_000;
+
+/// A thread of a plan and its memory, with no other thread.
+#[derive(Drop)]
+pub struct Alone<'a> {
+    pub thread: ThreadState<'a>,
+    pub memory: Versioned<SharedSpace>,
+}
+
+/// The numbers of a module's memory.
+fn limits_of(alloc: Global, module: &Module, profile: Profile) -> Result<MemoryLimits, NoMemory>
+    requires { segments_fit «module».now ≡ true }
+    ensures { IfOk result (λ limits. limits ≡ limits_of (instance_of «module».now profile 0)) }
+{
+    let instance = instance_for(alloc, module, profile, 0)?;
+    let Extent { initial, block } = instance.extent;
+    let capacity = instance.capacity;
+    Ok(MemoryLimits {
+        initial,
+        capacity,
+        block,
+    })
+}
+
+/// A module's memory as it opens.
+fn open(
+    alloc: Global,
+    module: &Module,
+    limits: MemoryLimits,
+) -> Result<Versioned<SharedSpace>, NoMemory>
+    requires fit { segments_fit «module».now ≡ true }
+    requires initial { limits.initial ≡ initial_by (memory_of_module «module».now) }
+    requires order { limits.initial ≤ limits.capacity }
+    requires limit { limits.capacity ≤ 65536 }
+    ensures { IfOk result (λ memory. memory_of memory ≡ memory_with limits (opening_values limits «module».now.«data») no_counts) }
+{
+    let space = SharedSpace::new(alloc, limits, module.data.as_slice())?;
+    Versioned::new(alloc, space)
+}
+
+/// How a thread stands, by what it does next.
+fn outcome_of(next: Next<Op>) -> Outcome
+    ensures { result ≡ outcome_of next }
+{
+    match next {
+        Next::Local | Next::Ask(_) => Outcome::Running,
+        Next::Asleep { .. } => Outcome::Waiting,
+        Next::Halted(outcome) => outcome,
+    }
+}
+
+impl<'a> Alone<'a> {
+    /// Thread 0 of a plan before its first step, and the memory as it opens, in blocks of that size.
+    pub fn new(
+        alloc: Global,
+        valid: &'a Valid,
+        plan: &Plan,
+        block: Block,
+    ) -> Result<Alone<'a>, Fault>
+        requires { IsPlanOf valid.now plan.now }
+        ensures opening { IfOk result (λ alone. IsOpening valid.now plan.now block (alone_of alone)) }
+        ensures sound { IfOk result (λ alone. IsSound (alone_of alone)) }
+    {
+        let _small = block.power();
+        let module = valid.module();
+        let limits = limits_of(alloc, module, Profile::Two(block))?;
+        if limits.capacity < limits.initial {
+            return Err(Fault::TooManyPages);
+        }
+        let memory = open(alloc, module, limits)?;
+        let thread = ThreadState::new(alloc, valid, plan, 0, Profile::Two(block))?;
+        Ok(Alone { thread, memory })
+    }
+
+    /// Makes an access, and gives the thread its reply. Where memory is wanted for the reply, the access is made, and the
+    /// thread still asks for it.
+    #[inline(always)]
+    fn access(&mut self, op: &Op) -> Result<(), NoMemory>
+        requires sound { IsSound (alone_of self.old) }
+        requires next { thread_code.next self.old.thread.thread ≡ Next.Ask op.now }
+        requires steps { self.old.thread.thread.steps < 1000000000 }
+        ensures { OnOk result (after_step (alone_of self.old) ≡ Some (alone_of self.new)) }
+    {
+        let (reply, _entry) = self.memory.act(op);
+        self.thread.take(reply)
+    }
+
+    /// Makes the local steps that come, and answers the access that comes then, if the thread may make one.
+    #[inline(always)]
+    fn next_access(&mut self) -> Result<Option<Op>, NoMemory>
+        ensures goes { OnOk result (GoesTo (alone_of self.old) (alone_of self.new)) }
+        ensures access { IfOk result (λ next. IfSome next (λ op. thread_code.next self.new.thread.thread ≡ Next.Ask op)) }
+        ensures steps { IfOk result (λ next. IsSome next → self.new.thread.thread.steps < 1000000000) }
+        ensures over { IfOk result (λ next. IsNone next → IsOver (alone_of self.new)) }
+    {
+        self.thread.local_run(MOST_STEPS)?;
+        if self.thread.steps() >= MOST_STEPS {
+            return Ok(None);
+        }
+        match self.thread.next() {
+            Next::Ask(op) => Ok(Some(op)),
+            _ => Ok(None),
+        }
+    }
+
+    /// Runs the thread until no step comes, or it made as many as a thread may make. Where memory is wanted it stops in
+    /// between, and is not to be run on.
+    pub fn run(&mut self) -> Result<Ended, NoMemory>
+        requires sound { IsSound (alone_of self.old) }
+        ensures goes { OnOk result (GoesTo (alone_of self.old) (alone_of self.new)) }
+        ensures over { OnOk result (IsOver (alone_of self.new)) }
+        ensures steps { IfOk result (λ ended. ended.steps ≡ self.new.thread.thread.steps) }
+        ensures outcome { IfOk result (λ ended. ended.outcome ≡ outcome_of (thread_code.next self.new.thread.thread)) }
+    {
+        while let Some(op) = self.next_access()? {
+            self.access(&op)?;
+        }
+        Ok(Ended {
+            steps: self.thread.steps(),
+            outcome: outcome_of(self.thread.next()),
+        })
+    }
+}
