@@ -14,3 +14,18 @@ mod trying;
 pub use instance::instance_for;
 pub use laws::fields_have_one_meaning;
 pub use state::ThreadState;
+
+#[cfg(test)]
+mod access_tests;
+#[cfg(test)]
+mod call_tests;
+#[cfg(test)]
+mod growth_tests;
+#[cfg(test)]
+mod test_threads;
+#[cfg(test)]
+mod tests;
+#[cfg(test)]
+mod thread_tests;
+#[cfg(test)]
+mod wait_tests;
