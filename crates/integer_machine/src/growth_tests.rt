@@ -2,11 +2,12 @@
 //! too. What was refused is tried again, and the thread then ends as without the refusal.
 
 use crate::ThreadState;
-use crate::test_threads::{Parts, SHARED, module_of, open, step, take};
+use crate::test_threads::{Parts, SHARED, Trial, open, run_over, standing, step, take};
 use rw_objects::{Machine, Next};
-use std::process::Abort;
+use std::alloc::Global;
 use std::test::Fail;
-use wasm_types::{NoMemory, Op, Outcome, Profile, Reply, Value};
+use validator::Valid;
+use wasm_types::{NoMemory, Op, Profile, Reply, Value};
 
 /// The length of the memory and what function 1 gives for 12; which calls itself from inside three blocks, down to 0, with
 /// three lengths on its operands, and has two locals. All stacks grow, and the first word is a reply's.
@@ -22,7 +23,7 @@ const GROWING: Parts<'static> = Parts {
 };
 
 /// How a thread of it ends, with replies of 1 throughout.
-const ENDED: Next<Op> = Next::Halted(Outcome::Done(Some(Value::I32(37))));
+const ENDED: &str = "219 steps, i32 37";
 
 const STEPS: u32 = 219;
 
@@ -37,75 +38,107 @@ fn try_step(state: &mut ThreadState<'_>) -> Result<(), NoMemory> {
     }
 }
 
+/// Whether a thread does next what it would do, and made so many steps.
+fn stands(state: &ThreadState<'_>, next: Next<Op>, steps: u32) -> bool {
+    state.next() == next && state.steps() == steps
+}
+
 /// Makes the next step. Where memory was wanted, the thread is as before, and the same step is made.
-fn step_again(rt: &impl Abort, state: &mut ThreadState<'_>) -> Result<(), Fail> {
+fn step_again(state: &mut ThreadState<'_>) -> Result<(), Fail> {
     let (next, steps) = (state.next(), state.steps());
     if try_step(state).is_err() {
-        assert_eq!(rt; state.next(), next);
-        assert_eq!(rt; state.steps(), steps);
+        if !stands(state, next, steps) {
+            return Err(Fail::new("the thread changed"));
+        }
         try_step(state)?;
     }
     Ok(())
 }
 
+/// Each step is made again where memory was wanted.
+struct Steps;
+
+impl Trial for Steps {
+    fn run(alloc: Global, valid: &Valid) -> Result<String, Fail> {
+        let mut state = open(alloc, valid, "thread f", 0, Profile::One)?;
+        for _ in 0..STEPS {
+            step_again(&mut state)?;
+        }
+        standing(alloc, &state)
+    }
+}
+
 #[test]
 fn refused_steps_are_made_again(rt: HostRuntime) -> Result<(), Fail> {
-    let alloc = rt.alloc();
-    let valid = module_of(alloc, GROWING)?;
-    let mut state = open(alloc, &valid, "thread f", 0, Profile::One)?;
-    for _ in 0..STEPS {
-        step_again(&rt, &mut state)?;
-    }
-    assert_eq!(rt; state.next(), ENDED);
-    assert_eq!(rt; state.steps(), STEPS);
+    let text = run_over::<Steps>(rt.alloc(), GROWING)?;
+    assert_eq!(rt; text.as_str(), ENDED);
     Ok(())
 }
 
 /// Makes up to seven local steps. Where memory was wanted, the next step is local, and the run goes on from there.
-fn run_again(rt: &impl Abort, state: &mut ThreadState<'_>) -> Result<(), Fail> {
+fn run_again(state: &mut ThreadState<'_>) -> Result<(), Fail> {
     if state.local_run(7).is_err() {
-        assert_eq!(rt; state.next(), Next::Local);
+        let Next::Local = state.next() else {
+            return Err(Fail::new("the next step is not local"));
+        };
         state.local_run(7)?;
     }
     Ok(())
 }
 
+/// Runs of local steps, and a step behind each.
+struct Runs;
+
+impl Trial for Runs {
+    fn run(alloc: Global, valid: &Valid) -> Result<String, Fail> {
+        let mut state = open(alloc, valid, "thread f", 0, Profile::One)?;
+        for _ in 0..STEPS {
+            run_again(&mut state)?;
+            step_again(&mut state)?;
+        }
+        standing(alloc, &state)
+    }
+}
+
 #[test]
 fn refused_runs_go_on(rt: HostRuntime) -> Result<(), Fail> {
-    let alloc = rt.alloc();
-    let valid = module_of(alloc, GROWING)?;
-    let mut state = open(alloc, &valid, "thread f", 0, Profile::One)?;
-    for _ in 0..STEPS {
-        run_again(&rt, &mut state)?;
-        step_again(&rt, &mut state)?;
-    }
-    assert_eq!(rt; state.next(), ENDED);
-    assert_eq!(rt; state.steps(), STEPS);
+    let text = run_over::<Runs>(rt.alloc(), GROWING)?;
+    assert_eq!(rt; text.as_str(), ENDED);
     Ok(())
 }
 
 /// Takes room for the next step, and makes it. Where memory was wanted for the room, the thread is as before. The step
 /// then wants none.
-fn step_in_room(rt: &impl Abort, state: &mut ThreadState<'_>) -> Result<(), Fail> {
+fn step_in_room(state: &mut ThreadState<'_>) -> Result<(), Fail> {
     let (next, steps) = (state.next(), state.steps());
     if state.room().is_err() {
         state.room()?;
     }
-    assert_eq!(rt; state.next(), next);
-    assert_eq!(rt; state.steps(), steps);
-    assert!(rt; try_step(state).is_ok());
+    if !stands(state, next, steps) {
+        return Err(Fail::new("the thread changed"));
+    }
+    if try_step(state).is_err() {
+        return Err(Fail::new("a step in room wants memory"));
+    }
     Ok(())
+}
+
+/// Steps behind room for each.
+struct InRoom;
+
+impl Trial for InRoom {
+    fn run(alloc: Global, valid: &Valid) -> Result<String, Fail> {
+        let mut state = open(alloc, valid, "thread f", 0, Profile::One)?;
+        for _ in 0..STEPS {
+            step_in_room(&mut state)?;
+        }
+        standing(alloc, &state)
+    }
 }
 
 #[test]
 fn steps_in_room_want_no_memory(rt: HostRuntime) -> Result<(), Fail> {
-    let alloc = rt.alloc();
-    let valid = module_of(alloc, GROWING)?;
-    let mut state = open(alloc, &valid, "thread f", 0, Profile::One)?;
-    for _ in 0..STEPS {
-        step_in_room(&rt, &mut state)?;
-    }
-    assert_eq!(rt; state.next(), ENDED);
-    assert_eq!(rt; state.steps(), STEPS);
+    let text = run_over::<InRoom>(rt.alloc(), GROWING)?;
+    assert_eq!(rt; text.as_str(), ENDED);
     Ok(())
 }

@@ -164,7 +164,7 @@ impl<'a> ThreadState<'a> {
         ensures goes { IfOk result (λ made. GoesLocally made self.old.thread self.new.thread) }
         ensures few { IfOk result (λ made. made ≤ most) }
         ensures all { IfOk result (λ made. made < most → IsAtEnd self.new.thread) }
-        ensures err { OnErr result ((made : ℕ) × GoesLocally made self.old.thread self.new.thread) }
+        ensures err { OnErr result ((made : ℕ) × GoesLocally made self.old.thread self.new.thread × (made ≤ most)) }
         ensures local { OnErr result (thread_code.next self.new.thread ≡ Local) }
     {
         let first = self.steps;

@@ -4,7 +4,6 @@ ghost use Rattle.std.specs.Prelude.{◌≡◌, ◌+◌, ◌≤◌, true, length,
 ghost use Rattle.std.specs.List.{list_all};
 ghost use Rattle.thread_plan.specs.Segments.{elements_are_within, is_within, unsigned};
 ghost use Rattle.thread_step.specs.Opening.{with_functions, with_elements, empty_by, opening_table};
-ghost use Rattle.integer_ops.specs.Numeric.{bits_of};
 
 use std::alloc::Global;
 use thread_words::word;

@@ -199,6 +199,24 @@ pub(crate) fn play(
     Ok(text)
 }
 
+/// How a thread stands, with how many steps it made.
+pub(crate) fn standing(alloc: Global, state: &ThreadState<'_>) -> Result<String, Fail> {
+    let outcome = outcome_of(&state.next());
+    Ok(format!(in alloc; "{} steps, {outcome}", state.steps())?)
+}
+
+/// What is done with threads of a module.
+pub(crate) trait Trial {
+    /// Does it, and answers what was seen.
+    fn run(alloc: Global, valid: &Valid) -> Result<String, Fail>;
+}
+
+/// The same over the module of these parts. It alone owns a module and may return early, which takes long to prove.
+pub(crate) fn run_over<T: Trial>(alloc: Global, parts: Parts) -> Result<String, Fail> {
+    let valid = module_of(alloc, parts)?;
+    T::run(alloc, &valid)
+}
+
 /// Runs a thread of a plan.
 pub(crate) fn run_thread(
     alloc: Global,

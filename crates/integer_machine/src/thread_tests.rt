@@ -1,7 +1,7 @@
-//! Threads of plans with two threads, and the numbers that operations carry.
+//! Threads of plans with two threads, runs of local steps, and the numbers that operations carry.
 
 use crate::ThreadState;
-use crate::test_threads::{Parts, SHARED, module_of, open, play, run_thread};
+use crate::test_threads::{Parts, SHARED, Trial, open, play, run_over, run_thread, standing, take};
 use rw_objects::{Machine, Next};
 use std::alloc::Global;
 use std::test::Fail;
@@ -67,22 +67,25 @@ fn take_turns(first: &mut ThreadState<'_>, second: &mut ThreadState<'_>) -> Resu
     Ok(())
 }
 
-/// How two threads stand that add to the global in turn.
-fn added(alloc: Global, valid: &Valid) -> Result<String, Fail> {
-    let lines = "thread f 1\nthread f 10";
-    let mut first = open(alloc, valid, lines, 0, Profile::One)?;
-    let mut second = open(alloc, valid, lines, 1, Profile::One)?;
-    take_turns(&mut first, &mut second)?;
-    let first = play(alloc, &mut first, &[])?;
-    let second = play(alloc, &mut second, &[])?;
-    Ok(format!(in alloc; "{first}; {second}")?)
+/// Two threads that add to the global in turn.
+struct Turns;
+
+impl Trial for Turns {
+    fn run(alloc: Global, valid: &Valid) -> Result<String, Fail> {
+        let lines = "thread f 1\nthread f 10";
+        let mut first = open(alloc, valid, lines, 0, Profile::One)?;
+        let mut second = open(alloc, valid, lines, 1, Profile::One)?;
+        take_turns(&mut first, &mut second)?;
+        let first = play(alloc, &mut first, &[])?;
+        let second = play(alloc, &mut second, &[])?;
+        Ok(format!(in alloc; "{first}; {second}")?)
+    }
 }
 
 /// Each thread has globals of its own, also where they take turns.
 #[test]
 fn globals_are_a_threads_own(rt: HostRuntime) -> Result<(), Fail> {
-    let valid = module_of(rt.alloc(), ADDING)?;
-    let text = added(rt.alloc(), &valid)?;
+    let text = run_over::<Turns>(rt.alloc(), ADDING)?;
     assert_eq!(rt; text.as_str(), "6 steps, i32 8; 6 steps, i32 17");
     Ok(())
 }
@@ -120,23 +123,103 @@ const MEASURING: Parts<'static> = Parts {
     bodies: &["00 3f00 0b"],
 };
 
-/// The numbers of the memory that the first operation carries.
-fn extent_of(alloc: Global, profile: Profile) -> Result<Extent, Fail> {
-    let valid = module_of(alloc, MEASURING)?;
-    let state = open(alloc, &valid, "thread f", 0, profile)?;
+/// The numbers of the memory that the first operation of a thread carries.
+fn numbers(alloc: Global, state: &ThreadState<'_>) -> Result<String, Fail> {
     match state.next() {
-        Next::Ask(op) => Ok(op.extent),
+        Next::Ask(op) => {
+            let Extent { initial, block } = op.extent;
+            Ok(format!(in alloc; "{initial} of {}", block.size())?)
+        }
         _ => Err(Fail::new("no access")),
+    }
+}
+
+/// The first operation in profile 1.
+struct Small;
+
+impl Trial for Small {
+    fn run(alloc: Global, valid: &Valid) -> Result<String, Fail> {
+        let state = open(alloc, valid, "thread f", 0, Profile::One)?;
+        numbers(alloc, &state)
+    }
+}
+
+/// The same in profile 2, with blocks of 4,096 bytes.
+struct Large;
+
+impl Trial for Large {
+    fn run(alloc: Global, valid: &Valid) -> Result<String, Fail> {
+        let block = Block::of_power(12).ok_or("4096")?;
+        let state = open(alloc, valid, "thread f", 0, Profile::Two(block))?;
+        numbers(alloc, &state)
     }
 }
 
 /// An operation carries the initial length of the memory, and the size of the profile's blocks.
 #[test]
 fn operations_carry_the_memorys_numbers(rt: HostRuntime) -> Result<(), Fail> {
-    let small = extent_of(rt.alloc(), Profile::One)?;
-    assert_eq!(rt; (small.initial, small.block.size()), (1, 64));
-    let block = Block::new(4096).expect(&rt, "4096");
-    let large = extent_of(rt.alloc(), Profile::Two(block))?;
-    assert_eq!(rt; (large.initial, large.block.size()), (1, 4096));
+    let small = run_over::<Small>(rt.alloc(), MEASURING)?;
+    assert_eq!(rt; small.as_str(), "1 of 64");
+    let large = run_over::<Large>(rt.alloc(), MEASURING)?;
+    assert_eq!(rt; large.as_str(), "1 of 4096");
+    Ok(())
+}
+
+/// Makes up to so many local steps, again and again, and writes how many it made, and how many there then are.
+fn runs(text: &mut String, state: &mut ThreadState<'_>, mosts: &[u32]) -> Result<(), Fail> {
+    for most in mosts {
+        let made = state.local_run(*most)?;
+        let steps = state.steps();
+        write!(text, "{made} of {steps}, ")?;
+    }
+    Ok(())
+}
+
+/// Takes the reply of a store that is asked for.
+fn stored(state: &mut ThreadState<'_>) -> Result<(), Fail> {
+    match state.next() {
+        Next::Ask(_) => Ok(take(state, Reply::Stored)?),
+        _ => Err(Fail::new("no access")),
+    }
+}
+
+/// Four local steps, a store, and three local steps.
+const STEPPING: Parts<'static> = Parts {
+    imports: "",
+    memory: SHARED,
+    functions: "02",
+    segments: "",
+    bodies: &["00 4108 4101 4102 6a 360200 4105 1a 0b"],
+};
+
+/// Runs of a thread before and behind its store.
+fn runs_around(text: &mut String, state: &mut ThreadState<'_>) -> Result<(), Fail> {
+    runs(text, state, &[0, 2, 10, 10])?;
+    stored(state)?;
+    runs(text, state, &[1, u32::MAX, 1])
+}
+
+/// The runs, and how the thread stands.
+struct Around;
+
+impl Trial for Around {
+    fn run(alloc: Global, valid: &Valid) -> Result<String, Fail> {
+        let mut text = String::new(alloc);
+        let mut state = open(alloc, valid, "thread f", 0, Profile::One)?;
+        runs_around(&mut text, &mut state)?;
+        let end = standing(alloc, &state)?;
+        text.push_str(end.as_str())?;
+        Ok(text)
+    }
+}
+
+/// A run makes as many local steps as it may, and none from an access on.
+#[test]
+fn runs_of_local_steps(rt: HostRuntime) -> Result<(), Fail> {
+    let text = run_over::<Around>(rt.alloc(), STEPPING)?;
+    assert_eq!(rt;
+        text.as_str(),
+        "0 of 0, 2 of 2, 2 of 4, 0 of 4, 1 of 6, 2 of 8, 0 of 8, 8 steps, none"
+    );
     Ok(())
 }
