@@ -16,24 +16,33 @@ use thread_words::{
 use validator::Valid;
 use wasm_types::{IndexOp, Instr, NoMemory, Plain};
 
-/// Makes the step of an instruction of one byte that is not numeric. It takes no memory.
-fn plain_step(m: &mut Stacks, valid: &Valid, op: Plain)
+/// Makes the step of an instruction of one byte that is not numeric, and answers whether the same function is known to go
+/// on. It takes no memory.
+fn plain_step(m: &mut Stacks, valid: &Valid, op: Plain) -> bool
     requires { CanStepIn valid.now (PlainInstr op) m.old }
-    ensures { StepsIn valid.now (PlainInstr op) m.old m.new }
+    ensures steps { StepsIn valid.now (PlainInstr op) m.old m.new }
+    ensures kept { result ≡ true → Keeps m.old m.new }
 {
     match op {
-        Plain::Unreachable => unreachable(m),
+        Plain::Unreachable => {
+            unreachable(m);
+            return false;
+        }
         Plain::Nop => nop(m),
-        Plain::Else => end_first_arm(m, valid),
-        Plain::End => end(m, valid),
-        Plain::Return => return_now(m, valid),
+        Plain::Else => return end_first_arm(m, valid),
+        Plain::End => return end(m, valid),
+        Plain::Return => {
+            return_now(m, valid);
+            return false;
+        }
         Plain::Discard => discard(m),
         Plain::Select => select(m),
     }
+    true
 }
 
-/// Makes the step of an instruction with one index, and answers whether the same function is known to go on. Where memory
-/// is wanted, all stays as it was.
+/// Makes the step of an instruction with one index, and answers whether the same function is known to go on. Where
+/// memory is wanted, all stays as it was.
 fn index_step(m: &mut Stacks, valid: &Valid, op: IndexOp, index: u32) -> Result<bool, NoMemory>
     requires { CanStepIn valid.now (IndexInstr op index) m.old }
     ensures ok { OnOk result (StepsIn valid.now (IndexInstr op index) m.old m.new) }
@@ -42,31 +51,19 @@ fn index_step(m: &mut Stacks, valid: &Valid, op: IndexOp, index: u32) -> Result<
     ensures room { (instance : StepInstance) → HasRoomFor valid.now instance (IndexInstr op index) m.old → IsOk result }
 {
     match op {
-        IndexOp::Branch => branch(m, valid, index),
-        IndexOp::BranchIf => branch_if(m, valid, index),
-        IndexOp::Call => call(m, valid, index)?,
-        IndexOp::LocalGet => {
-            local_get(m, index)?;
-            return Ok(true);
+        IndexOp::Branch => return Ok(branch(m, valid, index)),
+        IndexOp::BranchIf => return Ok(branch_if(m, valid, index)),
+        IndexOp::Call => {
+            call(m, valid, index)?;
+            return Ok(false);
         }
-        IndexOp::LocalSet => {
-            local_set(m, index);
-            return Ok(true);
-        }
-        IndexOp::LocalTee => {
-            local_tee(m, index);
-            return Ok(true);
-        }
-        IndexOp::GlobalGet => {
-            global_get(m, index)?;
-            return Ok(true);
-        }
-        IndexOp::GlobalSet => {
-            global_set(m, index);
-            return Ok(true);
-        }
+        IndexOp::LocalGet => local_get(m, index)?,
+        IndexOp::LocalSet => local_set(m, index),
+        IndexOp::LocalTee => local_tee(m, index),
+        IndexOp::GlobalGet => global_get(m, index)?,
+        IndexOp::GlobalSet => global_set(m, index),
     }
-    Ok(false)
+    Ok(true)
 }
 
 /// Makes the step of an instruction that touches no object, and answers whether the same function is known to go on.
@@ -87,16 +84,16 @@ pub(crate) fn step(
     match *instr {
         Instr::Numeric(op) => return Ok(numeric(m, op)),
         Instr::Index(op, index) => return index_step(m, valid, op, index),
-        Instr::Const(value) => {
-            constant(m, value)?;
-            return Ok(true);
+        Instr::Plain(op) => return Ok(plain_step(m, valid, op)),
+        Instr::BranchTable(range, default) => return Ok(branch_table(m, valid, range, default)),
+        Instr::CallIndirect(index) => {
+            call_indirect(m, valid, instance, index)?;
+            return Ok(false);
         }
-        Instr::Plain(op) => plain_step(m, valid, op),
+        Instr::Const(value) => constant(m, value)?,
         Instr::Block(kind, _) => block(m, valid, kind)?,
-        Instr::BranchTable(range, default) => branch_table(m, valid, range, default),
-        Instr::CallIndirect(index) => call_indirect(m, valid, instance, index)?,
         Instr::Fence => fence(m),
         Instr::Memory(_, _) | Instr::Pages(_) | Instr::Atomic(_, _) => unreachable!(),
     }
-    Ok(false)
+    Ok(true)
 }

@@ -1,6 +1,6 @@
 //! Integers of 32 bits.
 
-ghost use Rattle.std.specs.Prelude.{◌≡◌};
+ghost use Rattle.std.specs.Prelude.{◌≡◌, ◌%◌};
 ghost use Rattle.std.specs.Int.{w32};
 ghost use Rattle.wasm_types.specs.declared.instruction.BinaryOp.TheVariants as BinaryOp;
 ghost use Rattle.integer_ops.specs.Integers.{compared, unary, binary, overflows};
@@ -90,12 +90,19 @@ fn remainder_unsigned(a: u32, b: u32) -> Result<u32, Trap>
     Ok(a % b)
 }
 
+/// By how many bits an integer is shifted or rotated.
+#[inline(always)]
+fn shift_count(b: u32) -> u32
+    ensures { result ≡ b % 32 }
+{
+    b % 32
+}
+
 /// An operation on two integers.
 #[inline(always)]
 pub fn apply_to_two(op: BinaryOp, a: u32, b: u32) -> Result<u32, Trap>
     ensures { result ≡ binary w32 op a b }
 {
-    let by = b % 32;
     match op {
         BinaryOp::Add => Ok(a.wrapping_add(b)),
         BinaryOp::Subtract => Ok(a.wrapping_sub(b)),
@@ -107,10 +114,10 @@ pub fn apply_to_two(op: BinaryOp, a: u32, b: u32) -> Result<u32, Trap>
         BinaryOp::And => Ok(a & b),
         BinaryOp::Or => Ok(a | b),
         BinaryOp::Xor => Ok(a ^ b),
-        BinaryOp::ShiftLeft => Ok(a << by),
-        BinaryOp::ShiftRightSigned => Ok((a.cast_signed() >> by).cast_unsigned()),
-        BinaryOp::ShiftRightUnsigned => Ok(a >> by),
-        BinaryOp::RotateLeft => Ok(a.rotate_left(by)),
-        BinaryOp::RotateRight => Ok(a.rotate_right(by)),
+        BinaryOp::ShiftLeft => Ok(a << shift_count(b)),
+        BinaryOp::ShiftRightSigned => Ok((a.cast_signed() >> shift_count(b)).cast_unsigned()),
+        BinaryOp::ShiftRightUnsigned => Ok(a >> shift_count(b)),
+        BinaryOp::RotateLeft => Ok(a.rotate_left(shift_count(b))),
+        BinaryOp::RotateRight => Ok(a.rotate_right(shift_count(b))),
     }
 }

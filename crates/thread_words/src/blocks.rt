@@ -1,13 +1,13 @@
 //! Blocks: how they begin and end.
 
-ghost use Rattle.std.specs.Prelude.{◌≡◌, ℕ, ◌+◌, ◌-◌, ◌<◌, ◌≤◌, ◌^◌, length, OnOk, OnErr, IsOk};
+ghost use Rattle.std.specs.Prelude.{◌≡◌, ℕ, ◌+◌, ◌-◌, ◌<◌, ◌≤◌, ◌^◌, length, true, OnOk, OnErr, IsOk};
 ghost use Rattle.wasm_types.specs.declared.value.Value.TheVariants.{I32 as I32Value};
 ghost use Rattle.wasm_types.specs.declared.value.ValType.TheVariants.{I32};
 ghost use Rattle.wasm_types.specs.declared.instruction.Instr.TheVariants.{Plain};
 ghost use Rattle.wasm_types.specs.declared.instruction.Plain.TheVariants.{Else, End};
 ghost use Rattle.wasm_types.specs.declared.instruction.BlockKind.TheVariants.{If};
 ghost use Rattle.thread_words.specs.Moves.{CanStepIn, StepsIn, CanOpen, Opens, Unchanged, HasRoom};
-ghost use Rattle.thread_words.specs.Fields.{Enters, Skips, Closes, IsOperand};
+ghost use Rattle.thread_words.specs.Fields.{Keeps, Enters, Skips, Closes, IsOperand};
 
 use crate::functions::{behind_end, target_at};
 use crate::leaving::leave;
@@ -50,6 +50,7 @@ fn skip_first_arm(m: &mut Stacks, valid: &Valid) -> Result<(), NoMemory>
     requires can { CanOpen valid.now If m.old }
     requires zero { IsOperand I32 0 m.old (I32Value 0) }
     ensures ok { OnOk result (Opens valid.now If m.old m.new) }
+    ensures kept { OnOk result (Keeps m.old m.new) }
     ensures err { OnErr result (Unchanged m.old m.new) }
     ensures room { HasRoom 1 m.old → IsOk result }
 {
@@ -69,6 +70,7 @@ fn skip_first_arm(m: &mut Stacks, valid: &Valid) -> Result<(), NoMemory>
 fn choose(m: &mut Stacks, valid: &Valid) -> Result<(), NoMemory>
     requires { CanOpen valid.now If m.old }
     ensures ok { OnOk result (Opens valid.now If m.old m.new) }
+    ensures kept { OnOk result (Keeps m.old m.new) }
     ensures err { OnErr result (Unchanged m.old m.new) }
     ensures room { HasRoom 1 m.old → IsOk result }
 {
@@ -83,6 +85,7 @@ fn choose(m: &mut Stacks, valid: &Valid) -> Result<(), NoMemory>
 pub fn block(m: &mut Stacks, valid: &Valid, kind: BlockKind) -> Result<(), NoMemory>
     requires { CanOpen valid.now kind m.old }
     ensures ok { OnOk result (Opens valid.now kind m.old m.new) }
+    ensures kept { OnOk result (Keeps m.old m.new) }
     ensures err { OnErr result (Unchanged m.old m.new) }
     ensures room { HasRoom 1 m.old → IsOk result }
 {
@@ -102,28 +105,34 @@ fn close(m: &mut Stacks, place: u32)
     m.here.place = place;
 }
 
-/// `end`, of a block or of the function, which then returns. It takes no memory.
-pub fn end(m: &mut Stacks, valid: &Valid)
+/// `end`, of a block or of the function, which then returns. It takes no memory. Answers whether the same function is
+/// known to go on.
+pub fn end(m: &mut Stacks, valid: &Valid) -> bool
     requires { CanStepIn valid.now (Plain End) m.old }
-    ensures { StepsIn valid.now (Plain End) m.old m.new }
+    ensures steps { StepsIn valid.now (Plain End) m.old m.new }
+    ensures kept { result ≡ true → Keeps m.old m.new }
 {
     if m.labels.len() == m.here.labels {
         leave(m, valid);
-    } else {
-        let place = m.here.place + 1;
-        close(m, place);
+        return false;
     }
+    let place = m.here.place + 1;
+    close(m, place);
+    true
 }
 
-/// `else` where the first arm ends: the whole `if` ends. It takes no memory.
-pub fn end_first_arm(m: &mut Stacks, valid: &Valid)
+/// `else` where the first arm ends: the whole `if` ends. It takes no memory. Answers whether the same function is known to
+/// go on.
+pub fn end_first_arm(m: &mut Stacks, valid: &Valid) -> bool
     requires { CanStepIn valid.now (Plain Else) m.old }
-    ensures { StepsIn valid.now (Plain Else) m.old m.new }
+    ensures steps { StepsIn valid.now (Plain Else) m.old m.new }
+    ensures kept { result ≡ true → Keeps m.old m.new }
 {
     if m.labels.len() == m.here.labels {
         leave(m, valid);
-    } else {
-        let place = behind_end(valid, m.here.function, m.here.place);
-        close(m, place);
+        return false;
     }
+    let place = behind_end(valid, m.here.function, m.here.place);
+    close(m, place);
+    true
 }

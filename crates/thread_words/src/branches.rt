@@ -1,11 +1,12 @@
 //! Branches.
 
-ghost use Rattle.std.specs.Prelude.{◌≡◌, ℕ, ◌+◌, ◌<◌, ◌^◌, List, Some, slice_get};
+ghost use Rattle.std.specs.Prelude.{◌≡◌, ℕ, ◌+◌, ◌<◌, ◌^◌, List, Some, true, slice_get};
 ghost use Rattle.wasm_types.specs.declared.instruction.Instr.TheVariants.{Index, BranchTable};
 ghost use Rattle.wasm_types.specs.declared.instruction.IndexOp.TheVariants.{Branch, BranchIf};
 ghost use Rattle.validator.specs.Context.{labels_in};
 ghost use Rattle.thread_step.specs.Step.{chosen_label};
 ghost use Rattle.thread_step.specs.Thread.{Function, function_at};
+ghost use Rattle.thread_words.specs.Fields.{Keeps};
 ghost use Rattle.thread_words.specs.Leaving.{CanBranch, Branches, CanLand, Lands, CanLandAt, LandsAt, HasTable};
 ghost use Rattle.thread_words.specs.Moves.{CanStepIn, StepsIn};
 
@@ -35,12 +36,7 @@ fn land(valid: &Valid, function: u32, opener: u32, kind: BlockKind, t: Option<Va
             place: opener + 1,
             labels: 1,
         },
-        BlockKind::Block => Landing {
-            keep: t.is_some(),
-            place: behind_end(valid, function, opener),
-            labels: 0,
-        },
-        BlockKind::If => Landing {
+        BlockKind::Block | BlockKind::If => Landing {
             keep: t.is_some(),
             place: behind_end(valid, function, opener),
             labels: 0,
@@ -59,14 +55,17 @@ fn landing_at(valid: &Valid, function: u32, opener: u32) -> Landing
     }
 }
 
-/// A branch to the label at a depth, the outermost of which is the function's.
-fn branch_to(m: &mut Stacks, valid: &Valid, depth: u32)
+/// A branch to the label at a depth, the outermost of which is the function's. Answers whether the same function is
+/// known to go on.
+#[inline(always)]
+fn branch_to(m: &mut Stacks, valid: &Valid, depth: u32) -> bool
     requires { CanBranch valid.now depth m.old }
-    ensures { Branches valid.now depth m.old m.new }
+    ensures steps { Branches valid.now depth m.old m.new }
+    ensures kept { result ≡ true → Keeps m.old m.new }
 {
     if m.labels.len() - m.here.labels == depth as usize {
         leave(m, valid);
-        return;
+        return false;
     }
     let at = m.labels.len() - 1 - depth as usize;
     let label = m.labels[at];
@@ -74,26 +73,32 @@ fn branch_to(m: &mut Stacks, valid: &Valid, depth: u32)
     cut(&mut m.words, label.height, landing.keep);
     m.labels.truncate(at + landing.labels);
     m.here.place = landing.place;
+    true
 }
 
-/// `br`. It takes no memory.
-pub fn branch(m: &mut Stacks, valid: &Valid, depth: u32)
+/// `br`. It takes no memory. Answers whether the same function is known to go on.
+#[inline(always)]
+pub fn branch(m: &mut Stacks, valid: &Valid, depth: u32) -> bool
     requires { CanStepIn valid.now (Index Branch depth) m.old }
-    ensures { StepsIn valid.now (Index Branch depth) m.old m.new }
+    ensures steps { StepsIn valid.now (Index Branch depth) m.old m.new }
+    ensures kept { result ≡ true → Keeps m.old m.new }
 {
-    branch_to(m, valid, depth);
+    branch_to(m, valid, depth)
 }
 
-/// `br_if`. It takes no memory.
-pub fn branch_if(m: &mut Stacks, valid: &Valid, depth: u32)
+/// `br_if`. It takes no memory. Answers whether the same function is known to go on.
+#[inline(always)]
+pub fn branch_if(m: &mut Stacks, valid: &Valid, depth: u32) -> bool
     requires { CanStepIn valid.now (Index BranchIf depth) m.old }
-    ensures { StepsIn valid.now (Index BranchIf depth) m.old m.new }
+    ensures steps { StepsIn valid.now (Index BranchIf depth) m.old m.new }
+    ensures kept { result ≡ true → Keeps m.old m.new }
 {
     let condition = i32_operand(m, 0);
     drop_top(m, 1);
     if condition != 0 {
-        branch_to(m, valid, depth);
+        return branch_to(m, valid, depth);
     }
+    true
 }
 
 /// The label of a branch table by an operand, or the default where that is too large.
@@ -108,13 +113,15 @@ fn label_at(valid: &Valid, function: u32, range: LabelRange, default: u32, at: u
     }
 }
 
-/// `br_table`. It takes no memory.
-pub fn branch_table(m: &mut Stacks, valid: &Valid, range: LabelRange, default: u32)
+/// `br_table`. It takes no memory. Answers whether the same function is known to go on.
+#[inline(never)]
+pub fn branch_table(m: &mut Stacks, valid: &Valid, range: LabelRange, default: u32) -> bool
     requires { CanStepIn valid.now (BranchTable range default) m.old }
-    ensures { StepsIn valid.now (BranchTable range default) m.old m.new }
+    ensures steps { StepsIn valid.now (BranchTable range default) m.old m.new }
+    ensures kept { result ≡ true → Keeps m.old m.new }
 {
     let at = i32_operand(m, 0);
     let depth = label_at(valid, m.here.function, range, default, at);
     drop_top(m, 1);
-    branch_to(m, valid, depth);
+    branch_to(m, valid, depth)
 }

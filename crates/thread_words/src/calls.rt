@@ -36,8 +36,10 @@ fn frame_limit(starting: bool) -> usize
     if starting { 257 } else { 256 }
 }
 
-/// Zeros come in the place of so many words on top. Where memory is wanted the words stay.
-pub fn put_zeros(words: &mut Vec<u64>, taken: usize, zeros: usize) -> Result<(), NoMemory>
+/// Does what `put_zeros` says, for any number of zeros. It is kept apart, so that a call of a function without locals
+/// is short.
+#[inline(never)]
+fn put_some_zeros(words: &mut Vec<u64>, taken: usize, zeros: usize) -> Result<(), NoMemory>
     requires { taken ≤ length words.old.items }
     ensures ok { OnOk result (words.new.items ≡ take (length words.old.items - taken) words.old.items ++ replicate zeros 0) }
     ensures err { OnErr result (words.new.items ≡ words.old.items) }
@@ -50,7 +52,24 @@ pub fn put_zeros(words: &mut Vec<u64>, taken: usize, zeros: usize) -> Result<(),
     Ok(())
 }
 
+/// Zeros come in the place of so many words on top. Where memory is wanted the words stay.
+#[inline(always)]
+pub fn put_zeros(words: &mut Vec<u64>, taken: usize, zeros: usize) -> Result<(), NoMemory>
+    requires { taken ≤ length words.old.items }
+    ensures ok { OnOk result (words.new.items ≡ take (length words.old.items - taken) words.old.items ++ replicate zeros 0) }
+    ensures err { OnErr result (words.new.items ≡ words.old.items) }
+    ensures room { vec_len words.old + zeros ≤ vec_capacity words.old → IsOk result }
+{
+    if zeros == 0 {
+        let left = words.len() - taken;
+        words.truncate(left);
+        return Ok(());
+    }
+    put_some_zeros(words, taken, zeros)
+}
+
 /// Enters a function, whose arguments stand below so many words that go.
+#[inline(always)]
 fn enter_function(
     m: &mut Stacks,
     valid: &Valid,
@@ -63,10 +82,10 @@ fn enter_function(
     ensures err { OnErr result (Unchanged m.old m.new) }
     ensures room { HasRoom (declared_of valid.now function) m.old → IsOk result }
 {
+    m.callers.reserve(1)?;
     let params = type_of_function(valid, function).params.as_slice().len();
     let declared = declared_locals(body_of_function(valid, function))?;
     let low = m.words.len() - taken - params;
-    m.callers.reserve(1)?;
     put_zeros(&mut m.words, taken, declared)?;
     m.callers.push_reserved(Level {
         function: m.here.function,
@@ -84,6 +103,7 @@ fn enter_function(
 }
 
 /// Calls a function, whose arguments stand below so many words that go. One function too many stops the thread.
+#[inline(always)]
 pub(crate) fn call_function(
     m: &mut Stacks,
     valid: &Valid,
@@ -103,6 +123,7 @@ pub(crate) fn call_function(
 }
 
 /// `call`.
+#[inline(always)]
 pub fn call(m: &mut Stacks, valid: &Valid, function: u32) -> Result<(), NoMemory>
     requires { CanStepIn valid.now (Index Call function) m.old }
     ensures ok { OnOk result (StepsIn valid.now (Index Call function) m.old m.new) }

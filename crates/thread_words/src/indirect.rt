@@ -63,6 +63,7 @@ fn element_at(instance: &Instance, at: u32) -> Option<Option<u32>>
 
 /// `call_indirect`, with the index of its type. An element that is not there, that is empty or whose function has
 /// another type stops the thread.
+#[inline(never)]
 pub fn call_indirect(
     m: &mut Stacks,
     valid: &Valid,

@@ -35,6 +35,7 @@ fn still_starts(starting: bool, callers: &[Level]) -> bool
 }
 
 /// The function on top returns. Where it has no caller, the thread is done.
+#[inline(never)]
 pub(crate) fn leave(m: &mut Stacks, valid: &Valid)
     requires { CanLeave valid.now m.old }
     ensures { Leaves valid.now m.old m.new }
@@ -44,10 +45,11 @@ pub(crate) fn leave(m: &mut Stacks, valid: &Valid)
         m.stage = Stage::Ended(Outcome::Done(result_on_top(m, result)));
         return;
     };
-    cut(&mut m.words, m.here.words, result.is_some());
-    m.labels.truncate(m.here.labels);
-    m.starting = still_starts(m.starting, &m.callers);
+    let left = m.here;
     m.here = level;
+    cut(&mut m.words, left.words, result.is_some());
+    m.labels.truncate(left.labels);
+    m.starting = still_starts(m.starting, &m.callers);
 }
 
 /// `return`. It takes no memory.

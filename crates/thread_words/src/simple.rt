@@ -24,7 +24,8 @@ pub fn constant(m: &mut Stacks, value: Value) -> Result<(), NoMemory>
 /// `drop`. It takes no memory.
 pub fn discard(m: &mut Stacks)
     requires { CanStepSomewhere (Plain Discard) m.old }
-    ensures { StepsAnywhere (Plain Discard) m.old m.new }
+    ensures steps { StepsAnywhere (Plain Discard) m.old m.new }
+    ensures kept { Keeps m.old m.new }
 {
     drop_top(m, 1);
 }
@@ -32,7 +33,8 @@ pub fn discard(m: &mut Stacks)
 /// `select`. It takes no memory.
 pub fn select(m: &mut Stacks)
     requires { CanStepSomewhere (Plain Select) m.old }
-    ensures { StepsAnywhere (Plain Select) m.old m.new }
+    ensures steps { StepsAnywhere (Plain Select) m.old m.new }
+    ensures kept { Keeps m.old m.new }
 {
     let depth = if i32_operand(m, 0) == 0 { 1 } else { 2 };
     let chosen = operand(&m.words, depth);
@@ -42,7 +44,8 @@ pub fn select(m: &mut Stacks)
 /// `nop`. It takes no memory.
 pub fn nop(m: &mut Stacks)
     requires { CanStepSomewhere (Plain Nop) m.old }
-    ensures { StepsAnywhere (Plain Nop) m.old m.new }
+    ensures steps { StepsAnywhere (Plain Nop) m.old m.new }
+    ensures kept { Keeps m.old m.new }
 {
     advance(m);
 }
@@ -50,7 +53,8 @@ pub fn nop(m: &mut Stacks)
 /// `atomic.fence`. It takes no memory.
 pub fn fence(m: &mut Stacks)
     requires { CanStepSomewhere Fence m.old }
-    ensures { StepsAnywhere Fence m.old m.new }
+    ensures steps { StepsAnywhere Fence m.old m.new }
+    ensures kept { Keeps m.old m.new }
 {
     advance(m);
 }

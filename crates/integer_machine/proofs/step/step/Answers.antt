@@ -9,7 +9,7 @@ pub plain_step-requires : goal.plain_step-requires
 plain_step-requires c = (instance_at c.args.instance.now, subst (λ i. CanStep c.args.valid.now (instance_at c.args.instance.now) i c.args.m.now) c.in-Plain.is c.requires.can)
 
 pub returns-in-Plain-clause-ok : goal.returns-in-Plain-clause-ok
-returns-in-Plain-clause-ok c = subst (λ i. Steps c.args.valid.now (instance_at c.args.instance.now) i c.args.m.now c.plain_step.new.m) (sym c.in-Plain.is) (c.plain_step.ensures (instance_at c.args.instance.now))
+returns-in-Plain-clause-ok c = subst (λ i. Steps c.args.valid.now (instance_at c.args.instance.now) i c.args.m.now c.plain_step.new.m) (sym c.in-Plain.is) (c.plain_step.ensures.steps (instance_at c.args.instance.now))
 
 pub numeric-requires : goal.numeric-requires
 numeric-requires c = (c.args.valid.now, instance_at c.args.instance.now, subst (λ i. CanStep c.args.valid.now (instance_at c.args.instance.now) i c.args.m.now) c.in-Numeric.is c.requires.can)
@@ -37,25 +37,25 @@ pub branch_table-requires : goal.branch_table-requires
 branch_table-requires c = (instance_at c.args.instance.now, subst (λ i. CanStep c.args.valid.now (instance_at c.args.instance.now) i c.args.m.now) c.in-BranchTable.is c.requires.can)
 
 pub returns-in-BranchTable-clause-ok : goal.returns-in-BranchTable-clause-ok
-returns-in-BranchTable-clause-ok c = subst (λ i. Steps c.args.valid.now (instance_at c.args.instance.now) i c.args.m.now c.branch_table.new.m) (sym c.in-BranchTable.is) (c.branch_table.ensures (instance_at c.args.instance.now))
+returns-in-BranchTable-clause-ok c = subst (λ i. Steps c.args.valid.now (instance_at c.args.instance.now) i c.args.m.now c.branch_table.new.m) (sym c.in-BranchTable.is) (c.branch_table.ensures.steps (instance_at c.args.instance.now))
 
 pub call_indirect-requires : goal.call_indirect-requires
 call_indirect-requires c = subst (λ i. CanStep c.args.valid.now (instance_at c.args.instance.now) i c.args.m.now) c.in-CallIndirect.is c.requires.can
 
-pub returns-in_ok-call_indirect-in-CallIndirect-clause-ok : goal.returns-in_ok-call_indirect-in-CallIndirect-clause-ok
-returns-in_ok-call_indirect-in-CallIndirect-clause-ok c = subst (λ i. Steps c.args.valid.now (instance_at c.args.instance.now) i c.args.m.now c.call_indirect.new.m) (sym c.in-CallIndirect.is) c.in_ok-call_indirect-in-CallIndirect.ensures.ok
+pub returns-in-CallIndirect-clause-ok : goal.returns-in-CallIndirect-clause-ok
+returns-in-CallIndirect-clause-ok c = subst (λ i. Steps c.args.valid.now (instance_at c.args.instance.now) i c.args.m.now c.call_indirect.new.m) (sym c.in-CallIndirect.is) c.in_ok-call_indirect-in-CallIndirect.ensures.ok
 
 pub constant-requires : goal.constant-requires
 constant-requires c = (c.args.valid.now, instance_at c.args.instance.now, subst (λ i. CanStep c.args.valid.now (instance_at c.args.instance.now) i c.args.m.now) c.in-Const.is c.requires.can)
 
-pub returns-in-Const-clause-ok : goal.returns-in-Const-clause-ok
-returns-in-Const-clause-ok c = subst (λ i. Steps c.args.valid.now (instance_at c.args.instance.now) i c.args.m.now c.constant.new.m) (sym c.in-Const.is) (c.in_ok-constant-in-Const.ensures.ok c.args.valid.now (instance_at c.args.instance.now))
+pub returns-in_ok-constant-in-Const-clause-ok : goal.returns-in_ok-constant-in-Const-clause-ok
+returns-in_ok-constant-in-Const-clause-ok c = subst (λ i. Steps c.args.valid.now (instance_at c.args.instance.now) i c.args.m.now c.constant.new.m) (sym c.in-Const.is) (c.in_ok-constant-in-Const.ensures.ok c.args.valid.now (instance_at c.args.instance.now))
 
 pub fence-requires : goal.fence-requires
 fence-requires c = (c.args.valid.now, instance_at c.args.instance.now, subst (λ i. CanStep c.args.valid.now (instance_at c.args.instance.now) i c.args.m.now) c.in-Fence.is c.requires.can)
 
 pub returns-in-Fence-clause-ok : goal.returns-in-Fence-clause-ok
-returns-in-Fence-clause-ok c = subst (λ i. Steps c.args.valid.now (instance_at c.args.instance.now) i c.args.m.now c.fence.new.m) (sym c.in-Fence.is) (c.fence.ensures c.args.valid.now (instance_at c.args.instance.now))
+returns-in-Fence-clause-ok c = subst (λ i. Steps c.args.valid.now (instance_at c.args.instance.now) i c.args.m.now c.fence.new.m) (sym c.in-Fence.is) (c.fence.ensures.steps c.args.valid.now (instance_at c.args.instance.now))
 
 pub unreachable-requires : goal.unreachable-requires
 unreachable-requires c =

@@ -23,16 +23,16 @@ leave-requires c =
 pub overflow_add-place : goal.overflow_add-place
 overflow_add-place c = let k = c.requires.1 in Fits-of_lt (next_fits c.args.valid.now c.requires.0 (instr.Plain End) k.0 (Local k.1) c.args.m.now k.2)
 
-pub returns-then-len-m : goal.returns-then-len-m
-returns-then-len-m c = λ instance s after k.
+pub returns-then-len-m-clause-steps : goal.returns-then-len-m-clause-steps
+returns-then-len-m-clause-steps c = λ instance s after k.
     let size : c.len.result ≡ length c.args.m.now.labels.items = search rules in
     let z : length c.args.m.now.labels.items ≡ c.args.m.now.here.labels = sym size ∙ c.if-len-m.true in
     let a = acts_here c.args.valid.now instance (instr.Plain End) s (Local after) c.args.m.now k in
     let p = ends_function c.args.valid.now instance (instr.Plain End) s after c.args.m.now a.next _ k a.acts a.moves z in
     subst (λ x. Stands x c.leave.new.m) p.1 (c.leave.ensures s k.function p.0)
 
-pub returns-else-len-m : goal.returns-else-len-m
-returns-else-len-m c = λ instance s after k.
+pub returns-clause-steps : goal.returns-clause-steps
+returns-clause-steps c = λ instance s after k.
     let size : c.len.result ≡ length c.args.m.now.labels.items = search rules in
     let a = acts_here c.args.valid.now instance (instr.Plain End) s (Local after) c.args.m.now k in
     ends_block c.args.valid.now instance (instr.Plain End) s after c.args.m.now c.close.new.m a.next (λ ls. Some (Stays (at_place (suc s.top.activation.place) s.top.activation.stack ls s.top.activation))) (suc s.top.activation.place) k a.acts a.moves (λ z. c.if-len-m.false (size ∙ z)) (λ ls e. e)

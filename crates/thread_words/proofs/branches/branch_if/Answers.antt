@@ -21,11 +21,11 @@ branch_to-requires c =
     let p = if_branches c.args.valid.now c.requires.0 c.args.depth k.0 k.1 c.args.m.now c.drop_top.new.m c.i32_operand-condition.result k.2 (λ s v o. c.i32_operand-condition.ensures s v o) c.if-condition-ne0.true c.drop_top.ensures in
     (p.0, k.1, p.1)
 
-pub returns-then-condition-ne0 : goal.returns-then-condition-ne0
-returns-then-condition-ne0 c = λ instance s after k.
+pub returns-then-condition-ne0-clause-steps : goal.returns-then-condition-ne0-clause-steps
+returns-then-condition-ne0-clause-steps c = λ instance s after k.
     let p = if_branches c.args.valid.now instance c.args.depth s after c.args.m.now c.drop_top.new.m c.i32_operand-condition.result k (λ s v o. c.i32_operand-condition.ensures s v o) c.if-condition-ne0.true c.drop_top.ensures in
-    c.branch_to.ensures p.0 after p.1
+    c.branch_to.ensures.steps p.0 after p.1
 
-pub returns-else-condition-ne0 : goal.returns-else-condition-ne0
-returns-else-condition-ne0 c = λ instance s after k.
+pub returns-clause-steps : goal.returns-clause-steps
+returns-clause-steps c = λ instance s after k.
     if_stays c.args.valid.now instance c.args.depth s after c.args.m.now c.drop_top.new.m c.i32_operand-condition.result k (λ s v o. c.i32_operand-condition.ensures s v o) c.if-condition-ne0.false c.drop_top.ensures

@@ -28,7 +28,7 @@ branch_to-requires c =
     let p = table_branches c.args.valid.now c.requires.0 c.args.range c.args.default k.0 k.1 c.args.m.now c.drop_top.new.m c.i32_operand-at.result c.label_at-depth.result k.2 (λ s v o. c.i32_operand-at.ensures s v o) c.label_at-depth.ensures c.drop_top.ensures in
     (p.0, k.1, p.1)
 
-pub returns : goal.returns
-returns c = λ instance s after k.
+pub returns-clause-steps : goal.returns-clause-steps
+returns-clause-steps c = λ instance s after k.
     let p = table_branches c.args.valid.now instance c.args.range c.args.default s after c.args.m.now c.drop_top.new.m c.i32_operand-at.result c.label_at-depth.result k (λ s v o. c.i32_operand-at.ensures s v o) c.label_at-depth.ensures c.drop_top.ensures in
-    c.branch_to.ensures p.0 after p.1
+    c.branch_to.ensures.steps p.0 after p.1

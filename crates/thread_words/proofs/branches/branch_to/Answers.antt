@@ -13,8 +13,8 @@ leave-requires c =
     let e : c.args.depth ≡ length k.0.top.activation.labels = omega (arith, c.if-len-m.true) in
     (k.0, k.2.function, (branch_leaves c.args.valid.now c.args.depth k.0 k.1 c.args.m.now k.2 e).0)
 
-pub returns-then-len-m : goal.returns-then-len-m
-returns-then-len-m c = λ s after k.
+pub returns-then-len-m-clause-steps : goal.returns-then-len-m-clause-steps
+returns-then-len-m-clause-steps c = λ s after k.
     let size : c.len.result ≡ length c.args.m.now.labels.items = search rules in
     let d = depth_is c.args.valid.now c.args.depth s after c.args.m.now k in
     let d1 = d.1 in
@@ -68,8 +68,8 @@ overflow_add-at c =
     let b = g.within in
     omega arith
 
-pub returns : goal.returns
-returns c = λ s after k.
+pub returns-clause-steps : goal.returns-clause-steps
+returns-clause-steps c = λ s after k.
     let size : c.len.result ≡ length c.args.m.now.labels.items = search rules in
     let size2 : c.len-2.result ≡ length c.args.m.now.labels.items = search rules in
     let ne : length c.args.m.now.labels.items - c.args.m.now.here.labels ≡ c.args.depth → ⊥ = λ q. c.if-len-m.false (ap (λ y. y - c.args.m.now.here.labels) size ∙ q) in

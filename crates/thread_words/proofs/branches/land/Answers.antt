@@ -1,6 +1,7 @@
-use Rattle.std.proofs.Common.{refl, sym, subst}
+use Rattle.std.proofs.Common.{refl, sym, subst, inl, inr}
 use Rattle.std.proofs.Math.Facts.{Fits-of_lt}
-use Rattle.thread_words.specs.Leaving.{LandsBy}
+use Rattle.thread_words.specs.Leaving.{LandsBy, LandsBehind}
+use Rattle.thread_words.specs.declared.branches.Landing.{Landing}
 use Rattle.thread_words.proofs.Landings.{block_fits, block_end, one_result}
 use Rattle.thread_words.proofs.branches.land.Goals as goal
 
@@ -9,18 +10,13 @@ overflow_add-result c = let k = c.requires in Fits-of_lt (block_fits c.args.vali
 
 pub returns-in-Block : goal.returns-in-Block
 returns-in-Block c = λ is k.
-    subst (λ y. LandsBy c.args.opener y c.args.t is (record { keep = c.is_some.result; place = c.behind_end.result; labels = 0 })) (sym c.in-Block.is)
-    (record {
+    let landing : Landing = record { keep = c.is_some.result; place = c.behind_end.result; labels = 0 } in
+    let behind : LandsBehind c.args.opener c.args.t is landing = record {
       keeps = one_result c.args.t c.is_some.result c.is_some.ensures;
       behind = λ e h. c.behind_end.ensures e (block_end c.args.valid.now c.args.function c.args.opener c.args.kind c.args.t is e k h);
       closed = refl;
-    })
-
-pub returns-in-If : goal.returns-in-If
-returns-in-If c = λ is k.
-    subst (λ y. LandsBy c.args.opener y c.args.t is (record { keep = c.is_some-in-If.result; place = c.behind_end-in-If.result; labels = 0 })) (sym c.in-If.is)
-    (record {
-      keeps = one_result c.args.t c.is_some-in-If.result c.is_some-in-If.ensures;
-      behind = λ e h. c.behind_end-in-If.ensures e (block_end c.args.valid.now c.args.function c.args.opener c.args.kind c.args.t is e k h);
-      closed = refl;
-    })
+    } in
+    elim c.in-Block.is [
+      | inl e ↦ subst (λ y. LandsBy c.args.opener y c.args.t is landing) (sym e) behind
+      | inr e ↦ subst (λ y. LandsBy c.args.opener y c.args.t is landing) (sym e) behind
+    ]

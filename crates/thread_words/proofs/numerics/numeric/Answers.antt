@@ -1,52 +1,13 @@
-use Rattle.std.proofs.Common.{[], ◌∷◌, sym, subst}
+use Rattle.std.proofs.Common.{sym, subst}
 use Rattle.wasm_types.specs.declared.instruction.Instr.TheVariants.{Numeric as NumericInstr}
-use Rattle.wasm_types.specs.declared.value.Value.TheVariants as value
-use Rattle.thread_step.specs.Thread.{Local}
-use Rattle.integer_ops.specs.Numeric.{bits_of, computed, operand_types, Takes}
-use Rattle.thread_words.specs.Fields.{Finishes}
-use Rattle.thread_words.proofs.Here.{next_fits, acts_here}
-use Rattle.thread_words.proofs.Straight.{takes_one, takes_two, finishes}
+use Rattle.thread_words.specs.Moves.{StepsAnywhere}
 use Rattle.thread_words.proofs.numerics.numeric.Goals as goal
 
-pub typed_operand-a-requires : goal.typed_operand-a-requires
-typed_operand-a-requires c = let k = c.requires in let p = takes_one k.0 k.1 c.args.op c.in-One.t k.2.0 (Local k.2.1) c.args.m.now k.2.2 c.in-One.ensures in (k.2.0, p.only, p.there)
+pub returns-in-IsZero-clause-steps : goal.returns-in-IsZero-clause-steps
+returns-in-IsZero-clause-steps c = subst (λ o. StepsAnywhere (NumericInstr o) c.args.m.now c.numeric_of_one.new.m) (sym c.in-IsZero.is) c.numeric_of_one.ensures.steps
 
-pub compute-requires : goal.compute-requires
-compute-requires c = let k = c.requires in let p = takes_one k.0 k.1 c.args.op c.in-One.t k.2.0 (Local k.2.1) c.args.m.now k.2.2 c.in-One.ensures in
-    subst (λ y. Takes (operand_types c.args.op) y (value.I64 0)) (sym (c.typed_operand-a.ensures k.2.0 p.only p.there)) p.takes
+pub returns-in-Unary-clause-steps : goal.returns-in-Unary-clause-steps
+returns-in-Unary-clause-steps c = subst (λ o. StepsAnywhere (NumericInstr o) c.args.m.now c.numeric_of_one-in-Unary.new.m) (sym c.in-Unary.is) c.numeric_of_one-in-Unary.ensures.steps
 
-pub finish-requires-clause-place : goal.finish-requires-clause-place
-finish-requires-clause-place c = let k = c.requires in next_fits k.0 k.1 (NumericInstr c.args.op) k.2.0 (Local k.2.1) c.args.m.now k.2.2
-
-pub typed_operand-b-requires : goal.typed_operand-b-requires
-typed_operand-b-requires c = let k = c.requires in let p = takes_two k.0 k.1 c.args.op c.in-Two.t k.2.0 (Local k.2.1) c.args.m.now k.2.2 c.in-Two.ensures in (k.2.0, p.second, p.second_there)
-
-pub typed_operand-a-requires-in-Two : goal.typed_operand-a-requires-in-Two
-typed_operand-a-requires-in-Two c = let k = c.requires in let p = takes_two k.0 k.1 c.args.op c.in-Two.t k.2.0 (Local k.2.1) c.args.m.now k.2.2 c.in-Two.ensures in (k.2.0, p.first, p.first_there)
-
-pub compute-requires-in-Two : goal.compute-requires-in-Two
-compute-requires-in-Two c = let k = c.requires in let p = takes_two k.0 k.1 c.args.op c.in-Two.t k.2.0 (Local k.2.1) c.args.m.now k.2.2 c.in-Two.ensures in
-    subst (λ y. Takes (operand_types c.args.op) c.typed_operand-a-in-Two.result y) (sym (c.typed_operand-b.ensures k.2.0 p.second p.second_there))
-    (subst (λ y. Takes (operand_types c.args.op) y p.second) (sym (c.typed_operand-a-in-Two.ensures k.2.0 p.first p.first_there)) p.takes)
-
-pub finish-requires-in-Two-clause-place : goal.finish-requires-in-Two-clause-place
-finish-requires-in-Two-clause-place c = let k = c.requires in next_fits k.0 k.1 (NumericInstr c.args.op) k.2.0 (Local k.2.1) c.args.m.now k.2.2
-
-pub finish-requires-in-Two-clause-enough : goal.finish-requires-in-Two-clause-enough
-finish-requires-in-Two-clause-enough c = let k = c.requires in (takes_two k.0 k.1 c.args.op c.in-Two.t k.2.0 (Local k.2.1) c.args.m.now k.2.2 c.in-Two.ensures).enough
-
-pub returns-in-One-clause-steps : goal.returns-in-One-clause-steps
-returns-in-One-clause-steps c = λ m instance s after k.
-    let p = takes_one m instance c.args.op c.in-One.t s (Local after) c.args.m.now k c.in-One.ensures in
-    let a = acts_here m instance (NumericInstr c.args.op) s (Local after) c.args.m.now k in
-    finishes m instance (NumericInstr c.args.op) s after c.args.m.now c.finish.new.m a.next (p.only ∷ []) p.rest (computed c.args.op (bits_of p.only) 0) k p.gives a.moves p.stack
-    (subst (λ y. Finishes 1 (computed c.args.op (bits_of y) 0) c.args.m.now c.finish.new.m) (c.typed_operand-a.ensures s p.only p.there) (subst (λ y. Finishes 1 y c.args.m.now c.finish.new.m) c.compute.ensures c.finish.ensures.finishes))
-
-pub returns-in-Two-clause-steps : goal.returns-in-Two-clause-steps
-returns-in-Two-clause-steps c = λ m instance s after k.
-    let p = takes_two m instance c.args.op c.in-Two.t s (Local after) c.args.m.now k c.in-Two.ensures in
-    let a = acts_here m instance (NumericInstr c.args.op) s (Local after) c.args.m.now k in
-    finishes m instance (NumericInstr c.args.op) s after c.args.m.now c.finish-in-Two.new.m a.next (p.second ∷ p.first ∷ []) p.rest (computed c.args.op (bits_of p.first) (bits_of p.second)) k p.gives a.moves p.stack
-    (subst (λ y. Finishes 2 (computed c.args.op (bits_of y) (bits_of p.second)) c.args.m.now c.finish-in-Two.new.m) (c.typed_operand-a-in-Two.ensures s p.first p.first_there)
-    (subst (λ y. Finishes 2 (computed c.args.op (bits_of c.typed_operand-a-in-Two.result) (bits_of y)) c.args.m.now c.finish-in-Two.new.m) (c.typed_operand-b.ensures s p.second p.second_there)
-    (subst (λ y. Finishes 2 y c.args.m.now c.finish-in-Two.new.m) c.compute-in-Two.ensures c.finish-in-Two.ensures.finishes)))
+pub returns-in-ExtendLow-clause-steps : goal.returns-in-ExtendLow-clause-steps
+returns-in-ExtendLow-clause-steps c = subst (λ o. StepsAnywhere (NumericInstr o) c.args.m.now c.numeric_of_one-in-ExtendLow.new.m) (sym c.in-ExtendLow.is) c.numeric_of_one-in-ExtendLow.ensures.steps

@@ -16,8 +16,8 @@ replace_top-requires-clause-place c = let k = c.requires in next_fits k.0 k.1 (P
 pub replace_top-requires-clause-enough : goal.replace_top-requires-clause-enough
 replace_top-requires-clause-enough c = let k = c.requires in select_enough k.0 k.1 k.2.0 (Local k.2.1) c.args.m.now k.2.2
 
-pub returns : goal.returns
-returns c = λ m instance s after k.
+pub returns-clause-steps : goal.returns-clause-steps
+returns-clause-steps c = λ m instance s after k.
     let zero : c.i32_operand.result ≡ 0 → c.if-i32_operand-eq0.depth ≡ 1 = λ z. elim c.if-i32_operand-eq0.branch [ then-i32_operand-eq0 w ↦ w.depth-is | else-i32_operand-eq0 w ↦ absurd (w.if-i32_operand-eq0.false z) ] in
     let other : (c.i32_operand.result ≡ 0 → ⊥) → c.if-i32_operand-eq0.depth ≡ 2 = λ z. elim c.if-i32_operand-eq0.branch [ then-i32_operand-eq0 w ↦ absurd (z w.if-i32_operand-eq0.true) | else-i32_operand-eq0 w ↦ w.depth-is ] in
     let read : c.operand-chosen.result ≡ get_or c.args.m.now.words.items (length c.args.m.now.words.items - 1 - c.if-i32_operand-eq0.depth) c.operand-chosen.result =

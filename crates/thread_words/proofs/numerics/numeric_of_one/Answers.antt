@@ -1,0 +1,26 @@
+use Rattle.std.proofs.Common.{[], ◌∷◌, sym, subst}
+use Rattle.wasm_types.specs.declared.instruction.Instr.TheVariants.{Numeric as NumericInstr}
+use Rattle.wasm_types.specs.declared.value.Value.TheVariants as value
+use Rattle.thread_step.specs.Thread.{Local}
+use Rattle.integer_ops.specs.Numeric.{bits_of, computed, operand_types, Takes}
+use Rattle.thread_words.specs.Fields.{Finishes}
+use Rattle.thread_words.proofs.Here.{next_fits, acts_here}
+use Rattle.thread_words.proofs.Straight.{takes_one, finishes}
+use Rattle.thread_words.proofs.numerics.numeric_of_one.Goals as goal
+
+pub typed_operand-a-requires : goal.typed_operand-a-requires
+typed_operand-a-requires c = let k = c.requires.can in let p = takes_one k.0 k.1 c.args.op c.args.t k.2.0 (Local k.2.1) c.args.m.now k.2.2 c.requires.types in (k.2.0, p.only, p.there)
+
+pub compute-requires : goal.compute-requires
+compute-requires c = let k = c.requires.can in let p = takes_one k.0 k.1 c.args.op c.args.t k.2.0 (Local k.2.1) c.args.m.now k.2.2 c.requires.types in
+    subst (λ y. Takes (operand_types c.args.op) y (value.I64 0)) (sym (c.typed_operand-a.ensures k.2.0 p.only p.there)) p.takes
+
+pub finish-requires-clause-place : goal.finish-requires-clause-place
+finish-requires-clause-place c = let k = c.requires.can in next_fits k.0 k.1 (NumericInstr c.args.op) k.2.0 (Local k.2.1) c.args.m.now k.2.2
+
+pub returns-clause-steps : goal.returns-clause-steps
+returns-clause-steps c = λ m instance s after k.
+    let p = takes_one m instance c.args.op c.args.t s (Local after) c.args.m.now k c.requires.types in
+    let a = acts_here m instance (NumericInstr c.args.op) s (Local after) c.args.m.now k in
+    finishes m instance (NumericInstr c.args.op) s after c.args.m.now c.finish.new.m a.next (p.only ∷ []) p.rest (computed c.args.op (bits_of p.only) 0) k p.gives a.moves p.stack
+    (subst (λ y. Finishes 1 (computed c.args.op (bits_of y) 0) c.args.m.now c.finish.new.m) (c.typed_operand-a.ensures s p.only p.there) (subst (λ y. Finishes 1 y c.args.m.now c.finish.new.m) c.compute.ensures c.finish.ensures.finishes))
