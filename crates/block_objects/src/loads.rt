@@ -11,6 +11,7 @@ use crate::numbers::{u8_at, u16_at, u32_at, u64_at};
 use wasm_types::{Access, Extension, Load, Narrow, ValType, Value};
 
 /// What a load answers at a place that has its bytes.
+#[inline(always)]
 pub(crate) fn load_value(bytes: &[u8], load: Load, at: usize) -> Value
     requires { at + byte_len (load_width load) ≤ length bytes.now }
     ensures { result ≡ loaded load (number_at (load_width load) at bytes.now) }
@@ -24,6 +25,7 @@ pub(crate) fn load_value(bytes: &[u8], load: Load, at: usize) -> Value
 }
 
 /// What a narrow load answers that extends by zeros.
+#[inline(always)]
 fn load_unsigned(bytes: &[u8], narrow: Narrow, at: usize) -> Value
     requires { at + byte_len (narrow_width narrow) ≤ length bytes.now }
     ensures { result ≡ loaded (load.Narrow narrow Unsigned) (number_at (narrow_width narrow) at bytes.now) }
@@ -38,6 +40,7 @@ fn load_unsigned(bytes: &[u8], narrow: Narrow, at: usize) -> Value
 }
 
 /// What a narrow load answers that extends by the sign.
+#[inline(always)]
 fn load_signed(bytes: &[u8], narrow: Narrow, at: usize) -> Value
     requires { at + byte_len (narrow_width narrow) ≤ length bytes.now }
     ensures { result ≡ loaded (load.Narrow narrow Signed) (number_at (narrow_width narrow) at bytes.now) }

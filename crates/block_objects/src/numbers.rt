@@ -64,6 +64,7 @@ pub(crate) fn read_number(bytes: &[u8], width: Width, at: usize) -> u64
 }
 
 /// Puts the low bits of a number, as many as the width has, at a place.
+#[inline(always)]
 pub(crate) fn write_number(bytes: &mut [u8], width: Width, at: usize, number: u64)
     requires { at + byte_len (width_of width) ≤ length bytes.old }
     ensures { bytes.new ≡ with_number (width_of width) at number bytes.old }

@@ -3,3 +3,4 @@ pub mod Steps
 pub mod SoundSteps
 pub mod Opens
 pub mod Places
+pub mod Alone

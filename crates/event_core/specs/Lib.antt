@@ -5,3 +5,4 @@ pub mod World
 pub mod Opening
 pub mod End
 pub mod Run
+pub mod Alone

@@ -12,4 +12,4 @@ pub use ended::Ended;
 pub use laws::places_count_entries;
 pub use pick::{Input, Pick};
 pub use step::{PickStep, StepFault, Stepped};
-pub use world::World;
+pub use world::{World, outcome_of};

@@ -67,8 +67,8 @@ fn step_of_next<S: ObjectSpace>(
     }
 }
 
-/// How a thread stands, by what it does next.
-fn outcome_of<O: Copy>(next: Next<O>) -> Outcome
+/// How a thread stands, by what it does next: one that sleeps waits, and one whose next step comes runs.
+pub fn outcome_of<O: Copy>(next: Next<O>) -> Outcome
     ensures { result ≡ outcome_of next }
 {
     match next {

@@ -1,5 +1,6 @@
 pub mod Going
 pub mod Tries
+pub mod Alone
 pub mod Meaning
 pub mod Moving
 pub mod Beginning

@@ -4,3 +4,4 @@ pub mod First
 pub mod Rooms
 pub mod Sound
 pub mod Trying
+pub mod Alone

@@ -5,6 +5,7 @@ mod instance;
 mod laws;
 mod moves;
 mod opening;
+mod over_memory;
 mod running;
 mod state;
 mod step;

@@ -36,7 +36,7 @@ pub(crate) fn is_access(instr: &Instr) -> bool
 
 /// An operation that carries the memory's numbers.
 #[inline(always)]
-fn operation(instance: &Instance, action: Action) -> Op
+pub(crate) fn operation(instance: &Instance, action: Action) -> Op
     ensures { result ≡ op_of (instance_at instance.now) action }
 {
     Op {

@@ -9,8 +9,9 @@ ghost use Rattle.integer_machine.specs.First.{first_of};
 use crate::instance::instance_for;
 use crate::moves::{local_of, next_of, take_of};
 use crate::opening::opening_stacks;
+use crate::over_memory::run_alone;
 use crate::running::run_locally;
-use rw_objects::{Machine, Next};
+use rw_objects::{Machine, Next, Versioned};
 use std::alloc::Global;
 use std::marker::Model;
 use thread_plan::Plan;
@@ -154,9 +155,23 @@ impl<'a> Machine<SharedSpace> for ThreadState<'a> {
 }
 
 impl<'a> ThreadState<'a> {
-    ghost use Rattle.std.specs.Prelude.{ℕ, IfOk, OnErr};
+    ghost use Rattle.std.specs.Prelude.{ℕ, ◌+◌, ◌<◌, IfOk, OnErr, IsSome};
+    ghost use Rattle.rw_objects.specs.Memory.{memory_of};
     ghost use Rattle.rw_objects.specs.declared.next.Next.TheVariants.{Local};
+    ghost use Rattle.block_objects.specs.SharedMemory.{shared_memory};
+    ghost use Rattle.event_core.specs.Alone.{alone_with, after_step, Goes, IsOver, IsSoundAlone};
+    ghost use Rattle.integer_machine.specs.Sound.{HasRoomLeft};
     ghost use Rattle.thread_code.specs.ThreadCode.{thread_code, GoesLocally, IsAtEnd};
+
+    /// The place of the last of so many steps more, as far as a thread may go.
+    fn last_of(&self, most: u32) -> u32
+        ensures order { self.now.thread.steps ≤ result }
+        ensures few { result ≤ self.now.thread.steps + most }
+        ensures limit { self.now.thread.steps < result → result ≤ 1000000000 }
+        ensures all { result < self.now.thread.steps + most → 1000000000 ≤ result }
+    {
+        self.steps + MOST_STEPS.saturating_sub(self.steps).min(most)
+    }
 
     /// Makes local steps, as many as there are, but no more than `most`, and answers how many it made. Where memory is
     /// wanted for a step, those before it are made, and it stays the next.
@@ -168,8 +183,40 @@ impl<'a> ThreadState<'a> {
         ensures local { OnErr result (thread_code.next self.new.thread ≡ Local) }
     {
         let first = self.steps;
-        let last = first + MOST_STEPS.saturating_sub(first).min(most);
+        let last = self.last_of(most);
         let (steps, end) = run_locally(self.valid, &self.instance, &mut self.stacks, first, last);
+        self.steps = steps;
+        end?;
+        Ok(steps - first)
+    }
+
+    /// Makes steps over the memory with no other thread between them, local ones and accesses, as many as come, but no
+    /// more than `most`, and answers how many it made. Each access is counted in the versions. Where memory is wanted for
+    /// a step, those before it are made, and it stays the next; behind `room` one is made at least. The memory is the one
+    /// that the thread was made for.
+    pub fn run_alone(
+        &mut self,
+        memory: &mut Versioned<SharedSpace>,
+        most: u32,
+    ) -> Result<u32, NoMemory>
+        requires { IsSoundAlone thread_code (alone_with self.old.thread (memory_of memory.old)) }
+        ensures goes { IfOk result (λ made. Goes shared_memory thread_code made (alone_with self.old.thread (memory_of memory.old)) (alone_with self.new.thread (memory_of memory.new))) }
+        ensures few { IfOk result (λ made. made ≤ most) }
+        ensures all { IfOk result (λ made. made < most → IsOver shared_memory thread_code (alone_with self.new.thread (memory_of memory.new))) }
+        ensures err { OnErr result ((made : ℕ) × Goes shared_memory thread_code made (alone_with self.old.thread (memory_of memory.old)) (alone_with self.new.thread (memory_of memory.new)) × (made ≤ most)) }
+        ensures comes { OnErr result (IsSome (after_step shared_memory thread_code (alone_with self.new.thread (memory_of memory.new)))) }
+        ensures room { HasRoomLeft self.old → OnErr result (self.old.thread.steps < self.new.thread.steps) }
+    {
+        let first = self.steps;
+        let last = self.last_of(most);
+        let (steps, end) = run_alone(
+            self.valid,
+            &self.instance,
+            &mut self.stacks,
+            memory,
+            first,
+            last,
+        );
         self.steps = steps;
         end?;
         Ok(steps - first)

@@ -7,6 +7,7 @@ ghost use Rattle.thread_code.specs.ThreadCode.{thread_code};
 
 use crate::ThreadState;
 use binary_decoder::decode;
+use event_core::outcome_of;
 use rw_objects::{Machine, Next};
 use std::alloc::Global;
 use std::process::Abort;
@@ -14,7 +15,7 @@ use std::slice;
 use std::test::Fail;
 use thread_plan::Plan;
 use validator::{Valid, validate};
-use wasm_types::{NoMemory, Op, Outcome, Profile, Reply};
+use wasm_types::{NoMemory, Op, Profile, Reply};
 
 /// What differs between the modules, in hex. Function 0 is exported as `f`.
 #[derive(Clone, Copy)]
@@ -149,15 +150,6 @@ fn note(text: &mut String, next: &Next<Op>) -> Result<(), Fail> {
     Ok(())
 }
 
-/// How a thread stands by what it does next.
-fn outcome_of(next: &Next<Op>) -> Outcome {
-    match next {
-        Next::Local | Next::Ask(_) => Outcome::Running,
-        Next::Asleep { .. } => Outcome::Waiting,
-        Next::Halted(outcome) => *outcome,
-    }
-}
-
 /// Makes the next step, where there is one and a reply for it, and says whether it did.
 fn advance(
     state: &mut ThreadState<'_>,
@@ -194,14 +186,14 @@ pub(crate) fn play(
             break;
         }
     }
-    let outcome = outcome_of(&state.next());
+    let outcome = outcome_of(state.next());
     write!(text, "{} steps, {outcome}", state.steps())?;
     Ok(text)
 }
 
 /// How a thread stands, with how many steps it made.
 pub(crate) fn standing(alloc: Global, state: &ThreadState<'_>) -> Result<String, Fail> {
-    let outcome = outcome_of(&state.next());
+    let outcome = outcome_of(state.next());
     Ok(format!(in alloc; "{} steps, {outcome}", state.steps())?)
 }
 

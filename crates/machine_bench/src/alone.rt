@@ -1,29 +1,29 @@
 //! A thread that runs with no other thread.
 
-ghost use Rattle.std.specs.Prelude.{◌≡◌, ◌<◌, ◌≤◌, true, IfOk, OnOk, IfSome, IsSome, IsNone, Some};
+ghost use Rattle.std.specs.Prelude.{◌≡◌, ◌≤◌, true, IfOk, OnOk};
 ghost use Rattle.rw_objects.specs.Counts.{no_counts};
 ghost use Rattle.rw_objects.specs.Memory.{memory_of, memory_with};
 ghost use Rattle.waiter_queues.specs.Shared.{opening_values};
+ghost use Rattle.block_objects.specs.SharedMemory.{shared_memory};
+ghost use Rattle.event_core.specs.Alone.{IsOver, IsSoundAlone};
 ghost use Rattle.event_core.specs.End.{outcome_of};
 ghost use Rattle.thread_plan.specs.Plans.{IsPlanOf};
 ghost use Rattle.thread_plan.specs.Segments.{segments_fit, memory_of as memory_of_module};
 ghost use Rattle.thread_step.specs.Opening.{instance_of, initial_by};
 ghost use Rattle.thread_code.specs.ThreadCode.{thread_code, limits_of};
-ghost use Rattle.machine_bench.specs.Alone.{GoesTo, IsOver, IsSound, IsOpening, alone_of, after_step};
+ghost use Rattle.machine_bench.specs.Alone.{GoesTo, IsOpening, alone_of};
 
 use crate::ended::Ended;
 use crate::fault::Fault;
 use block_objects::MemoryLimits;
+use event_core::outcome_of;
 use integer_machine::{ThreadState, instance_for};
-use rw_objects::{Machine, Next, Versioned};
+use rw_objects::{Machine, Versioned};
 use std::alloc::Global;
 use thread_plan::Plan;
 use validator::Valid;
 use waiter_queues::SharedSpace;
-use wasm_types::{Block, Extent, Module, NoMemory, Op, Outcome, Profile};
-
-/// The greatest number of steps of a thread.
-const MOST_STEPS: u32 = 1_000_000_000;
+use wasm_types::{Block, Extent, Module, NoMemory, Profile};
 
 /// A thread of a plan and its memory, with no other thread.
 #[derive(Drop)]
@@ -63,17 +63,6 @@ fn open(
     Versioned::new(alloc, space)
 }
 
-/// How a thread stands, by what it does next.
-fn outcome_of(next: Next<Op>) -> Outcome
-    ensures { result ≡ outcome_of next }
-{
-    match next {
-        Next::Local | Next::Ask(_) => Outcome::Running,
-        Next::Asleep { .. } => Outcome::Waiting,
-        Next::Halted(outcome) => outcome,
-    }
-}
-
 impl<'a> Alone<'a> {
     /// Thread 0 of a plan before its first step, and the memory as it opens, in blocks of that size.
     pub fn new(
@@ -84,7 +73,7 @@ impl<'a> Alone<'a> {
     ) -> Result<Alone<'a>, Fault>
         requires { IsPlanOf valid.now plan.now }
         ensures opening { IfOk result (λ alone. IsOpening valid.now plan.now block (alone_of alone)) }
-        ensures sound { IfOk result (λ alone. IsSound (alone_of alone)) }
+        ensures sound { IfOk result (λ alone. IsSoundAlone thread_code (alone_of alone)) }
     {
         let _small = block.power();
         let module = valid.module();
@@ -97,49 +86,17 @@ impl<'a> Alone<'a> {
         Ok(Alone { thread, memory })
     }
 
-    /// Makes an access, and gives the thread its reply. Where memory is wanted for the reply, the access is made, and the
-    /// thread still asks for it.
-    #[inline(always)]
-    fn access(&mut self, op: &Op) -> Result<(), NoMemory>
-        requires sound { IsSound (alone_of self.old) }
-        requires next { thread_code.next self.old.thread.thread ≡ Next.Ask op.now }
-        requires steps { self.old.thread.thread.steps < 1000000000 }
-        ensures { OnOk result (after_step (alone_of self.old) ≡ Some (alone_of self.new)) }
-    {
-        let (reply, _entry) = self.memory.act(op);
-        self.thread.take(reply)
-    }
-
-    /// Makes the local steps that come, and answers the access that comes then, if the thread may make one.
-    #[inline(always)]
-    fn next_access(&mut self) -> Result<Option<Op>, NoMemory>
-        ensures goes { OnOk result (GoesTo (alone_of self.old) (alone_of self.new)) }
-        ensures access { IfOk result (λ next. IfSome next (λ op. thread_code.next self.new.thread.thread ≡ Next.Ask op)) }
-        ensures steps { IfOk result (λ next. IsSome next → self.new.thread.thread.steps < 1000000000) }
-        ensures over { IfOk result (λ next. IsNone next → IsOver (alone_of self.new)) }
-    {
-        self.thread.local_run(MOST_STEPS)?;
-        if self.thread.steps() >= MOST_STEPS {
-            return Ok(None);
-        }
-        match self.thread.next() {
-            Next::Ask(op) => Ok(Some(op)),
-            _ => Ok(None),
-        }
-    }
-
     /// Runs the thread until no step comes, or it made as many as a thread may make. Where memory is wanted it stops in
-    /// between, and is not to be run on.
+    /// between, and may be run on from there.
     pub fn run(&mut self) -> Result<Ended, NoMemory>
-        requires sound { IsSound (alone_of self.old) }
-        ensures goes { OnOk result (GoesTo (alone_of self.old) (alone_of self.new)) }
-        ensures over { OnOk result (IsOver (alone_of self.new)) }
+        requires { IsSoundAlone thread_code (alone_of self.old) }
+        ensures sound { IsSoundAlone thread_code (alone_of self.new) }
+        ensures goes { GoesTo (alone_of self.old) (alone_of self.new) }
+        ensures over { OnOk result (IsOver shared_memory thread_code (alone_of self.new)) }
         ensures steps { IfOk result (λ ended. ended.steps ≡ self.new.thread.thread.steps) }
         ensures outcome { IfOk result (λ ended. ended.outcome ≡ outcome_of (thread_code.next self.new.thread.thread)) }
     {
-        while let Some(op) = self.next_access()? {
-            self.access(&op)?;
-        }
+        self.thread.run_alone(&mut self.memory, u32::MAX)?;
         Ok(Ended {
             steps: self.thread.steps(),
             outcome: outcome_of(self.thread.next()),

@@ -6,6 +6,8 @@ mod alone;
 mod ended;
 mod fault;
 mod stages;
+#[cfg(test)]
+mod tests;
 
 use crate::stages::run_bytes;
 use std::process::ExitCode;

@@ -16,7 +16,7 @@ use validator::{Valid, validate};
 use wasm_types::{Block, Module};
 
 /// The blocks of a run, of 4,096 bytes.
-fn block() -> Block
+pub(crate) fn block() -> Block
     ensures { result ≡ 12 }
 {
     match Block::of_power(12) {

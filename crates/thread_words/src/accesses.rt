@@ -8,7 +8,6 @@ ghost use Rattle.thread_step.specs.Instance.{Instance as InstanceRecord};
 ghost use Rattle.thread_step.specs.Effect.{within_capacity, atomically, atomic_load};
 ghost use Rattle.thread_words.specs.Words.{instance_at};
 ghost use Rattle.thread_words.specs.Accesses.{takes_of, IsAccess, HasOperands, Tests, AsksBy, CanMove, Asks};
-ghost use Rattle.thread_words.specs.Moves.{CanStepWith, StepsWith};
 
 use crate::operands::{one_operand, three_operands, two_i32_operands, two_operands};
 use crate::stacks::{Instance, Stacks, Stage};
@@ -252,19 +251,5 @@ pub fn access_of(m: &Stacks, instance: &Instance, instr: Instr) -> Result<Action
         Instr::Pages(op) => Ok(pages_access(m, op)),
         Instr::Atomic(op, argument) => atomic_access(m, instance, op, argument),
         _ => unreachable!(),
-    }
-}
-
-/// The step of an access that touches no object: the trap that `access_of` answers stops the thread. It takes no
-/// memory.
-pub fn stop_access(m: &mut Stacks, instance: &Instance, instr: Instr)
-    requires access { IsAccess instr }
-    requires can { CanStepWith (instance_at instance.now) instr m.old }
-    requires capacity { instance.now.capacity ≤ 65536 }
-    ensures { StepsWith (instance_at instance.now) instr m.old m.new }
-{
-    match access_of(m, instance, instr) {
-        Ok(_) => unreachable!(),
-        Err(trap) => m.stage = Stage::Ended(Outcome::Trapped(trap)),
     }
 }

@@ -16,7 +16,7 @@ mod simple;
 mod stacks;
 mod widths;
 
-pub use accesses::{access_of, stop_access};
+pub use accesses::access_of;
 pub use blocks::{block, end, end_first_arm};
 pub use branches::{branch, branch_if, branch_table};
 pub use calls::{call, declared_locals, put_zeros};

@@ -7,7 +7,7 @@ ghost use Rattle.thread_step.specs.Effect.{operand as operand_bits};
 ghost use Rattle.thread_words.specs.Words.{IsInRange};
 ghost use Rattle.thread_words.specs.Accesses.{Holds, HasOperands};
 ghost use Rattle.thread_words.specs.Fields.{Puts, one_if, HasOperand, IsOperand};
-ghost use Rattle.thread_words.specs.Moves.{Unchanged, HasRoom};
+ghost use Rattle.thread_words.specs.Moves.{Unchanged, HasWordLeft};
 
 use crate::stacks::Stacks;
 use wasm_types::{NoMemory, ValType, Value};
@@ -33,7 +33,7 @@ pub(crate) fn push(m: &mut Stacks, word: u64) -> Result<(), NoMemory>
     requires { m.old.here.place + 1 < 2 ^ 32 }
     ensures ok { OnOk result (Puts 0 (word ∷ []) m.old m.new) }
     ensures err { OnErr result (Unchanged m.old m.new) }
-    ensures room { HasRoom 1 m.old → IsOk result }
+    ensures room { HasWordLeft m.old → IsOk result }
 {
     m.words.push(word)?;
     m.here.place += 1;

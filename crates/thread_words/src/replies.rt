@@ -7,7 +7,7 @@ ghost use Rattle.integer_ops.specs.Numeric.{bits_of};
 ghost use Rattle.thread_step.specs.Thread.{value_by};
 ghost use Rattle.thread_words.specs.Fields.{Puts};
 ghost use Rattle.thread_words.specs.Accesses.{takes_of, reply_of, wait_offset, reply_words, WakesWith, IsAccess, CanAsk, Answers, CanWait, FallsAsleep, IsAsleep, Wakes};
-ghost use Rattle.thread_words.specs.Moves.{Unchanged, HasRoom};
+ghost use Rattle.thread_words.specs.Moves.{Unchanged, HasWordLeft};
 
 use crate::operands::{drop_top, push, replace_top, three_operands, word};
 use crate::stacks::{Stacks, Stage};
@@ -32,7 +32,7 @@ fn resume(m: &mut Stacks, taken: usize, t: Option<ValType>, bits: u64) -> Result
     requires enough { taken ≤ length m.old.words.items }
     ensures ok { OnOk result (Puts taken (reply_words t bits) m.old m.new) }
     ensures err { OnErr result (Unchanged m.old m.new) }
-    ensures room { HasRoom 1 m.old → IsOk result }
+    ensures room { HasWordLeft m.old → IsOk result }
 {
     match t {
         None => {
@@ -143,7 +143,7 @@ pub fn answer(m: &mut Stacks, instr: Instr, reply: Reply) -> Result<(), NoMemory
     requires can { CanAsk instr m.old }
     ensures ok { OnOk result (Answers instr reply m.old m.new) }
     ensures err { OnErr result (Unchanged m.old m.new) }
-    ensures room { HasRoom 1 m.old → IsOk result }
+    ensures room { HasWordLeft m.old → IsOk result }
 {
     let taken = operand_count(instr);
     let t = reply_type(instr);
@@ -168,7 +168,7 @@ pub fn answer(m: &mut Stacks, instr: Instr, reply: Reply) -> Result<(), NoMemory
 fn wake_with(m: &mut Stacks, bits: u64) -> Result<(), NoMemory>
     ensures ok { OnOk result (WakesWith bits m.old m.new) }
     ensures err { OnErr result (Unchanged m.old m.new) }
-    ensures room { HasRoom 1 m.old → IsOk result }
+    ensures room { HasWordLeft m.old → IsOk result }
 {
     m.words.push(low_bits(ValType::I32, bits))?;
     m.stage = Stage::Running;
@@ -180,7 +180,7 @@ pub fn wake(m: &mut Stacks, reply: Reply) -> Result<(), NoMemory>
     requires { IsAsleep m.old }
     ensures ok { OnOk result (Wakes reply m.old m.new) }
     ensures err { OnErr result (Unchanged m.old m.new) }
-    ensures room { HasRoom 1 m.old → IsOk result }
+    ensures room { HasWordLeft m.old → IsOk result }
 {
     match reply {
         Reply::Trap(trap) => {

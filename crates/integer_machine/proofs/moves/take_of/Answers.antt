@@ -34,5 +34,5 @@ returns-in_default c =
       ok = on_ok_weaker c.wake.result (λ h. (wakes_to c.args.valid.now c.args.instance.now c.args.reply c.args.m.now c.wake.new.m c.requires.sound z (h z.address z.time z.stack z.stands)).means) c.wake.ensures.ok;
       sound = on_ok_weaker c.wake.result (λ h. (wakes_to c.args.valid.now c.args.instance.now c.args.reply c.args.m.now c.wake.new.m c.requires.sound z (h z.address z.time z.stack z.stands)).sound) c.wake.ensures.ok;
       err = c.wake.ensures.err;
-      room = c.wake.ensures.room;
+      room = λ h. c.wake.ensures.room h.words;
     }

@@ -1,22 +1,21 @@
-use Rattle.std.proofs.Common.{◌<◌, rules}
+use Rattle.std.proofs.Common.{arith}
+use Rattle.block_objects.specs.SharedMemory.{shared_memory}
+use Rattle.event_core.proofs.Alone.{goes_sound}
+use Rattle.thread_code.specs.ThreadCode.{thread_code}
+use Rattle.thread_code.proofs.Machine.{threads_are_machines}
 use Rattle.machine_bench.specs.Alone.{alone_of}
-use Rattle.machine_bench.proofs.Going.{goes_sound, further, one_further, fewer_left}
+use Rattle.machine_bench.proofs.Opening.{over_behind}
 use Rattle.machine_bench.proofs.alone.Alone.run.Goals as goal
 
-pub access-requires-clause-sound : goal.access-requires-clause-sound
-access-requires-clause-sound c =
-    let gone = further (alone_of c.args.self.now) (alone_of c.loop-op.self) (alone_of c.next_access.new.self) c.loop-op.invariant c.in_ok-op.ensures.goes in
-    goes_sound gone.0 (alone_of c.args.self.now) (alone_of c.next_access.new.self) gone.1 c.requires.sound
+pub returns-in_err-run_alone-clause-sound : goal.returns-in_err-run_alone-clause-sound
+returns-in_err-run_alone-clause-sound c =
+    let gone = c.in_err-run_alone.ensures.err in
+    goes_sound shared_memory thread_code threads_are_machines gone.0 (alone_of c.args.self.now) (alone_of record { thread = c.run_alone.new.self; memory = c.run_alone.new.memory }) gone.1 c.requires
 
-pub loop-op-smaller : goal.loop-op-smaller
-loop-op-smaller c =
-    let few : c.next_access.new.self.thread.thread.steps < 1000000000 = search rules in
-    fewer_left (alone_of c.loop-op.self) (alone_of c.next_access.new.self) (alone_of c.access.new.self) c.in_ok-op.ensures.goes c.in_ok-access.ensures few
+pub returns-clause-sound : goal.returns-clause-sound
+returns-clause-sound c =
+    goes_sound shared_memory thread_code threads_are_machines c.in_ok-run_alone.field-0 (alone_of c.args.self.now) (alone_of record { thread = c.run_alone.new.self; memory = c.run_alone.new.memory }) c.in_ok-run_alone.ensures.goes c.requires
 
-pub loop-op-preserved : goal.loop-op-preserved
-loop-op-preserved c =
-    let gone = further (alone_of c.args.self.now) (alone_of c.loop-op.self) (alone_of c.next_access.new.self) c.loop-op.invariant c.in_ok-op.ensures.goes in
-    one_further (alone_of c.args.self.now) (alone_of c.next_access.new.self) (alone_of c.access.new.self) gone c.in_ok-access.ensures
-
-pub returns-clause-goes : goal.returns-clause-goes
-returns-clause-goes c = further (alone_of c.args.self.now) (alone_of c.loop-op.self) (alone_of c.next_access.new.self) c.loop-op.invariant c.in_ok-op.ensures.goes
+pub returns-clause-over : goal.returns-clause-over
+returns-clause-over c =
+    over_behind (alone_of c.args.self.now) (alone_of record { thread = c.run_alone.new.self; memory = c.run_alone.new.memory }) c.in_ok-run_alone.field-0 4294967295 (omega arith) c.in_ok-run_alone.ensures.goes c.in_ok-run_alone.ensures.all
