@@ -174,13 +174,14 @@ impl<'a> ThreadState<'a> {
     }
 
     /// Makes local steps, as many as there are, but no more than `most`, and answers how many it made. Where memory is
-    /// wanted for a step, those before it are made, and it stays the next.
+    /// wanted for a step, those before it are made, and it stays the next; behind `room` one is made at least.
     pub fn local_run(&mut self, most: u32) -> Result<u32, NoMemory>
         ensures goes { IfOk result (λ made. GoesLocally made self.old.thread self.new.thread) }
         ensures few { IfOk result (λ made. made ≤ most) }
         ensures all { IfOk result (λ made. made < most → IsAtEnd self.new.thread) }
         ensures err { OnErr result ((made : ℕ) × GoesLocally made self.old.thread self.new.thread × (made ≤ most)) }
         ensures local { OnErr result (thread_code.next self.new.thread ≡ Local) }
+        ensures room { HasRoomLeft self.old → OnErr result (self.old.thread.steps < self.new.thread.steps) }
     {
         let first = self.steps;
         let last = self.last_of(most);
