@@ -9,7 +9,7 @@ use Rattle.byte_reader.proofs.Answers.{Answers, Exact, always}
 use Rattle.byte_reader.proofs.Laws.{Counted, then_both, then_exact, as_exact, as_by, u32_exact, Keeps, limited_exact, sized_exact, alike, shrinks}
 use Rattle.std.proofs.lemmas.List.Concat.{flat_map-cons}
 use Rattle.binary_decoder.specs.Grammar.{val_type, expr, group, locals, body}
-use Rattle.binary_decoder.specs.Limits.{Fit}
+use Rattle.wasm_types.specs.Limits.{Fit}
 use Rattle.binary_decoder.specs.Reader.{val_type_at, expr_at, group_at, groups_at, locals_at, inside_at, body_at, bodies_at, code_at}
 use Rattle.binary_decoder.proofs.PartLaws.{val_type_exact}
 use Rattle.binary_decoder.proofs.InstrLaws.{expr_exact}

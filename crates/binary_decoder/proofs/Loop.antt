@@ -22,7 +22,7 @@ use Rattle.wasm_types.specs.declared.instruction.Instr.{Instr}
 use Rattle.wasm_types.specs.declared.modules.FuncType.{FuncType}
 use Rattle.wasm_types.specs.declared.modules.LocalGroup.{LocalGroup}
 use Rattle.wasm_types.specs.declared.modules.Body.{Body}
-use Rattle.binary_decoder.specs.Limits.{params_of}
+use Rattle.wasm_types.specs.Limits.{params_of}
 use Rattle.binary_decoder.specs.Reader.{with_front, branch_table_at, instr_at, instrs_at, group_at, groups_at, body_at, bodies_at}
 
 abbrev paired : {X : Type 0} → X → List X × List ℕ → Reading (X × List X)

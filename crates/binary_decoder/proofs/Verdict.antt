@@ -1,5 +1,5 @@
 -- What the reader of a module answers, in the words of the grammar.
-use Rattle.std.proofs.Common.{◌≡◌, ℕ, ◌≤◌, Bool, true, false, cond, eqb, List, [], ◌∷◌, ◌++◌, length, Result, Ok, Err, refl, sym, ap, subst, ◌∙◌, arith}
+use Rattle.std.proofs.Common.{◌≡◌, ℕ, ◌≤◌, ◌⊎◌, inl, inr, Bool, true, false, cond, eqb, List, [], ◌∷◌, ◌++◌, length, Result, Ok, Err, refl, sym, ap, subst, ◌∙◌, arith}
 use Rattle.std.specs.List.{AllByRecursion}
 use Rattle.std.proofs.lemmas.Bool.{eqb-true}
 use Rattle.std.proofs.lemmas.List.{append_cancel_left}
@@ -12,7 +12,8 @@ use Rattle.byte_reader.specs.declared.fault.DecodeFault.{DecodeFault}
 use Rattle.byte_reader.specs.declared.fault.DecodeFault.TheVariants.{Refused, TooLarge, NoMemory}
 use Rattle.byte_reader.specs.Moves.{Fails, IsRefused, IsTooLarge}
 use Rattle.binary_decoder.specs.Grammar.{preamble, Spells}
-use Rattle.binary_decoder.specs.Limits.{Within}
+use Rattle.wasm_types.specs.Limits.{Within}
+use Rattle.binary_decoder.specs.First.{IsFirst}
 use Rattle.binary_decoder.specs.Reader.{Parts, sections_at, prefix_at, parts_at}
 use Rattle.binary_decoder.proofs.SectionLaws.{Whole1, Fits1, sections_exact}
 use Rattle.wasm_types.specs.declared.modules.Limits.{Limits}
@@ -147,6 +148,11 @@ pub large_when : (bytes : List ℕ) (e : DecodeFault) → Fails e (parts_at true
 large_when bytes NoMemory f h = absurd h
 large_when bytes TooLarge f h = judged_large bytes f
 large_when bytes (Refused at) f h = absurd h
+
+pub first_when : (bytes : List ℕ) (e : DecodeFault) → length bytes ≤ 1048576 → Fails e (parts_at true bytes) → IsFirst bytes e
+first_when bytes NoMemory le f = tt
+first_when bytes TooLarge le f = inr f
+first_when bytes (Refused at) le f = (le, f)
 
 -- ---- one module
 

@@ -1,5 +1,5 @@
 pub mod Opcodes
 pub mod Grammar
-pub mod Limits
 pub mod Reader
 pub mod Summary
+pub mod First

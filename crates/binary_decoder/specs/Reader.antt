@@ -8,7 +8,7 @@ use Rattle.byte_reader.specs.Fault.{Fault, Malformed, Oversized, Reading, ◌>>=
 use Rattle.byte_reader.specs.Reading.{byte_at, or_malformed, u32_at, s32_at, s64_at, then_at, made_at, kind_at, limited_at, vector_at, byte_vector_at, name_at, end_at, all_of, sized_all_at, sized_at}
 use Rattle.binary_decoder.specs.Opcodes.{opcode_at, atomic_at}
 use Rattle.binary_decoder.specs.Grammar.{preamble}
-use Rattle.binary_decoder.specs.Limits.{params_of}
+use Rattle.wasm_types.specs.Limits.{params_of}
 use Rattle.wasm_types.specs.declared.value.ValType.{ValType}
 use Rattle.wasm_types.specs.declared.value.ValType.TheVariants.{I32, I64}
 use Rattle.wasm_types.specs.declared.value.Value.{Value}

@@ -2,7 +2,7 @@
 
 ghost use Rattle.std.specs.Prelude.{◌≡◌, ◌+◌, ◌≤◌, ◌<◌, ◌^◌, map, length, IfOk, true};
 ghost use Rattle.byte_reader.specs.Moves.{Moves, MovesBy, IsRefusal};
-ghost use Rattle.binary_decoder.specs.Limits.{params_of};
+ghost use Rattle.wasm_types.specs.Limits.{params_of};
 ghost use Rattle.binary_decoder.specs.Reader.{group_at, groups_at, locals_at, inside_at, body_at, bodies_at, code_at};
 
 use crate::instructions::expr;

@@ -1,10 +1,11 @@
 //! Whole modules.
 
-ghost use Rattle.std.specs.Prelude.{◌≡◌, ℕ, List, IfOk, true};
+ghost use Rattle.std.specs.Prelude.{◌≡◌, ℕ, List, IfOk, IfErr, true};
 ghost use Rattle.wasm_types.specs.declared.modules.Module.{Module};
 ghost use Rattle.byte_reader.specs.Moves.{Gives, IsRefused, IsTooLarge};
 ghost use Rattle.binary_decoder.specs.Grammar.{Spells};
-ghost use Rattle.binary_decoder.specs.Limits.{Within};
+ghost use Rattle.wasm_types.specs.Limits.{Within};
+ghost use Rattle.binary_decoder.specs.First.{IsFirst};
 ghost use Rattle.binary_decoder.specs.Reader.{parts_at};
 
 use crate::sections::{Sections, read_sections};
@@ -40,6 +41,8 @@ pub fn decode(alloc: Global, bytes: &[u8]) -> Result<Module, DecodeFault>
     ensures refused { IsRefused result → (m : Module) → Spells m bytes.now → ⊥ }
     // What is too large is spelled by nothing within the limits.
     ensures too_large { IsTooLarge result → (m : Module) → Spells m bytes.now → Within m → ⊥ }
+    // Of a fault of the bytes and a limit that is passed, the one that comes first from left to right is answered.
+    ensures first { IfErr result (IsFirst bytes.now) }
 {
     if MOST_BYTES < bytes.len() {
         return Err(DecodeFault::TooLarge);

@@ -3,7 +3,7 @@
 ghost use Rattle.std.specs.Prelude.{◌≡◌, [], None, IfOk, IfSome, map, option_map, true};
 ghost use Rattle.byte_reader.specs.Reading.{vector_at};
 ghost use Rattle.byte_reader.specs.Moves.{Moves, MovesBy, Gives, IsRefusal};
-ghost use Rattle.binary_decoder.specs.Limits.{params_of};
+ghost use Rattle.wasm_types.specs.Limits.{params_of};
 ghost use Rattle.binary_decoder.specs.Reader.{behind_custom_at, skipped, content_at, opening_at, section_at, start_at, code_at, end_sections_at, after_code_at, code_slot_at, after_start_at, after_memories_at, sections_at};
 
 use crate::functions::code;

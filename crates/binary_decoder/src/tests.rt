@@ -272,6 +272,21 @@ fn limits_are_kept(rt: HostRuntime) -> Result<(), Fail> {
     Ok(())
 }
 
+#[test]
+fn the_first_fault_is_answered(rt: HostRuntime) -> Result<(), Fail> {
+    let alloc = rt.alloc();
+    // A limit that is passed, and a fault behind it.
+    let limit_first = sections_of(alloc, "050401008102ff")?;
+    assert_eq!(rt; fault_of(alloc, &limit_first), Some(DecodeFault::TooLarge));
+    // A fault, and a limit behind it that would be passed.
+    let fault_first = sections_of(alloc, "010401610000050401008102")?;
+    assert_eq!(rt;
+        fault_of(alloc, &fault_first),
+        Some(DecodeFault::Refused { offset: 11 })
+    );
+    Ok(())
+}
+
 // Under `rt try --test --fail-alloc N` the Nth growth is refused. Without it none is.
 #[test]
 fn decoding_with_refused_memory_is_an_answer(rt: HostRuntime) -> Result<(), Fail> {

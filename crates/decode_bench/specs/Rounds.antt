@@ -2,7 +2,7 @@
 use Rattle.std.specs.Prelude.{◌≡◌, ℕ, ◌<◌, ◌≤◌, List}
 use Rattle.wasm_types.specs.declared.modules.Module.{Module}
 use Rattle.binary_decoder.specs.Grammar.{Spells}
-use Rattle.binary_decoder.specs.Limits.{Within}
+use Rattle.wasm_types.specs.Limits.{Within}
 use Rattle.validator.specs.Valid.{WellTyped}
 
 -- the bytes spell a module within the limits

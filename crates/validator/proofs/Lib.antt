@@ -10,3 +10,4 @@ pub mod Walking
 pub mod Names
 pub mod Ruled
 pub mod EndLaws
+pub mod Small

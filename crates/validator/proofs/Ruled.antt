@@ -148,13 +148,13 @@ has_some_type m function h l e =
 pub body_there : (bodies slice : List Body) (function : ℕ) (body : Body) → slice ≡ bodies → function < length bodies → body ≡ get_or slice function body → slice_get bodies function ≡ Some body
 body_there bodies slice function body e l h = slice_get-get_or bodies function body l ∙ ap (λ x. Some (get_or x function body)) (sym e) ∙ ap Some (sym h)
 
-pub located : (m : Module) (function : ℕ) (kind : FuncType) (body : Body) (fault : CheckFault) → function_type m function ≡ Some kind → slice_get m.bodies function ≡ Some body
-    → FaultOf (context_of m kind body) body.code fault → IsOfFunction m (fault_in function fault)
-located m function kind body (IllTyped at) t b f = (
-  record { kind = kind; body = body; has_type = t; has_body = b; first_fault = f },
+pub located : (m : Module) (function : ℕ) (kind : FuncType) (body : Body) (fault : CheckFault) → ((g : ℕ) → g < function → TypedAt m g) → function_type m function ≡ Some kind
+    → slice_get m.bodies function ≡ Some body → FaultOf (context_of m kind body) body.code fault → IsOfFunction m (fault_in function fault)
+located m function kind body (IllTyped at) before t b f = (
+  record { kind = kind; body = body; has_type = t; has_body = b; first_fault = f; before = before },
   λ w. fault_refutes (context_of m kind body) body.code at f (complete (context_of m kind body) body.code (w.functions_typed function kind body t b)),
 )
-located m function kind body NoMemory t b f = tt
+located m function kind body NoMemory before t b f = tt
 
 pub typed_at : (m : Module) (function : ℕ) (kind : FuncType) (body : Body) → function_type m function ≡ Some kind → slice_get m.bodies function ≡ Some body → Checked (context_of m kind body) body.code → TypedAt m function
 typed_at m function kind body t b k kind2 body2 t2 b2 =

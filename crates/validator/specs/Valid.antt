@@ -1,6 +1,7 @@
 -- A well-typed module. WebAssembly Core 1.0, validation, modules.
-use Rattle.std.specs.Prelude.{◌≡◌, ℕ, Bool, true, false, List, ◌&&◌, Option, Some, None, map, slice_get, nat_le}
+use Rattle.std.specs.Prelude.{◌≡◌, ◌<◌, ℕ, Bool, true, false, List, ◌&&◌, Option, Some, None, map, slice_get, nat_le}
 use Rattle.std.specs.List.{list_all}
+use Rattle.wasm_types.specs.Limits.{Within}
 use Rattle.wasm_types.specs.declared.modules.Module.{Module}
 use Rattle.wasm_types.specs.declared.modules.FuncType.{FuncType}
 use Rattle.wasm_types.specs.declared.modules.Body.{Body}
@@ -27,9 +28,10 @@ use Rattle.validator.specs.Exports.{distinct}
 abbrev pub TypedAt : Module → ℕ → Type 0
 TypedAt m function = (kind : FuncType) (body : Body) → function_type m function ≡ Some kind → slice_get m.bodies function ≡ Some body → FunctionTyped (context_of m kind body) body.code
 
--- the module keeps the rules, its exports have distinct names, and each function is well typed
+-- the module keeps the rules and the limits, its exports have distinct names, and each function is well typed
 pub record WellTyped (m : Module) : Type 0 where
   pub keeps_rules : rules m ≡ true
+  pub keeps_limits : Within m
   pub exports_differ : distinct m.exports ≡ true
   pub functions_typed : (function : ℕ) → TypedAt m function
 
@@ -40,11 +42,18 @@ pub record FaultAt (m : Module) (function at : ℕ) : Type 0 where
   pub has_type : function_type m function ≡ Some kind
   pub has_body : slice_get m.bodies function ≡ Some body
   pub first_fault : FirstFault (context_of m kind body) body.code at
+  pub before : (g : ℕ) → g < function → TypedAt m g
+
+-- what does not speak of a function's body
+pub record KeepsRules (m : Module) : Type 0 where
+  pub rules : rules m ≡ true
+  pub limits : Within m
+  pub exports : distinct m.exports ≡ true
 
 -- where the fault is: of the module, or of a function
 abbrev pub Located : Module → Option ℕ → ℕ → Type 0
-Located m None at = (at ≡ 0) × ((rules m && distinct m.exports) ≡ false)
-Located m (Some function) at = (rules m ≡ true) × (distinct m.exports ≡ true) × FaultAt m function at
+Located m None at = (at ≡ 0) × (KeepsRules m → ⊥)
+Located m (Some function) at = KeepsRules m × FaultAt m function at
 
 -- a refusal names a fault, and the module isn't well typed
 abbrev pub Refuses : Module → ValidFault → Type 0

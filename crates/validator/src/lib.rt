@@ -7,6 +7,7 @@ mod function;
 mod instruction;
 mod labels;
 mod laws;
+mod limits;
 mod locals;
 mod profile;
 mod rules;

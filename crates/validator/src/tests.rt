@@ -521,3 +521,46 @@ fn validating_with_refused_memory_is_an_answer(rt: HostRuntime) -> Result<(), Fa
     }
     Ok(())
 }
+
+#[test]
+fn the_first_faulty_function_is_named(rt: HostRuntime) -> Result<(), Fail> {
+    let alloc = rt.alloc();
+    let mut module = module_of(alloc, &[], &[], &[], &[END], &[])?;
+    let mut bodies = Vec::new(alloc);
+    // The second and the third function want an operand.
+    for code in [&[END], &[DROP], &[DROP]] {
+        bodies.push(Body {
+            locals: none(alloc),
+            code: items(alloc, code)?,
+            labels: none(alloc),
+        })?;
+    }
+    module.bodies = Items::from_vec(bodies);
+    module.functions = items(alloc, &[0u32, 0, 0])?;
+    let want = ValidFault::Invalid {
+        function: Some(1),
+        instruction: 0,
+    };
+    assert!(rt; validate(alloc, module).err() == Some(want));
+    Ok(())
+}
+
+#[test]
+fn a_module_of_300_pages_is_refused(rt: HostRuntime) -> Result<(), Fail> {
+    let alloc = rt.alloc();
+    let mut module = module_of(alloc, &[], &[], &[], &[END], &[])?;
+    let pages = MemoryType {
+        limits: Limits {
+            minimum: 300,
+            maximum: Some(300),
+        },
+        shared: true,
+    };
+    module.memories = items(alloc, &[pages])?;
+    let want = ValidFault::Invalid {
+        function: None,
+        instruction: 0,
+    };
+    assert!(rt; validate(alloc, module).err() == Some(want));
+    Ok(())
+}

@@ -1,6 +1,7 @@
 //! Validated modules.
 
 ghost use Rattle.std.specs.Prelude.{◌≡◌, ℕ, ◌&&◌, ◌<◌, ◌^◌, true, false, map, take, length, List, IfOk, OnOk, IfErr, option_copied, option_map, slice_get};
+ghost use Rattle.wasm_types.specs.Limits.{Within};
 ghost use Rattle.control_flow.specs.Targets.{targets_from};
 ghost use Rattle.validator.specs.Module.{rules};
 ghost use Rattle.validator.specs.Exports.{distinct, shown, named, exported_function};
@@ -9,6 +10,7 @@ ghost use Rattle.validator.specs.Valid.{WellTyped, TypedAt, Refuses, FaultAt, Is
 use crate::exports::names_of;
 use crate::fault::{CheckFault, ValidFault};
 use crate::function::check_function;
+use crate::limits::keeps_limits;
 use crate::rules::keeps_rules;
 use crate::stacks::Stacks;
 use crate::table::type_of_function;
@@ -42,13 +44,20 @@ impl Model for Valid {
     ghost invariant = { λ v. WellTyped v.module × (shown v.names.entries ≡ named v.module.exports) × (v.targets.items ≡ all_targets v.module.bodies) };
 }
 
-/// Validates a module, which is given up on a refusal.
+/// Validates a module, which is given up on a refusal. A module that passes a limit (1,048,576 bytes, 256 pages and 4,096
+/// elements at first, 1,024 parameters and locals of a function), as no decoded module does, breaks a rule.
 pub fn validate(alloc: Global, module: Module) -> Result<Valid, ValidFault>
     ensures same { IfOk result (λ valid. valid ≡ «module») }
     ensures typed { OnOk result (WellTyped «module») }
     ensures refuses { IfErr result (λ fault. Refuses «module» fault) }
 {
     if !keeps_rules(&module) {
+        return Err(ValidFault::Invalid {
+            function: None,
+            instruction: 0,
+        });
+    }
+    if !keeps_limits(&module) {
         return Err(ValidFault::Invalid {
             function: None,
             instruction: 0,
@@ -106,6 +115,7 @@ fn check_at(
 ) -> Result<Targets, ValidFault>
     requires rules { rules module.now ≡ true }
     requires there { function < length module.now.bodies }
+    requires before { (g : ℕ) → g < function → TypedAt module.now g }
     ensures typed { OnOk result (TypedAt module.now function) }
     ensures targets { IfOk result (λ targets. option_map (λ body. targets_from 0 body.code) (slice_get module.now.bodies function) ≡ Some targets) }
     ensures fault { IfErr result (λ fault. IsOfFunction module.now fault) }
@@ -141,10 +151,11 @@ fn fault_of_function(function: u32, fault: CheckFault) -> ValidFault
 }
 
 impl Valid {
-    /// The module, which is well typed.
+    /// The module, which is well typed and within the limits.
     pub fn module(&self) -> &Module
         ensures module { result.now ≡ self.now }
         ensures typed { WellTyped self.now }
+        ensures within { Within self.now }
     {
         &self.module
     }

@@ -5,3 +5,4 @@ pub mod Nesting
 pub mod Leb128
 pub mod Leb128Reading
 pub mod Locals
+pub mod Limits

@@ -4,7 +4,7 @@ use Rattle.wasm_types.specs.declared.modules.Module.{Module}
 use Rattle.byte_reader.specs.declared.fault.DecodeFault.{DecodeFault}
 use Rattle.byte_reader.specs.declared.fault.DecodeFault.TheVariants as decoding
 use Rattle.binary_decoder.specs.Grammar.{Spells}
-use Rattle.binary_decoder.specs.Limits.{Within}
+use Rattle.wasm_types.specs.Limits.{Within}
 use Rattle.binary_decoder.specs.Summary.{summary_text}
 use Rattle.validator.specs.declared.fault.ValidFault.{ValidFault}
 use Rattle.validator.specs.declared.fault.ValidFault.TheVariants as typing

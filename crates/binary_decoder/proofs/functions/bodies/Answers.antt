@@ -1,7 +1,7 @@
 use Rattle.std.proofs.Common.{refl, get_or, true}
 use Rattle.std.specs.Prelude.{map}
 use Rattle.std.proofs.lemmas.Result.{err_from_is_err_and}
-use Rattle.binary_decoder.specs.Limits.{params_of}
+use Rattle.wasm_types.specs.Limits.{params_of}
 use Rattle.binary_decoder.specs.Reader.{bodies_at}
 use Rattle.binary_decoder.proofs.Loop.{bodies_go_on, bodies_fail, bodies_done}
 use Rattle.binary_decoder.proofs.functions.bodies.Goals as goal

@@ -1,6 +1,6 @@
 use Rattle.std.proofs.Common.{◌≡◌, drop, true}
 use Rattle.std.specs.Prelude.{map}
-use Rattle.binary_decoder.specs.Limits.{params_of}
+use Rattle.wasm_types.specs.Limits.{params_of}
 use Rattle.binary_decoder.specs.Reader.{with_front, bodies_at}
 use Rattle.binary_decoder.proofs.functions.bodies.Given as goal
 

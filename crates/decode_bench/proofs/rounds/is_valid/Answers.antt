@@ -3,7 +3,7 @@ use Rattle.std.specs.Prelude.{IsTrue, ◌↔◌}
 use Rattle.std.proofs.lemmas.Result.{IfOk-weaker}
 use Rattle.wasm_types.specs.declared.modules.Module.{Module}
 use Rattle.binary_decoder.specs.Grammar.{Spells}
-use Rattle.binary_decoder.specs.Limits.{Within}
+use Rattle.wasm_types.specs.Limits.{Within}
 use Rattle.binary_decoder.proofs.Verdict.{one_module_is}
 use Rattle.validator.specs.Valid.{WellTyped}
 use Rattle.decode_bench.specs.Rounds.{Validates}

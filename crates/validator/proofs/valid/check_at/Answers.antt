@@ -23,7 +23,7 @@ find-requires c = subst (λ x. length x < 2 ^ 32) (sym c.as_slice-2.ensures) (bo
 
 pub returns-in-Err-clause-fault : goal.returns-in-Err-clause-fault
 returns-in-Err-clause-fault c = subst (IsOfFunction c.args.module.now) (sym c.fault_of_function.ensures)
-    (located c.args.module.now c.args.function c.in-Some.kind.now c.index-as_slice-function.result c.in-Err.found (sym c.in-Some.ensures) (body_there c.args.module.now.bodies c.as_slice.result.now c.args.function c.index-as_slice-function.result c.as_slice.ensures c.requires.there c.index-as_slice-function.is) c.in-Err.ensures.fault)
+    (located c.args.module.now c.args.function c.in-Some.kind.now c.index-as_slice-function.result c.in-Err.found c.requires.before (sym c.in-Some.ensures) (body_there c.args.module.now.bodies c.as_slice.result.now c.args.function c.index-as_slice-function.result c.as_slice.ensures c.requires.there c.index-as_slice-function.is) c.in-Err.ensures.fault)
 
 pub returns-in-None-clause-fault : goal.returns-in-None-clause-fault
 returns-in-None-clause-fault c =
