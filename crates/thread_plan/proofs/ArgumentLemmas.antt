@@ -6,7 +6,7 @@ use Rattle.std.proofs.Math.Seq.{drop-cons}
 use Rattle.wasm_types.specs.declared.value.ValType.{ValType}
 use Rattle.wasm_types.specs.declared.value.ValType.TheVariants.{I32}
 use Rattle.wasm_types.specs.declared.value.Value.{Value}
-use Rattle.thread_plan.specs.Integers.{value_of, both, values_of}
+use Rattle.thread_plan.specs.Arguments.{value_of, both, values_of}
 
 -- these values, and those that are left
 abbrev pub behind : List Value → Option (List Value) → Option (List Value)

@@ -5,7 +5,7 @@ use Rattle.std.specs.List.{list_all}
 use Rattle.std.specs.Str.{IsUtf8, is_utf8, bytes_eq}
 use Rattle.std.proofs.lemmas.Bool.{false_from_ne_true, cond-true, cond-false}
 use Rattle.std.proofs.lemmas.Str.{IsUtf8-from_is_utf8, is_utf8-from_IsUtf8}
-use Rattle.thread_plan.specs.Integers.{is_decimal}
+use Rattle.text_lines.specs.Integers.{is_decimal}
 use Rattle.thread_plan.specs.Threads.{form_of}
 
 fails : (a b c : Bool) → b ≡ false → (a && (b && c)) ≡ false

@@ -18,8 +18,9 @@ use Rattle.validator.specs.Exports.{exported_function}
 use Rattle.thread_plan.specs.declared.planned_thread.PlannedThread.{PlannedThread}
 use Rattle.thread_plan.specs.declared.fault.PlanFault.{PlanFault}
 use Rattle.thread_plan.specs.declared.fault.PlanFault.TheVariants.{BadLine, NotShared, SegmentOutOfBounds}
-use Rattle.thread_plan.specs.Parts.{words, lines}
-use Rattle.thread_plan.specs.Integers.{bits_of, value_of, both, values_of}
+use Rattle.text_lines.specs.Parts.{words, lines}
+use Rattle.text_lines.specs.Integers.{bits_of}
+use Rattle.thread_plan.specs.Arguments.{value_of, both, values_of}
 use Rattle.thread_plan.specs.Segments.{allows_threads, segments_fit}
 use Rattle.thread_plan.specs.Threads.{form_of, values_by, thread_by, called, judged, thread_at}
 use Rattle.thread_plan.specs.Plans.{PlanValue, and_then, threads_from, at_most_16, threads_of, threads_in, planned, plan_of, IsInRange, IsThreadOf, IsPlanOf}

@@ -9,7 +9,7 @@ use Rattle.validator.specs.Context.{function_type, type_of}
 use Rattle.thread_plan.specs.declared.planned_thread.PlannedThread.{PlannedThread}
 use Rattle.thread_plan.specs.declared.fault.PlanFault.{PlanFault}
 use Rattle.thread_plan.specs.declared.fault.PlanFault.TheVariants.{BadLine, NotShared, SegmentOutOfBounds, NoMemory}
-use Rattle.thread_plan.specs.Parts.{lines}
+use Rattle.text_lines.specs.Parts.{lines}
 use Rattle.thread_plan.specs.Segments.{allows_threads, segments_fit}
 use Rattle.thread_plan.specs.Threads.{thread_at}
 

@@ -10,8 +10,9 @@ use Rattle.validator.specs.Exports.{exported_function}
 use Rattle.thread_plan.specs.declared.planned_thread.PlannedThread.{PlannedThread}
 use Rattle.thread_plan.specs.declared.fault.PlanFault.{PlanFault}
 use Rattle.thread_plan.specs.declared.fault.PlanFault.TheVariants.{BadLine, NoExport, WrongArguments}
-use Rattle.thread_plan.specs.Parts.{words}
-use Rattle.thread_plan.specs.Integers.{is_decimal, values_of}
+use Rattle.text_lines.specs.Parts.{words}
+use Rattle.text_lines.specs.Integers.{is_decimal}
+use Rattle.thread_plan.specs.Arguments.{values_of}
 
 -- the name and the arguments of a line of these words: `thread`, a name in UTF-8, and integers
 abbrev pub form_of : List (List ℕ) → Option (List ℕ × List (List ℕ))

@@ -1,26 +1,12 @@
-//! What the lines of a text, the form of a thread line and the texts of its arguments are.
+//! What the form of a thread line is.
 
-ghost use Rattle.std.specs.Prelude.{◌≡◌, ◌↔◌, ℕ, ℤ, true, List, Some};
-ghost use Rattle.std.specs.Fmt.{signed_decimal};
-ghost use Rattle.std.specs.Str.Parse.{signed_digits_value};
-ghost use Rattle.thread_plan.specs.Parts.{words, lines};
-ghost use Rattle.thread_plan.specs.Integers.{is_decimal, bits_of};
+ghost use Rattle.std.specs.Prelude.{◌≡◌, ◌↔◌, ℕ, List, Some};
+ghost use Rattle.text_lines.specs.Parts.{words};
 ghost use Rattle.thread_plan.specs.Threads.{form_of};
-ghost use Rattle.thread_plan.specs.Spelling.{IsThreadLine, IsTextOf};
-
-/// The lines of a text, joined by line ends, are the text, or lack its last line end. It does nothing.
-pub fn lines_are_of_their_text()
-    ensures { (text : List ℕ) → IsTextOf text (lines text) }
-{}
+ghost use Rattle.thread_plan.specs.Spelling.{IsThreadLine};
 
 /// A line has this name and these arguments exactly where it is made of them: `thread`, a space, the name, and each
 /// argument behind a space. So a line has at most one form. It does nothing.
 pub fn lines_are_spelled()
     ensures { (line name : List ℕ) (arguments : List (List ℕ)) → (form_of (words line) ≡ Some (name, arguments)) ↔ IsThreadLine line name arguments }
-{}
-
-/// In the range of an i64's arguments, which has that of an i32's, an integer's text is the decimal text that `{}` writes
-/// of the integer. It does nothing.
-pub fn integers_are_decimal()
-    ensures { (text : List ℕ) (number : ℤ) (bits : ℕ) → bits_of 64 number ≡ Some bits → (((is_decimal text ≡ true) × (signed_digits_value 10 text ≡ number)) ↔ (text ≡ signed_decimal number)) }
 {}

@@ -4,14 +4,13 @@
 mod argument;
 mod fault;
 mod laws;
-mod parts;
 mod plan;
 mod planned_thread;
 mod segments;
 mod thread_line;
 
 pub use fault::PlanFault;
-pub use laws::{integers_are_decimal, lines_are_of_their_text, lines_are_spelled};
+pub use laws::lines_are_spelled;
 pub use plan::Plan;
 pub use planned_thread::PlannedThread;
 

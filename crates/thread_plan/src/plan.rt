@@ -1,16 +1,16 @@
 //! Plans.
 
 ghost use Rattle.std.specs.Prelude.{◌≡◌, ◌<◌, ◌≤◌, Ok, IfOk, IfErr, length, slice_get, option_copied};
-ghost use Rattle.thread_plan.specs.Parts.{parts, parts_left, without_last_end, lines};
+ghost use Rattle.text_lines.specs.Parts.{parts_left, lines};
 ghost use Rattle.thread_plan.specs.Plans.{plan_of, threads_of, threads_in, IsFaultOf, IsPlanOf};
 
 use crate::fault::PlanFault;
-use crate::parts::Parts;
 use crate::planned_thread::PlannedThread;
 use crate::segments::{fit_segments, may_share};
 use crate::thread_line::read_thread;
 use std::alloc::Global;
 use std::marker::Model;
+use text_lines::{Parts, without_end};
 use validator::Valid;
 
 /// The first line of a plan.
@@ -82,16 +82,6 @@ impl Plan {
         ensures { option_copied result ≡ slice_get self.now.threads thread }
     {
         self.threads.as_slice().get(thread as usize)
-    }
-}
-
-// A text without the line end that stands last, if one does.
-fn without_end(text: &[u8]) -> &[u8]
-    ensures { result.now ≡ without_last_end text.now }
-{
-    match text {
-        [front @ .., b'\n'] => front,
-        _ => text,
     }
 }
 

@@ -3,16 +3,16 @@
 ghost use Rattle.std.specs.Prelude.{◌≡◌, true, Ok, Some, None, IfOk, IfErr, IfSome, MatchOption, option_copied, option_map};
 ghost use Rattle.std.specs.List.{list_all};
 ghost use Rattle.validator.specs.Context.{function_type};
-ghost use Rattle.thread_plan.specs.Parts.{words, parts_left};
-ghost use Rattle.thread_plan.specs.Integers.{is_decimal};
+ghost use Rattle.text_lines.specs.Parts.{words, parts_left};
+ghost use Rattle.text_lines.specs.Integers.{is_decimal};
 ghost use Rattle.thread_plan.specs.Threads.{form_of, thread_at};
 ghost use Rattle.thread_plan.specs.Plans.{IsFaultOf};
 
 use crate::argument::{are_integers, arguments_of};
 use crate::fault::PlanFault;
-use crate::parts::Parts;
 use crate::planned_thread::PlannedThread;
 use std::alloc::Global;
+use text_lines::Parts;
 use validator::Valid;
 use wasm_types::{Module, ValType};
 

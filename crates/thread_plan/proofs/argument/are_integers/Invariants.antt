@@ -1,8 +1,8 @@
 use Rattle.std.proofs.Common.{◌≡◌, length}
 use Rattle.std.specs.Prelude.{◌&&◌}
 use Rattle.std.specs.List.{list_all}
-use Rattle.thread_plan.specs.Parts.{parts_left}
-use Rattle.thread_plan.specs.Integers.{is_decimal}
+use Rattle.text_lines.specs.Parts.{parts_left}
+use Rattle.text_lines.specs.Integers.{is_decimal}
 use Rattle.thread_plan.proofs.argument.are_integers.Given as goal
 
 -- the texts so far are tested, and those that are left are not

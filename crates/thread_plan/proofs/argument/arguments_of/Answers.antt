@@ -1,7 +1,7 @@
 use Rattle.std.proofs.Common.{◌<◌, drop, length, arith, sym, ap, ◌∙◌, length-drop}
 use Rattle.std.specs.Cmp.{second_so}
 use Rattle.std.specs.List.{list_all}
-use Rattle.thread_plan.specs.Integers.{is_decimal}
+use Rattle.text_lines.specs.Integers.{is_decimal}
 use Rattle.thread_plan.proofs.ArgumentLemmas.{too_few, next_value}
 use Rattle.thread_plan.proofs.argument.arguments_of.Goals as goal
 

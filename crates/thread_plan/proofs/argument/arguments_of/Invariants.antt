@@ -1,7 +1,8 @@
 use Rattle.std.proofs.Common.{◌≡◌, drop, true}
 use Rattle.std.specs.List.{list_all}
-use Rattle.thread_plan.specs.Parts.{parts_left}
-use Rattle.thread_plan.specs.Integers.{is_decimal, values_of}
+use Rattle.text_lines.specs.Parts.{parts_left}
+use Rattle.text_lines.specs.Integers.{is_decimal}
+use Rattle.thread_plan.specs.Arguments.{values_of}
 use Rattle.thread_plan.proofs.ArgumentLemmas.{behind}
 use Rattle.thread_plan.proofs.argument.arguments_of.Given as goal
 

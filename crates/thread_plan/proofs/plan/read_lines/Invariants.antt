@@ -1,5 +1,5 @@
 use Rattle.std.proofs.Common.{length}
-use Rattle.thread_plan.specs.Parts.{parts_left}
+use Rattle.text_lines.specs.Parts.{parts_left}
 use Rattle.thread_plan.proofs.PlanLemmas.{IsReadUpTo}
 use Rattle.thread_plan.proofs.plan.read_lines.Given as goal
 

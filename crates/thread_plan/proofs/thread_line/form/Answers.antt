@@ -2,7 +2,7 @@ use Rattle.std.proofs.Common.{◌≡◌, true, ◌∷◌, sym, ap, ◌∙◌}
 use Rattle.std.specs.Prelude.{codes}
 use Rattle.std.specs.Str.{bytes_eq}
 use Rattle.std.proofs.lemmas.Bool.{not-false}
-use Rattle.thread_plan.specs.Parts.{words, parts_left}
+use Rattle.text_lines.specs.Parts.{words, parts_left}
 use Rattle.thread_plan.proofs.LineLemmas.{form_not_utf8, form_is}
 use Rattle.thread_plan.proofs.thread_line.form.Goals as goal
 

@@ -1,0 +1,4 @@
+pub mod PartsLemmas
+pub mod IntegerLemmas
+pub mod DecimalLemmas
+pub mod SplitLemmas
