@@ -3,9 +3,11 @@
 ghost use Rattle.std.specs.Prelude.{◌≡◌, ℕ, slice_get, option_copied, true, IfOk};
 ghost use Rattle.thread_plan.specs.Segments.{elements_are_within};
 ghost use Rattle.thread_step.specs.Opening.{memory_types, initial_by, capacity_by, shared_by, block_power, instance_of};
+ghost use Rattle.thread_code.specs.ThreadCode.{limits_of};
 ghost use Rattle.thread_words.specs.Words.{instance_at};
 
 use crate::table::first_table;
+use block_objects::MemoryLimits;
 use std::alloc::Global;
 use thread_words::Instance;
 use wasm_types::{Block, Extent, MemoryType, Module, NoMemory, Profile};
@@ -64,6 +66,19 @@ fn block_of(profile: &Profile) -> Block
     match profile {
         Profile::One => Block::least(),
         Profile::Two(block) => *block,
+    }
+}
+
+/// The numbers of a module's memory in a profile: its length at first, its capacity, which is the declared maximum and at
+/// most 16 pages in profile 1 and 256 in profile 2, and the size of its blocks. A module without a memory has an empty one.
+pub fn memory_limits(module: &Module, profile: Profile) -> MemoryLimits
+    ensures { result ≡ limits_of (instance_of «module».now profile 0) }
+{
+    let memory = memory_of(module);
+    MemoryLimits {
+        initial: initial_pages(memory),
+        capacity: most_pages(memory, &profile),
+        block: block_of(&profile),
     }
 }
 

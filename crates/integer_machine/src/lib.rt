@@ -12,7 +12,7 @@ mod step;
 mod table;
 mod trying;
 
-pub use instance::instance_for;
+pub use instance::{instance_for, memory_limits};
 pub use laws::fields_have_one_meaning;
 pub use state::ThreadState;
 

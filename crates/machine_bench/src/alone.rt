@@ -9,42 +9,27 @@ ghost use Rattle.event_core.specs.Alone.{IsOver, IsSoundAlone};
 ghost use Rattle.event_core.specs.End.{outcome_of};
 ghost use Rattle.thread_plan.specs.Plans.{IsPlanOf};
 ghost use Rattle.thread_plan.specs.Segments.{segments_fit, memory_of as memory_of_module};
-ghost use Rattle.thread_step.specs.Opening.{instance_of, initial_by};
-ghost use Rattle.thread_code.specs.ThreadCode.{thread_code, limits_of};
+ghost use Rattle.thread_step.specs.Opening.{initial_by};
+ghost use Rattle.thread_code.specs.ThreadCode.{thread_code};
 ghost use Rattle.machine_bench.specs.Alone.{GoesTo, IsOpening, alone_of};
 
 use crate::ended::Ended;
 use crate::fault::Fault;
 use block_objects::MemoryLimits;
 use event_core::outcome_of;
-use integer_machine::{ThreadState, instance_for};
+use integer_machine::{ThreadState, memory_limits};
 use rw_objects::{Machine, Versioned};
 use std::alloc::Global;
 use thread_plan::Plan;
 use validator::Valid;
 use waiter_queues::SharedSpace;
-use wasm_types::{Block, Extent, Module, NoMemory, Profile};
+use wasm_types::{Block, Module, NoMemory, Profile};
 
 /// A thread of a plan and its memory, with no other thread.
 #[derive(Drop)]
 pub struct Alone<'a> {
     pub thread: ThreadState<'a>,
     pub memory: Versioned<SharedSpace>,
-}
-
-/// The numbers of a module's memory.
-fn limits_of(alloc: Global, module: &Module, profile: Profile) -> Result<MemoryLimits, NoMemory>
-    requires { segments_fit «module».now ≡ true }
-    ensures { IfOk result (λ limits. limits ≡ limits_of (instance_of «module».now profile 0)) }
-{
-    let instance = instance_for(alloc, module, profile, 0)?;
-    let Extent { initial, block } = instance.extent;
-    let capacity = instance.capacity;
-    Ok(MemoryLimits {
-        initial,
-        capacity,
-        block,
-    })
 }
 
 /// A module's memory as it opens.
@@ -77,7 +62,7 @@ impl<'a> Alone<'a> {
     {
         let _small = block.power();
         let module = valid.module();
-        let limits = limits_of(alloc, module, Profile::Two(block))?;
+        let limits = memory_limits(module, Profile::Two(block));
         if limits.capacity < limits.initial {
             return Err(Fault::TooManyPages);
         }

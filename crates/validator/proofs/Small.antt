@@ -14,7 +14,7 @@ use Rattle.wasm_types.specs.Limits.{Within, Fit, params_of}
 use Rattle.validator.specs.Module.{rules}
 use Rattle.validator.proofs.Ruled.{as_many_bodies}
 
-decides_le : (a b : ℕ) → Decides (nat_le a b) (a ≤ b)
+pub decides_le : (a b : ℕ) → Decides (nat_le a b) (a ≤ b)
 decides_le a b = (λ h. leb-true a b h, λ h. le-leb a b h)
 
 pub all_decides : {X : Type 0} (p : X → Bool) (P : X → Type 0) → ((x : X) → Decides (p x) (P x)) → (xs : List X) → Decides (list_all p xs) (AllByRecursion P xs)

@@ -1,0 +1,11 @@
+//! The world of WebAssembly threads: the threads of a plan over the memory of their module.
+#![tactic(auto)]
+
+mod laws;
+mod open;
+
+pub use laws::opening_worlds_open;
+pub use open::open_world;
+
+#[cfg(test)]
+mod tests;
