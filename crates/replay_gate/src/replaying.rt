@@ -15,7 +15,8 @@ use rw_objects::{Machine, ObjectSpace};
 use std::alloc::Global;
 use wasm_types::NoMemory;
 
-/// What opens a world, each time the same.
+/// What opens a world, each time the same. `suits` says which values do: those whose parts belong together, such as a
+/// module and a plan that was read for it.
 pub trait OpenWorld<M: Machine<S>, S: ObjectSpace> {
     ghost opened: { Self → WorldAt M.State S.Value S.Fixed };
 
@@ -75,7 +76,10 @@ fn replay_in_order<M: Machine<S> + Drop, S: ObjectSpace + Drop, L: ReadLog, O: O
 }
 
 /// Replays a log: the end, or the fault, of its ordered replay. Where some schedule comes to the log's ends, every order
-/// does, and so the end is reached by a fast one; only where that stops is the order followed, for its very fault.
+/// does, and so the end is reached by a fast one; only where that stops is the order followed, for its very fault. An end
+/// vouches for the log: a run whose log is below it ends so, and its log is that run's where it is complete. And it is the
+/// end of every run whose log it is below. Where some schedule comes to the ends, as on the whole log of a run, only memory
+/// can be wanting.
 pub fn replay<M: Machine<S> + Drop, S: ObjectSpace + Drop, L: ReadLog, O: OpenWorld<M, S>>(
     alloc: Global,
     opens: &O,
