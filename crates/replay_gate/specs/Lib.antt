@@ -1,0 +1,5 @@
+pub mod Gate
+pub mod Leads
+pub mod Answers
+pub mod Rounds
+pub mod Claimed
