@@ -31,8 +31,8 @@ returns-in-Some-clause-joined g c =
     let found : value_at nat_cmp c.args.pages.now.entries (c.args.place / 128) ≡ Some c.in-Some.page.now = search rules in
     on_ok_weaker c.join_claim-joined.result
     (λ joined. subst (λ (n : ℕ). AreJoined g.T.PartialEq.eq (claims g.T.Packed.read c.args.pages.now.entries) ((n, c.args.claim.now) ∷ []) (claims g.T.Packed.read (c.get_mut.follows.lender c.join_claim-joined.new.page).entries)) (div-add-mod c.args.place 128)
-        (claims_joined c.args.pages.now.entries _ c.requires.pages c.len-count.ensures.ordered (c.args.place / 128) c.join_claim-joined.new.page c.join_claim-joined.ensures.page (few c.args.place c.ranges.place.fits) (λ n. search rules)
-        g.T.PartialEq.eq ((c.args.place % 128, c.args.claim.now) ∷ []) (one_rises c.args.place) (λ r. rw found (joined r))))
+    (claims_joined c.args.pages.now.entries _ c.requires.pages c.len-count.ensures.ordered (c.args.place / 128) c.join_claim-joined.new.page c.join_claim-joined.ensures.page (few c.args.place c.ranges.place.fits) (λ n. search rules)
+    g.T.PartialEq.eq ((c.args.place % 128, c.args.claim.now) ∷ []) (one_rises c.args.place) (λ r. rw found (joined r))))
     c.join_claim-joined.ensures.joined
 
 pub returns-in-Some-clause-left : goal.returns-in-Some-clause-left
@@ -40,7 +40,7 @@ returns-in-Some-clause-left g c =
     let found : value_at nat_cmp c.args.pages.now.entries (c.args.place / 128) ≡ Some c.in-Some.page.now = search rules in
     on_err_weaker c.join_claim-joined.result
     (λ same. claims_joined c.args.pages.now.entries _ c.requires.pages c.len-count.ensures.ordered (c.args.place / 128) c.join_claim-joined.new.page c.join_claim-joined.ensures.page (few c.args.place c.ranges.place.fits) (λ n. search rules)
-        g.T.PartialEq.eq [] (omega arith) (λ r. rw found (ap (λ (p : Page). value_at nat_cmp (pairs_of g.T.Packed.read p) r) same ∙ none_joined g.T.PartialEq.eq (pairs_of g.T.Packed.read c.in-Some.page.now) r)))
+    g.T.PartialEq.eq [] (omega arith) (λ r. rw found (ap (λ (p : Page). value_at nat_cmp (pairs_of g.T.Packed.read p) r) same ∙ none_joined g.T.PartialEq.eq (pairs_of g.T.Packed.read c.in-Some.page.now) r)))
     c.join_claim-joined.ensures.left
 
 pub returns-in_ok-insert-in-None-clause-pages : goal.returns-in_ok-insert-in-None-clause-pages
