@@ -5,6 +5,7 @@ ghost use Rattle.replica.specs.Gathered.{IsListing};
 ghost use Rattle.log_pieces.specs.Piece.{PieceValue};
 ghost use Rattle.replica.specs.declared.log.Log.{Log};
 ghost use Rattle.replica.specs.LogOf.{IsLogOf, Among, IsJoinedWith, IsSameLog, first_items};
+ghost use Rattle.replica.specs.Claims.{claims_of, HasLimits};
 ghost use Rattle.replica.specs.Merged.{IsMerged, IsMergedInPart};
 
 /// A law of logs alone: two logs of the same set of pieces have the same items, whatever the order of the pieces and
@@ -31,4 +32,10 @@ pub fn joining_again_completes()
 /// other. So merging a log again completes what want of memory left.
 pub fn merging_again_completes()
     ensures { (old other part new : Log) (thread count : ℕ) → IsMergedInPart old other thread count part → IsMerged part other new → IsMerged old other new }
+{}
+
+/// A law of logs alone: no known end of a log has more than 1,000,000,000 steps, since the pieces that it is made of
+/// keep to that.
+pub fn logs_have_limits()
+    ensures { (log : Log) → HasLimits (claims_of log) }
 {}
