@@ -25,10 +25,10 @@ use Rattle.replica.proofs.ItemLemmas.{same_is}
 use Rattle.replica.proofs.LogLemmas.{nothing_joined}
 
 -- nothing of it, or all of it
-abbrev IsPart : {T : Type 0} → Option T → Option T → Type 0
+abbrev pub IsPart : {T : Type 0} → Option T → Option T → Type 0
 IsPart part whole = (part ≡ None) ⊎ (part ≡ whole)
 
-joined_again : {T : Type 0} (eq : T → T → Bool) (d : (x y : T) → Decides (eq x y) (x ≡ y)) (old part whole : Option (Flat T)) → IsPart part whole
+pub joined_again : {T : Type 0} (eq : T → T → Bool) (d : (x y : T) → Decides (eq x y) (x ≡ y)) (old part whole : Option (Flat T)) → IsPart part whole
     → option_joined (flat_joined eq) (option_joined (flat_joined eq) old part) whole ≡ option_joined (flat_joined eq) old whole
 joined_again eq d old part whole h = elim h [
   | inl none ↦ rw (none, nothing_joined eq old) refl

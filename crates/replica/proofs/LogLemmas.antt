@@ -25,12 +25,12 @@ use Rattle.replica.specs.Log.{entry_at, end_at}
 use Rattle.replica.specs.Items.{entry_eq, end_eq, placed, EntriesJoined}
 use Rattle.replica.specs.LogOf.{ClaimsEntry, ClaimsEnd, IsLogOf, Among, IsJoinedWith, first_items, piece_entry, piece_end}
 
-get_set_same : {X : Type 0} (xs : List X) (i : ℕ) (x y : X) → slice_get xs i ≡ Some x → slice_get (set xs i y) i ≡ Some y
+pub get_set_same : {X : Type 0} (xs : List X) (i : ℕ) (x y : X) → slice_get xs i ≡ Some x → slice_get (set xs i y) i ≡ Some y
 get_set_same [] i x y h = absurd cc
 get_set_same (z ∷ xs) zero x y h = refl
 get_set_same (z ∷ xs) (suc i) x y h = get_set_same xs i x y h
 
-get_set_other : {X : Type 0} (xs : List X) (i k : ℕ) (y : X) → (k ≡ i → ⊥) → slice_get (set xs i y) k ≡ slice_get xs k
+pub get_set_other : {X : Type 0} (xs : List X) (i k : ℕ) (y : X) → (k ≡ i → ⊥) → slice_get (set xs i y) k ≡ slice_get xs k
 get_set_other [] i k y ne = refl
 get_set_other (z ∷ xs) zero zero y ne = absurd (ne refl)
 get_set_other (z ∷ xs) zero (suc k) y ne = refl

@@ -1,4 +1,7 @@
 -- Logs whose items stand by rising place are the items' own: the same items make the same listing.
+use Rattle.std.specs.Prelude.{IsTrue, true}
+use Rattle.std.proofs.Math.Bool.{Bool-set}
+use Rattle.replica.specs.Flats.{few_steps}
 use Rattle.std.proofs.Common.{◌≡◌, ℕ, suc, ◌≤◌, List, [], ◌∷◌, length, Option, Some, refl, sym, ap, subst, ◌∙◌, arith, inl, inr}
 use Rattle.std.specs.Prelude.{slice_get}
 use Rattle.std.specs.Ordering.{nat_cmp}
@@ -58,8 +61,16 @@ same_entries n (x ∷ xs) (y ∷ ys) rx ry same = elim (cases_order x.0 y.0) [
 abbrev AllRising : List ThreadLog → Type 0
 AllRising ts = (i : ℕ) (t : ThreadLog) → slice_get ts i ≡ Some t → IsStrictlySortedBy nat_cmp (keys_of t.entries)
 
+abbrev of_parts : (es : List (ℕ × Flat Entry)) (end : Option (Flat End)) → IsTrue (few_steps end) → ThreadLog
+of_parts es end few = record { entries = es; end = end; few = few }
+
+same_end : (es : List (ℕ × Flat Entry)) (x y : Option (Flat End)) (p : IsTrue (few_steps x)) (q : IsTrue (few_steps y)) → x ≡ y → of_parts es x p ≡ of_parts es y q
+same_end es x y p q is =
+    subst (λ (e : Option (Flat End)). (few : IsTrue (few_steps e)) → of_parts es x p ≡ of_parts es e few) is
+    (λ few. ap (λ (r : IsTrue (few_steps x)). of_parts es x r) (Bool-set (few_steps x) true p few)) q
+
 same_thread : (a b : ThreadLog) → a.entries ≡ b.entries → a.end ≡ b.end → a ≡ b
-same_thread a b entries end = ap (λ (es : List (ℕ × Flat Entry)). record a { entries = es }) entries ∙ ap (λ (e : Option (Flat End)). record b { end = e }) end
+same_thread a b entries end = ap (λ (es : List (ℕ × Flat Entry)). of_parts es a.end a.few) entries ∙ same_end b.entries a.end b.end a.few b.few end
 
 same_threads : (ts us : List ThreadLog) → length ts ≡ length us → AllRising ts → AllRising us
     → ((i place : ℕ) → entry_of (slice_get ts i) place ≡ entry_of (slice_get us i) place) → ((i : ℕ) → end_of (slice_get ts i) ≡ end_of (slice_get us i)) → ts ≡ us

@@ -1,11 +1,12 @@
 -- What is missing, stray or contradictory in a log.
-use Rattle.std.specs.Prelude.{◌≡◌, ℕ, zero, suc, ◌+◌, ◌<◌, ◌≤◌, nat_le, List, [], ◌∷◌, count_by, sum_by, Option, Some, None, is_none, is_some}
+use Rattle.std.specs.Prelude.{◌≡◌, ℕ, zero, suc, ◌+◌, ◌<◌, ◌≤◌, nat_le, List, [], ◌∷◌, count_by, sum_by, Option, Some, None, is_none, is_some, slice_get}
 use Rattle.std.specs.Ordering.{nat_cmp}
 use Rattle.rw_objects.specs.declared.entry.Entry.{Entry}
 use Rattle.log_pieces.specs.declared.end.End.{End}
 use Rattle.join_laws.specs.declared.flat.Flat.{Flat}
 use Rattle.join_laws.specs.declared.flat.Flat.TheVariants.{Known, Clash}
 use Rattle.join_laws.specs.Keyed.{value_at}
+use Rattle.join_laws.specs.Runs.{runs}
 use Rattle.replica.specs.declared.thread_log.ThreadLog.{ThreadLog}
 use Rattle.replica.specs.declared.log.Log.{Log}
 use Rattle.replica.specs.Log.{entry_at, end_at}
@@ -44,6 +45,14 @@ thread_strays thread = strays_from (known_end thread.end) thread.entries
 -- how many items were claimed differently, the end among them
 abbrev pub thread_clashes : ThreadLog → ℕ
 thread_clashes thread = count_by (λ e. is_clash e.1) thread.entries + end_clashes thread.end
+
+-- how many runs of neighbouring places of a thread have items
+abbrev pub runs_of : Option ThreadLog → ℕ
+runs_of None = 0
+runs_of (Some thread) = runs thread.entries
+
+abbrev pub runs_at : Log → ℕ → ℕ
+runs_at log thread = runs_of (slice_get log.threads thread)
 
 abbrev pub ends : Log → ℕ
 ends log = count_by (λ thread. is_some (known_end thread.end)) log.threads

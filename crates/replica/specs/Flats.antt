@@ -1,5 +1,5 @@
 -- Items that are known or that clash.
-use Rattle.std.specs.Prelude.{Bool, true, false, Option, Some, None}
+use Rattle.std.specs.Prelude.{Bool, true, false, nat_le, Option, Some, None}
 use Rattle.log_pieces.specs.declared.end.End.{End}
 use Rattle.join_laws.specs.declared.flat.Flat.{Flat}
 use Rattle.join_laws.specs.declared.flat.Flat.TheVariants.{Known, Clash}
@@ -13,3 +13,9 @@ known_end (Some Clash) = None
 abbrev pub is_clash : {T : Type 0} → Flat T → Bool
 is_clash (Known x) = false
 is_clash Clash = true
+
+-- an end that is known has at most 1,000,000,000 steps
+abbrev pub few_steps : Option (Flat End) → Bool
+few_steps None = true
+few_steps (Some (Known end)) = nat_le end.steps 1000000000
+few_steps (Some Clash) = true

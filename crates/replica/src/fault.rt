@@ -3,11 +3,11 @@
 use thiserror::Error;
 use wasm_types::NoMemory;
 
-/// Why a piece was not joined whole.
+/// Why a piece, or another log, was not joined whole.
 #[derive(Clone, Copy, Debug, PartialEq, Eq, Error)]
 pub enum ReplicaFault {
     /// Refusal 41: it is of another run.
-    #[error("the piece is of another run")]
+    #[error("it is of another run")]
     OtherRun,
     /// Refusal 42: only its first items were joined.
     #[error("out of memory")]

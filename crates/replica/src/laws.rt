@@ -5,6 +5,8 @@ ghost use Rattle.replica.specs.Gathered.{IsListing};
 ghost use Rattle.log_pieces.specs.Piece.{PieceValue};
 ghost use Rattle.replica.specs.declared.log.Log.{Log};
 ghost use Rattle.replica.specs.LogOf.{IsLogOf, Among, IsJoinedWith, IsSameLog, first_items};
+ghost use Rattle.replica.specs.Claims.{claims_of, HasLimits};
+ghost use Rattle.replica.specs.Merged.{IsMerged, IsMergedInPart};
 
 /// A law of logs alone: two logs of the same set of pieces have the same items, whatever the order of the pieces and
 /// their repeats.
@@ -24,4 +26,16 @@ pub fn same_pieces_have_one_listing()
 /// So delivering a piece again completes what want of memory left.
 pub fn joining_again_completes()
     ensures { (old part new : Log) (piece : PieceValue) (count : ℕ) → IsJoinedWith old (first_items count piece) part → IsJoinedWith part piece new → IsJoinedWith old piece new }
+{}
+
+/// A law of logs alone: a log joined with the first entries of another, and then with the other, is joined with the
+/// other. So merging a log again completes what want of memory left.
+pub fn merging_again_completes()
+    ensures { (old other part new : Log) (thread count : ℕ) → IsMergedInPart old other thread count part → IsMerged part other new → IsMerged old other new }
+{}
+
+/// A law of logs alone: no known end of a log has more than 1,000,000,000 steps, since the pieces that it is made of
+/// keep to that.
+pub fn logs_have_limits()
+    ensures { (log : Log) → HasLimits (claims_of log) }
 {}

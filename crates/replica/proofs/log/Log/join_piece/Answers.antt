@@ -11,7 +11,11 @@ use Rattle.join_laws.specs.Keyed.{option_joined}
 use Rattle.replica.specs.Items.{end_eq}
 use Rattle.replica.specs.LogOf.{IsJoinedWith, first_items}
 use Rattle.replica.proofs.LogLemmas.{thread_joined, thread_left, with_thread, nothing_joined}
+use Rattle.replica.proofs.Limits.{piece_few}
 use Rattle.replica.proofs.log.Log.join_piece.Goals as goal
+
+pub join_end-requires : goal.join_end-requires
+join_end-requires c = piece_few c.args.piece.now c.in-Some.end c.end.ensures.rules (sym c.end.ensures.value ∙ c.in-Some.is)
 
 pub returns-in_err-join_entries-clause-left : goal.returns-in_err-join_entries-clause-left
 returns-in_err-join_entries-clause-left c =
