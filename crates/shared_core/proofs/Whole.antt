@@ -1,8 +1,8 @@
 -- Where the seats have as many calls as the history, each has all of its thread.
-use Rattle.std.proofs.Common.{◌≡◌, ℕ, ◌+◌, ◌<◌, ◌≤◌, ◌==◌, List, [], ◌∷◌, ◌++◌, length, Bool, true, false, cond, refl, sym, ap, ◌∙◌, subst, arith, inl, inr}
+use Rattle.std.proofs.Common.{◌≡◌, ℕ, ◌+◌, ◌<◌, ◌≤◌, ◌==◌, List, [], ◌∷◌, length, Bool, true, false, cond, refl, sym, arith}
 use Rattle.std.proofs.lemmas.Bool.Decides.{nat_tests}
 use Rattle.shared_parts.specs.declared.call.Call.{Call}
-use Rattle.shared_parts.specs.Calls.{Part, part_of, IsWithin, IsNumbered, AreParts, AreWithin, calls_of}
+use Rattle.shared_parts.specs.Calls.{Part, part_of, IsNumbered, AreParts, AreWithin, calls_of}
 use Rattle.shared_journal.proofs.Grows.{within_length, within_whole}
 
 module _ {O R : Type 0} where

@@ -6,7 +6,9 @@ ghost use Rattle.rw_objects.specs.Memory.{memory_of};
 ghost use Rattle.shared_parts.specs.declared.call.Call.{Call};
 ghost use Rattle.shared_parts.specs.Calls.{IsLegalHistory, memory_after_calls, part_of, entries_in, threads_in, IsWithin, IsNumbered, AreParts};
 
-use crate::shared::{Parts, Shared, gather};
+use crate::journal::Journal;
+use crate::parts::{Parts, gather};
+use crate::shared::Shared;
 use call_chain::{Head, Tail};
 use rw_objects::{Entry, ObjectSpace, Versioned};
 use shared_journal::{Held, Seat};
@@ -99,9 +101,10 @@ impl<S: Striped + Drop, J: Opening<S>> Shared<S, J> {
     {
         let Shared {
             parts,
-            held,
+            journal,
             changed: _,
         } = self;
-        end(held.into_inner(), alloc, parts, seats)
+        let Journal { held, resting: _ } = journal.into_inner();
+        end(held, alloc, parts, seats)
     }
 }

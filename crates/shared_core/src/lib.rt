@@ -2,9 +2,14 @@
 #![tactic(auto)]
 
 mod close;
+mod hold;
+mod journal;
 mod opened;
+mod parts;
+mod resting;
 mod shared;
 
 pub use close::History;
+pub use hold::{Hold, Unkept};
 pub use opened::Opened;
-pub use shared::{Gates, Parts, Shared, access};
+pub use shared::Shared;

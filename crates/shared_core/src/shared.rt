@@ -1,257 +1,144 @@
 //! A shared space: its parts under read-write locks, and the journal under a lock of its own.
 
-ghost use Rattle.std.specs.Prelude.{◌≡◌, ◌+◌, ◌<◌, ◌++◌, ◌∷◌, [], ℕ, IfOk, false, true, is_some, option_map, MatchOption, box_value};
-ghost use Rattle.std.specs.Sync.Mutex.{mutex_guard_value};
+ghost use Rattle.std.specs.Prelude.{◌≡◌, ◌∷◌, ◌++◌, [], IfOk, false, true, is_some, MatchOption};
 ghost use Rattle.rw_objects.specs.Space.{Fits};
-ghost use Rattle.striped_objects.specs.Parts.{has_lane, IsPart, AreParts};
-ghost use Rattle.shared_parts.specs.Calls.{call, memory_after_calls};
+ghost use Rattle.shared_parts.specs.Calls.{call};
 ghost use Rattle.shared_journal.specs.Tries.{IfDone, IfShut, IsDone};
-ghost use Rattle.shared_parts.specs.Writes.{writes};
-ghost use Rattle.shared_parts.specs.Eights.{Covers, totals_by, either_kept};
 
-use call_chain::{Head, Tail};
-use rw_objects::{Entry, Few, ObjectSpace, Touch};
-use shared_journal::{Held, Seat, Tried};
-use shared_parts::{Books, Call, Lane, Lents, Opening, Stripe, lane_writes};
+use crate::hold::Hold;
+use crate::journal::Journal;
+use crate::parts::Parts;
+use rw_objects::Entry;
+use shared_journal::{Seat, Tried};
+use shared_parts::Opening;
 use std::alloc::Global;
-use std::boxed::Box;
-use std::marker::Model;
-use std::sync::ledger::Book;
-use std::sync::{Condvar, Mutex, MutexGuard, RwLock, RwLockReadGuard, RwLockWriteGuard, Wait};
-use striped_objects::{Eight, Striped, has_lane};
+use std::sync::{Condvar, Mutex, Wait};
+use striped_objects::Striped;
 use wasm_types::NoMemory;
 
-/// The parts, each under a lock that readers share. The lock inside is taken while the journal's is held.
-#[derive(Drop)]
-pub struct Parts<S: Striped, J: Opening<S>> {
-    pub zero: RwLock<Mutex<Stripe<S, J, 0>>>,
-    pub one: RwLock<Mutex<Stripe<S, J, 1>>>,
-    pub two: RwLock<Mutex<Stripe<S, J, 2>>>,
-    pub three: RwLock<Mutex<Stripe<S, J, 3>>>,
-    pub four: RwLock<Mutex<Stripe<S, J, 4>>>,
-    pub five: RwLock<Mutex<Stripe<S, J, 5>>>,
-    pub six: RwLock<Mutex<Stripe<S, J, 6>>>,
-    pub seven: RwLock<Mutex<Stripe<S, J, 7>>>,
-}
-
-/// The parts that an operation touches, each kept for reading or for writing. Contracts see which they are.
-pub struct Gates<'a, S: Striped, J: Opening<S>> {
-    zero: (
-        Option<RwLockReadGuard<'a, Mutex<Stripe<S, J, 0>>>>,
-        Option<RwLockWriteGuard<'a, Mutex<Stripe<S, J, 0>>>>,
-    ),
-    one: (
-        Option<RwLockReadGuard<'a, Mutex<Stripe<S, J, 1>>>>,
-        Option<RwLockWriteGuard<'a, Mutex<Stripe<S, J, 1>>>>,
-    ),
-    two: (
-        Option<RwLockReadGuard<'a, Mutex<Stripe<S, J, 2>>>>,
-        Option<RwLockWriteGuard<'a, Mutex<Stripe<S, J, 2>>>>,
-    ),
-    three: (
-        Option<RwLockReadGuard<'a, Mutex<Stripe<S, J, 3>>>>,
-        Option<RwLockWriteGuard<'a, Mutex<Stripe<S, J, 3>>>>,
-    ),
-    four: (
-        Option<RwLockReadGuard<'a, Mutex<Stripe<S, J, 4>>>>,
-        Option<RwLockWriteGuard<'a, Mutex<Stripe<S, J, 4>>>>,
-    ),
-    five: (
-        Option<RwLockReadGuard<'a, Mutex<Stripe<S, J, 5>>>>,
-        Option<RwLockWriteGuard<'a, Mutex<Stripe<S, J, 5>>>>,
-    ),
-    six: (
-        Option<RwLockReadGuard<'a, Mutex<Stripe<S, J, 6>>>>,
-        Option<RwLockWriteGuard<'a, Mutex<Stripe<S, J, 6>>>>,
-    ),
-    seven: (
-        Option<RwLockReadGuard<'a, Mutex<Stripe<S, J, 7>>>>,
-        Option<RwLockWriteGuard<'a, Mutex<Stripe<S, J, 7>>>>,
-    ),
-}
-
-impl<'a, S: Striped, J: Opening<S>> Model for Gates<'a, S, J> {
-    ghost use Rattle.shared_parts.specs.Eights.{Eights, either_kept};
-
-    ghost Value = { Eights (Unit {0}) };
-
-    ghost view = { λ g. record { zero = either_kept g.zero.0 g.zero.1; one = either_kept g.one.0 g.one.1; two = either_kept g.two.0 g.two.1; three = either_kept g.three.0 g.three.1; four = either_kept g.four.0 g.four.1; five = either_kept g.five.0 g.five.1; six = either_kept g.six.0 g.six.1; seven = either_kept g.seven.0 g.seven.1 } };
-}
-
-impl<S: Striped, J: Opening<S>> Drop for Gates<'_, S, J> {
-    fn drop(self) {
-        let Gates {
-            zero,
-            one,
-            two,
-            three,
-            four,
-            five,
-            six,
-            seven,
-        } = self;
-        drop(zero);
-        drop(one);
-        drop(two);
-        drop(three);
-        drop(four);
-        drop(five);
-        drop(six);
-        drop(seven);
-    }
-}
-
-/// Waits for a part, where an operation touches it: for reading where it writes no object of it, else for writing.
-fn wait_for<'a, S: Striped, J: Opening<S>, R: Wait, const I: u64>(
-    rt: &R,
-    lock: &'a RwLock<Mutex<Stripe<S, J, I>>>,
-    touches: &Few<Touch>,
-) -> (
-    Option<RwLockReadGuard<'a, Mutex<Stripe<S, J, I>>>>,
-    Option<RwLockWriteGuard<'a, Mutex<Stripe<S, J, I>>>>,
-)
-    requires { I < 8 }
-    ensures { is_some (either_kept result.0 result.1) ≡ has_lane I touches.now }
-{
-    if !has_lane(I as u32, touches) {
-        return (None, None);
-    }
-    if lane_writes(I, touches) == 0 {
-        (Some(lock.read(rt)), None)
-    } else {
-        (None, Some(lock.write(rt)))
-    }
-}
-
-/// Opens a part that is kept, while the journal's lock is held.
-fn open<'g, S: Striped, J: Opening<S>, R: Wait, const I: u64>(
-    rt: &R,
-    read: &'g Option<RwLockReadGuard<'_, Mutex<Stripe<S, J, I>>>>,
-    write: &'g Option<RwLockWriteGuard<'_, Mutex<Stripe<S, J, I>>>>,
-) -> Option<MutexGuard<'g, Stripe<S, J, I>>>
-    ensures { is_some (option_map mutex_guard_value result) ≡ is_some (either_kept read.now write.now) }
-{
-    match (read, write) {
-        (Some(guard), _) => Some(guard.lock(rt)),
-        (None, Some(guard)) => Some(guard.lock(rt)),
-        (None, None) => None,
-    }
-}
-
-impl<S: Striped, J: Opening<S>> Parts<S, J> {
-    /// Waits for the parts that an operation touches, each once, in rising order.
-    fn gates<R: Wait>(&self, rt: &R, touches: &Few<Touch>) -> Gates<'_, S, J>
-        ensures { Covers touches.now result }
-    {
-        Gates {
-            zero: wait_for(rt, &self.zero, touches),
-            one: wait_for(rt, &self.one, touches),
-            two: wait_for(rt, &self.two, touches),
-            three: wait_for(rt, &self.three, touches),
-            four: wait_for(rt, &self.four, touches),
-            five: wait_for(rt, &self.five, touches),
-            six: wait_for(rt, &self.six, touches),
-            seven: wait_for(rt, &self.seven, touches),
-        }
-    }
-}
-
-impl<'a, S: Striped, J: Opening<S>> Gates<'a, S, J> {
-    /// The parts, while the journal's lock is held.
-    fn open<R: Wait>(&self, rt: &R, touches: &Few<Touch>) -> Lents<'_, S, J>
-        requires { Covers touches.now self.now }
-        ensures { Covers touches.now result }
-    {
-        Lents {
-            zero: open(rt, &self.zero.0, &self.zero.1),
-            one: open(rt, &self.one.0, &self.one.1),
-            two: open(rt, &self.two.0, &self.two.1),
-            three: open(rt, &self.three.0, &self.three.1),
-            four: open(rt, &self.four.0, &self.four.1),
-            five: open(rt, &self.five.0, &self.five.1),
-            six: open(rt, &self.six.0, &self.six.1),
-            seven: open(rt, &self.seven.0, &self.seven.1),
-        }
-    }
-}
-
-/// The parts and the journal, with what wakes those that rest.
+/// A space shared by threads, each of which has a seat: its parts, the journal of all calls, and what wakes those that rest.
 #[derive(Drop)]
 pub struct Shared<S: Striped, J: Opening<S>> {
     pub(crate) parts: Parts<S, J>,
-    pub(crate) held: Mutex<Held<S, J>>,
+    pub(crate) journal: Mutex<Journal<S, J>>,
     pub(crate) changed: Condvar,
 }
 
-/// Tries a call: its parts are waited for in rising order, then the journal, which is given back first. `inside` is
-/// called between, where the call was entered.
-pub fn access<S: Striped, J: Opening<S>, R: Wait, F: Fn()>(
-    rt: &R,
-    alloc: Global,
-    shared: &Shared<S, J>,
-    seat: &mut Seat<S, J>,
-    op: S::Op,
-    expected: Option<&Entry>,
-    inside: &F,
-) -> Result<Tried<S::Reply>, NoMemory>
-    requires fits { Fits S.meaning J.named.memory.fixed op }
-    requires inside { F.IsAlwaysCallable inside.now }
-    ensures done { IfOk result (λ t. IfDone t (λ r e. seat.new.calls ≡ seat.old.calls ++ call seat.old.thread op r e ∷ [])) }
-    ensures open { IfOk result (λ t. IfDone t (λ r e. MatchOption expected.entry (Unit {0}) (λ x. x.now ≡ e))) }
-    ensures kept { (IsDone result ≡ false) → seat.new ≡ seat.old }
-    ensures thread { seat.new.thread ≡ seat.old.thread }
-{
-    let touches = S::touches(alloc, &op);
-    let gates = shared.parts.gates(rt, &touches);
-    let mut held = shared.held.lock(rt);
-    let mut lents = gates.open(rt, &touches);
-    let answer = held.enter(alloc, seat, op, expected, &touches, &mut lents);
-    drop(lents);
-    drop(held);
-    if let Ok(Tried::Done(..)) = &answer {
-        inside();
+impl<S: Striped, J: Opening<S>> Shared<S, J> {
+    /// Tries a call once. The locks of the touched parts are asked for in rising order, then the journal's, which is given
+    /// back first. Seats that rest are woken where there are any.
+    fn try_call<R: Wait, H: Hold>(
+        &self,
+        rt: &R,
+        alloc: Global,
+        seat: &mut Seat<S, J>,
+        op: S::Op,
+        expected: Option<&Entry>,
+        hold: &H,
+    ) -> Result<Tried<S::Reply>, NoMemory>
+        requires fits { Fits S.meaning J.named.memory.fixed op }
+        ensures done { IfOk result (λ t. IfDone t (λ r e. seat.new.calls ≡ seat.old.calls ++ call seat.old.thread op r e ∷ [])) }
+        ensures open { IfOk result (λ t. IfDone t (λ r e. MatchOption expected.entry (Unit {0}) (λ x. x.now ≡ e))) }
+        ensures shut { IfOk result (λ t. IfShut t (is_some expected.entry ≡ true)) }
+        ensures kept { (IsDone result ≡ false) → seat.new ≡ seat.old }
+        ensures thread { seat.new.thread ≡ seat.old.thread }
+    {
+        let (thread, place) = (seat.thread(), seat.entries().len() as u64);
+        hold.before(thread, place);
+        let touches = S::touches(alloc, &op);
+        let kept = self.parts.keep(rt, &touches);
+        let mut journal = self.journal.lock(rt);
+        let mut lents = kept.lend(rt, &touches);
+        let answer = journal
+            .held
+            .enter(alloc, seat, op, expected, &touches, &mut lents);
+        drop(lents);
+        let is_entered = matches!(&answer, Ok(Tried::Done(..)));
+        let wakes = is_entered && journal.resting.entered();
+        drop(journal);
+        if is_entered {
+            hold.inside(thread, place);
+        }
+        drop(kept);
+        if wakes {
+            self.changed.notify_all();
+        }
+        hold.after(thread, place);
+        answer
     }
-    drop(gates);
-    shared.changed.notify_all();
-    answer
-}
 
-/// Takes a part out of its lock. It is what the journal leads to.
-fn take<S: Striped, J: Opening<S>, const I: u64>(
-    lock: RwLock<Mutex<Stripe<S, J, I>>>,
-    book: &mut Book<Lane<S, J, I>>,
-    head: &Head<Call<S::Op, S::Reply>, J>,
-    tail: &mut Tail<Call<S::Op, S::Reply>, J>,
-) -> Box<S::Part>
-    requires total { book.old.total ≡ writes S.meaning.touches I tail.old }
-    ensures tail { tail.new ≡ tail.old }
-    ensures part { IsPart S.lane S.part_fixed S.held I J.named.memory.fixed (memory_after_calls S.meaning J.named.memory tail.old).values (box_value result) }
-{
-    let mut stripe = lock.into_inner().into_inner();
-    stripe.meet(book, head, tail);
-    stripe.into_part()
-}
+    /// Tries a call: where it is ready it is entered, behind the seat's other calls. It never answers `Shut`.
+    pub fn access<R: Wait, H: Hold>(
+        &self,
+        rt: &R,
+        alloc: Global,
+        seat: &mut Seat<S, J>,
+        op: S::Op,
+        hold: &H,
+    ) -> Result<Tried<S::Reply>, NoMemory>
+        requires fits { Fits S.meaning J.named.memory.fixed op }
+        ensures done { IfOk result (λ t. IfDone t (λ r e. seat.new.calls ≡ seat.old.calls ++ call seat.old.thread op r e ∷ [])) }
+        ensures never_shut { IfOk result (λ t. IfShut t ⊥) }
+        ensures kept { (IsDone result ≡ false) → seat.new ≡ seat.old }
+        ensures thread { seat.new.thread ≡ seat.old.thread }
+    {
+        self.try_call(rt, alloc, seat, op, None, hold)
+    }
 
-/// Takes all parts out of their locks. They are those of the space to which the journal leads.
-pub(crate) fn gather<S: Striped, J: Opening<S>>(
-    parts: Parts<S, J>,
-    books: Books<S, J>,
-    head: &Head<Call<S::Op, S::Reply>, J>,
-    tail: &mut Tail<Call<S::Op, S::Reply>, J>,
-) -> Eight<Box<S::Part>>
-    requires totals { books ≡ totals_by (λ i. writes S.meaning.touches i tail.old) }
-    ensures tail { tail.new ≡ tail.old }
-    ensures parts { AreParts S.lane S.part_fixed S.held J.named.memory.fixed (memory_after_calls S.meaning J.named.memory tail.old).values result }
-{
-    let mut books = books;
-    Eight {
-        zero: take(parts.zero, &mut books.zero, head, tail),
-        one: take(parts.one, &mut books.one, head, tail),
-        two: take(parts.two, &mut books.two, head, tail),
-        three: take(parts.three, &mut books.three, head, tail),
-        four: take(parts.four, &mut books.four, head, tail),
-        five: take(parts.five, &mut books.five, head, tail),
-        six: take(parts.six, &mut books.six, head, tail),
-        seven: take(parts.seven, &mut books.seven, head, tail),
+    /// Tries a call whose entry is to be this one: where it is, and the call is ready, it is entered, behind the seat's other
+    /// calls.
+    pub fn access_at<R: Wait, H: Hold>(
+        &self,
+        rt: &R,
+        alloc: Global,
+        seat: &mut Seat<S, J>,
+        op: S::Op,
+        expected: &Entry,
+        hold: &H,
+    ) -> Result<Tried<S::Reply>, NoMemory>
+        requires fits { Fits S.meaning J.named.memory.fixed op }
+        ensures done { IfOk result (λ t. IfDone t (λ r e. seat.new.calls ≡ seat.old.calls ++ call seat.old.thread op r expected.now ∷ [])) }
+        ensures entry { IfOk result (λ t. IfDone t (λ r e. e ≡ expected.now)) }
+        ensures kept { (IsDone result ≡ false) → seat.new ≡ seat.old }
+        ensures thread { seat.new.thread ≡ seat.old.thread }
+    {
+        self.try_call(rt, alloc, seat, op, Some(expected), hold)
+    }
+
+    /// How many calls were entered.
+    pub fn length<R: Wait>(&self, rt: &R) -> u64 {
+        self.journal.lock(rt).length()
+    }
+
+    /// Waits until more than `seen` calls were entered, or no seat can go on. Answers how many were entered: `seen` where no
+    /// seat can go on, since each rests with that number or has left.
+    pub fn rest<R: Wait>(&self, rt: &R, seen: u64) -> u64 {
+        let mut journal = self.journal.lock(rt);
+        if !journal.is_still(seen) {
+            return journal.length();
+        }
+        if journal.resting.rest() {
+            let length = journal.length();
+            drop(journal);
+            self.changed.notify_all();
+            return length;
+        }
+        let journal = self
+            .changed
+            .wait_while(rt, journal, |journal| journal.is_still(seen));
+        journal.length()
+    }
+
+    /// The seat enters no more calls, so nobody waits for it. To be called once for a seat.
+    pub fn leave<R: Wait>(&self, rt: &R, seat: &mut Seat<S, J>)
+        ensures { seat.new ≡ seat.old }
+    {
+        let _thread = seat.thread();
+        let mut journal = self.journal.lock(rt);
+        let is_over = journal.resting.leave();
+        drop(journal);
+        if is_over {
+            self.changed.notify_all();
+        }
     }
 }

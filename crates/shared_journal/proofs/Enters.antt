@@ -1,13 +1,11 @@
 -- What a call that is entered does to the journal.
-use Rattle.std.proofs.Common.{◌≡◌, ℕ, ◌+◌, ◌≤◌, Bool, true, false, cond, List, [], ◌∷◌, ◌++◌, length, map, Option, None, Some, refl, sym, ap, ◌∙◌, subst, arith}
+use Rattle.std.proofs.Common.{◌≡◌, ℕ, ◌+◌, ◌≤◌, Bool, true, false, cond, List, [], ◌∷◌, ◌++◌, Option, None, Some, refl, sym, ap, ◌∙◌, subst, arith}
 use Rattle.rw_objects.specs.declared.touch.Touch.{Touch}
 use Rattle.rw_objects.specs.declared.touch.Mode.{Mode}
 use Rattle.rw_objects.specs.declared.touch.Mode.TheVariants.{Read, Write}
 use Rattle.rw_objects.specs.declared.count.Count.{Count}
-use Rattle.rw_objects.specs.declared.entry.Kind.{Kind}
-use Rattle.rw_objects.specs.declared.entry.Entry.{Entry}
 use Rattle.rw_objects.specs.Space.{Space, Fits, mode_at, is_written, is_ready, reply_of, values_after, effect_at}
-use Rattle.rw_objects.specs.Counts.{count_after_if, counts_after, all_found}
+use Rattle.rw_objects.specs.Counts.{count_after_if, counts_after}
 use Rattle.rw_objects.specs.Memory.{Memory, memory_after, memory_with, entry_of}
 use Rattle.striped_objects.specs.Cut.{Cut, CutLaws, AllSound}
 use Rattle.shared_parts.specs.declared.call.Call.{Call}

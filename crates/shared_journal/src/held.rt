@@ -9,8 +9,8 @@ ghost use Rattle.shared_parts.specs.Calls.{call, IsLegalHistory, memory_after_ca
 ghost use Rattle.shared_journal.specs.Tries.{IfDone, IfShut, IfNotReady, IsDone};
 ghost use Rattle.shared_parts.specs.Eights.{AreHere, Covers};
 
-use crate::tried::Tried;
 use crate::seat::Seat;
+use crate::tried::Tried;
 use call_chain::{Head, Tail};
 use rw_objects::{Entry, Few, Found, Mode, ObjectSpace, Touch, Versions};
 use shared_parts::{Books, Call, Count, Lents, Opening};

@@ -1,11 +1,11 @@
 -- What stays where nothing was written.
-use Rattle.std.proofs.Common.{zero, suc, length, get_or, ◌≡◌, ◌≢◌, ℕ, ◌+◌, ◌*◌, ◌%◌, ◌<◌, ◌==◌, Bool, true, false, List, [], ◌∷◌, ◌++◌, cond, Some, None, refl, sym, ap, ◌∙◌, subst, arith, inl, inr}
+use Rattle.std.proofs.Common.{zero, suc, length, get_or, ◌≡◌, ◌≢◌, ℕ, ◌+◌, ◌*◌, ◌%◌, ◌<◌, ◌==◌, Bool, true, false, List, [], ◌∷◌, ◌++◌, cond, Some, refl, sym, ap, ◌∙◌, arith, inl, inr}
 use Rattle.std.proofs.lemmas.Bool.{eq-eqb}
-use Rattle.std.proofs.lemmas.Bool.Decides.{eqb_tells, nat_tests}
+use Rattle.std.proofs.lemmas.Bool.Decides.{eqb_tells}
 use mathlib.Core.List.{IsPrefix}
 use Rattle.rw_objects.specs.declared.touch.Touch.{Touch}
 use Rattle.rw_objects.specs.Space.{Space, mode_at, is_written, values_after, effect_at}
-use Rattle.rw_objects.specs.Memory.{Memory, memory_after, memory_with}
+use Rattle.rw_objects.specs.Memory.{Memory, memory_after}
 use Rattle.rw_objects.specs.Counts.{is_touched}
 use Rattle.striped_objects.specs.Parts.{part_values, lane_writes, has_lane}
 use Rattle.shared_parts.specs.declared.call.Call.{Call}
@@ -91,9 +91,9 @@ lane_touched i o (t ∷ ts) touched is =
     elim (eqb_tells (t.object % 8) i) [
       | inl p ↦ rw p.0 refl
       | inr p ↦ elim (eqb_tells t.object o) [
-          | inl q ↦ absurd (p.1 (ap (λ k. k % 8) q.1 ∙ is))
-          | inr q ↦ rw p.0 (lane_touched i o ts (rw q.0 at touched) is)
-        ]
+        | inl q ↦ absurd (p.1 (ap (λ k. k % 8) q.1 ∙ is))
+        | inr q ↦ rw p.0 (lane_touched i o ts (rw q.0 at touched) is)
+      ]
     ]
 
 -- what was seen so far, part by part

@@ -178,12 +178,7 @@ impl<S: Striped, J: Opening<S>> Lents<'_, S, J> {
     }
 
     /// What an operation sees of an object that it touches.
-    pub fn look(
-        &self,
-        tail: &Tail<Call<S::Op, S::Reply>, J>,
-        object: u32,
-        op: &S::Op,
-    ) -> S::Seen
+    pub fn look(&self, tail: &Tail<Call<S::Op, S::Reply>, J>, object: u32, op: &S::Op) -> S::Seen
         requires fits { Fits S.meaning J.named.memory.fixed op.now }
         requires touched { is_touched (S.meaning.touches op.now) object ≡ true }
         requires covers { Covers (S.meaning.touches op.now) self.now }

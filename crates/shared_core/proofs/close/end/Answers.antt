@@ -1,9 +1,9 @@
-use Rattle.std.proofs.Common.{rules, arith, ◌≡◌, ◌≤◌, ◌+◌, ◌++◌, map, List, [], ◌∷◌, length, subst, sym, ap, ◌∙◌, refl}
+use Rattle.std.proofs.Common.{arith, ◌≡◌, ◌≤◌, ◌+◌, ◌++◌, map, List, [], ◌∷◌, length, subst, sym, ap, ◌∙◌, refl}
 use Rattle.std.specs.Vec.Iter.{into_iter_items}
 use Rattle.std.proofs.lemmas.List.{append-nil}
 use Rattle.rw_objects.specs.Counts.{count_at}
 use Rattle.striped_objects.proofs.Wholes.{one_whole}
-use Rattle.shared_parts.specs.Calls.{AreWithin, AreParts, calls_of, memory_after_calls, entries_in}
+use Rattle.shared_parts.specs.Calls.{AreWithin, calls_of, memory_after_calls, entries_in}
 use Rattle.shared_parts.proofs.Writes.{fixed_after}
 use Rattle.shared_journal.proofs.Enters.{memory_is}
 use Rattle.shared_core.proofs.Whole.{parts_whole}

@@ -1,5 +1,5 @@
-use Rattle.std.proofs.Common.{subst, sym, ap, ◌∙◌}
-use Rattle.shared_parts.specs.Calls.{part_of, IsWithin, entries_in}
+use Rattle.std.proofs.Common.{subst}
+use Rattle.shared_parts.specs.Calls.{part_of, IsWithin}
 use Rattle.shared_journal.proofs.Grows.{within_later}
 use Rattle.shared_core.proofs.close.hand_in.Goals as goal
 

@@ -1,4 +1,4 @@
-use Rattle.std.proofs.Common.{◌≡◌, ◌≢◌, ◌∙◌, sym, true, false}
+use Rattle.std.proofs.Common.{◌≡◌, ◌∙◌, sym, true, false}
 use Rattle.rw_objects.specs.Decides.{entry_decides}
 use Rattle.shared_journal.proofs.held.is_same.Goals as goal
 

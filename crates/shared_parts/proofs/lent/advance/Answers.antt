@@ -1,6 +1,5 @@
-use Rattle.std.proofs.Common.{arith, ◌≡◌, ◌+◌, ◌∙◌, sym, ap, is_some, option_map}
+use Rattle.std.proofs.Common.{arith, ◌∙◌, sym, ap, is_some, option_map}
 use Rattle.std.specs.Sync.Mutex.{mutex_guard_value}
-use Rattle.shared_parts.specs.Writes.{writes}
 use Rattle.shared_parts.proofs.Writes.{writes_with_call, no_lane}
 use Rattle.shared_parts.proofs.lent.advance.Goals as goal
 

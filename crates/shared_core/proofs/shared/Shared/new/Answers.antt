@@ -1,17 +1,11 @@
+-- The journal is empty, and the versions and totals are 0.
 use Rattle.std.specs.Prelude.{replicate}
-use Rattle.std.proofs.Common.{zero, suc, rules, arith, ◌≡◌, ◌≤◌, ◌+◌, [], ◌∷◌, ◌++◌, List, ℕ, length, length-append, sym, ap, ◌∙◌, subst, refl}
+use Rattle.std.proofs.Common.{zero, suc, rules, arith, ◌≡◌, ℕ, length, sym, ap, ◌∙◌, subst, refl}
 use Rattle.rw_objects.specs.declared.count.Count.{Count}
 use Rattle.rw_objects.specs.Counts.{count_at, no_counts, no_count}
-use Rattle.rw_objects.specs.Memory.{Memory}
 use Rattle.striped_objects.specs.Cut.{AllSound}
-use Rattle.shared_parts.specs.Calls.{Part, part_of, IsWithin, nothing, IsNumbered, IsLegalHistory, memory_after_calls, entries_in, threads_in}
-use Rattle.shared_parts.specs.Writes.{writes}
-use Rattle.shared_parts.specs.Eights.{totals_by}
+use Rattle.shared_parts.specs.Calls.{IsLegalHistory, memory_after_calls}
 use Rattle.shared_core.proofs.shared.Shared.new.Goals as goal
-
-numbered_push : {O R : Type 0} (b : ℕ) (ss : List (Part O R)) (s : Part O R) → IsNumbered b ss → s.thread ≡ b + length ss → IsNumbered b (ss ++ s ∷ [])
-numbered_push b [] s n is = (omega (arith, is), tt)
-numbered_push b (x ∷ ss) s n is = (n.0, numbered_push (b + 1) ss s n.1 (omega (arith, is)))
 
 count_none : (n o : ℕ) → count_at (replicate n no_count) o ≡ no_count
 count_none zero o = refl
@@ -21,26 +15,6 @@ count_none (suc n) (suc o) = count_none n o
 length_none : (n : ℕ) → length (replicate n no_count) ≡ n
 length_none zero = refl
 length_none (suc n) = ap suc (length_none n)
-
-pub invariant_of-push : goal.invariant_of-push
-invariant_of-push g c =
-    let none : c.again.result ≡ [] = search rules in
-    let calls = c.new-in-loop-thread-2.ensures in (
-      c.split_off-own.ensures.parts,
-      c.split_off-own.ensures.amount ∙ sym (ap length calls),
-      c.new-in-loop-thread.ensures.items ∙ sym (ap entries_in calls),
-      subst (λ l. IsWithin l (part_of c.loop-thread.thread c.again.result)) (sym calls) (subst (λ l. IsWithin [] (part_of c.loop-thread.thread l)) (sym none) nothing),
-    )
-
-pub loop-thread-preserved : goal.loop-thread-preserved
-loop-thread-preserved g c =
-    let inv = c.loop-thread.invariant in
-    let pushed = c.in_ok-push.ensures.items in (
-      omega (arith, inv.0, c.split_off-own.ensures.parts_left),
-      omega (arith, inv.1, c.split_off-own.ensures.amount_left),
-      (let n = ap length pushed ∙ length-append c.loop-thread.seats.items (record { thread = c.loop-thread.thread; calls = c.new-in-loop-thread-2.result } ∷ []) in omega (arith, n, inv.2)),
-      subst (IsNumbered 0) (sym pushed) (numbered_push 0 c.loop-thread.seats.items (record { thread = c.loop-thread.thread; calls = c.new-in-loop-thread-2.result }) inv.3 (omega (arith, inv.2))),
-    )
 
 pub invariant_of-held : goal.invariant_of-held
 invariant_of-held g c =
@@ -61,6 +35,6 @@ invariant_of-held g c =
       order = search rules;
       books = search rules;
       total = search rules;
-      rest = (let a = c.loop-thread.invariant.0 in let b = c.loop-thread-test.false in let d = c.loop-thread.auto in omega (arith, a, b));
-      none = c.loop-thread.invariant.1;
+      rest = search rules;
+      none = search rules;
     }

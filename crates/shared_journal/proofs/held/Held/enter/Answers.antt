@@ -1,11 +1,10 @@
 -- A call that is entered: the journal, the versions and the seat get it, and the parts what it makes of them.
-use Rattle.std.proofs.Common.{rules, arith, ◌≡◌, ◌≤◌, ◌++◌, ◌∷◌, [], ◌+◌, ℕ, true, false, sym, ap, ◌∙◌, refl, length, length-append, subst}
-use mathlib.Core.List.{IsPrefix}
+use Rattle.std.proofs.Common.{rules, arith, ◌≡◌, ◌≤◌, ◌++◌, ◌∷◌, [], true, sym, ap, ◌∙◌, length, length-append, subst}
 use Rattle.rw_objects.specs.declared.entry.Kind.{Kind}
 use Rattle.rw_objects.specs.declared.entry.Entry.{Entry}
 use Rattle.rw_objects.specs.declared.touch.Found.{Found}
 use Rattle.std.proofs.Common.{List}
-use Rattle.rw_objects.specs.Space.{is_ready, reply_of, values_after}
+use Rattle.rw_objects.specs.Space.{is_ready, reply_of}
 use Rattle.rw_objects.specs.Counts.{all_found, count_at, counts_after}
 use Rattle.rw_objects.specs.Memory.{entry_of, memory_after}
 use Rattle.striped_objects.specs.Cut.{AllSound, sights, decision_at}

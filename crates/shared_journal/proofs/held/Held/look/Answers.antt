@@ -1,4 +1,4 @@
-use Rattle.std.proofs.Common.{◌≡◌, ◌∙◌, sym, ap, get_or}
+use Rattle.std.proofs.Common.{◌∙◌, sym, ap, get_or}
 use Rattle.rw_objects.specs.declared.touch.Touch.{Touch}
 use Rattle.rw_objects.specs.declared.touch.Mode.TheVariants.{Read}
 use Rattle.rw_objects.specs.Counts.{is_touched}

@@ -1,4 +1,4 @@
-use Rattle.std.proofs.Common.{◌≡◌, ◌<◌, ◌%◌, arith, ℕ}
+use Rattle.std.proofs.Common.{◌%◌, arith, ℕ}
 use Rattle.shared_parts.proofs.Writes.{seen_so_far}
 use Rattle.shared_parts.proofs.lent.Lents.look.Goals as goal
 

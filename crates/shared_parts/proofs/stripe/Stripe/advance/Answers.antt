@@ -1,4 +1,4 @@
-use Rattle.std.proofs.Common.{rules, ◌≡◌, ◌+◌, ◌∙◌, sym, ap, subst, arith}
+use Rattle.std.proofs.Common.{◌≡◌, ◌∙◌, sym, ap, subst, arith}
 use Rattle.striped_objects.specs.Parts.{part_values, lane_writes}
 use Rattle.striped_objects.specs.Cut.{decision_at, AllSound}
 use Rattle.rw_objects.specs.Space.{values_after}

@@ -1,5 +1,4 @@
-use Rattle.std.proofs.Common.{◌≡◌, ◌∙◌, sym, ap, subst}
-use mathlib.Core.List.{IsPrefix}
+use Rattle.std.proofs.Common.{◌≡◌, ◌∙◌, sym, ap}
 use Rattle.shared_parts.specs.Writes.{writes}
 use Rattle.shared_parts.proofs.Writes.{part_same}
 use Rattle.shared_parts.proofs.stripe.Stripe.meet.Goals as goal

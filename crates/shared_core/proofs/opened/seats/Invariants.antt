@@ -1,6 +1,6 @@
 use Rattle.std.proofs.Common.{◌≡◌, ◌+◌, length}
 use Rattle.shared_parts.specs.Calls.{IsNumbered}
-use Rattle.shared_core.proofs.shared.Shared.new.Given as goal
+use Rattle.shared_core.proofs.opened.seats.Given as goal
 
 abbrev pub invariant-loop-thread : goal.invariant-loop-thread
 invariant-loop-thread g l =
