@@ -6,12 +6,14 @@ mod laws;
 mod op;
 mod open;
 mod script;
+mod striped;
 
 pub use cells::Cells;
 pub use laws::scripts_replay;
 pub use op::{Cell, CellOp, ScriptStep};
 pub use open::open_scripts;
 pub use script::Script;
+pub use striped::{CellDecision, CellPart};
 
 #[cfg(test)]
 mod tests;

@@ -1,0 +1,15 @@
+use Rattle.std.proofs.Common.{◌≡◌, ◌+◌, ◌++◌, length, map}
+use Rattle.std.specs.Vec.Iter.{into_iter_items, into_iter_len}
+use Rattle.shared_parts.specs.Calls.{AreWithin, calls_of, entries_in}
+use Rattle.shared_core.proofs.close.end.Given as goal
+
+abbrev pub invariant-loop-seat : goal.invariant-loop-seat
+invariant-loop-seat g l =
+    let rest = into_iter_items l.seat-iterator in
+    let seats = l.fn.seats.items in
+    (l.all.parts + length rest ≡ length seats + 1)
+    × (l.all.amount + calls_of rest ≡ calls_of seats)
+    × (AreWithin l.tail rest → AreWithin l.tail seats)
+    × (into_iter_len l.seat-iterator ≡ length rest)
+    × (map (λ v. v.items) l.entries.items ++ map (λ s. entries_in s.calls) rest ≡ map (λ s. entries_in s.calls) seats)
+    × (l.tail ≡ l.fn.held)

@@ -1,0 +1,15 @@
+//! A space in eight parts under read-write locks, one journal of all calls, and one seat for each thread.
+#![tactic(auto)]
+
+mod close;
+mod hold;
+mod journal;
+mod opened;
+mod parts;
+mod resting;
+mod shared;
+
+pub use close::History;
+pub use hold::{Hold, Unkept};
+pub use opened::Opened;
+pub use shared::Shared;

@@ -1,0 +1,144 @@
+//! A shared space: its parts under read-write locks, and the journal under a lock of its own.
+
+ghost use Rattle.std.specs.Prelude.{◌≡◌, ◌∷◌, ◌++◌, [], IfOk, false, true, is_some, MatchOption};
+ghost use Rattle.rw_objects.specs.Space.{Fits};
+ghost use Rattle.shared_parts.specs.Calls.{call};
+ghost use Rattle.shared_journal.specs.Tries.{IfDone, IfShut, IsDone};
+
+use crate::hold::Hold;
+use crate::journal::Journal;
+use crate::parts::Parts;
+use rw_objects::Entry;
+use shared_journal::{Seat, Tried};
+use shared_parts::Opening;
+use std::alloc::Global;
+use std::sync::{Condvar, Mutex, Wait};
+use striped_objects::Striped;
+use wasm_types::NoMemory;
+
+/// A space shared by threads, each of which has a seat: its parts, the journal of all calls, and what wakes those that rest.
+#[derive(Drop)]
+pub struct Shared<S: Striped, J: Opening<S>> {
+    pub(crate) parts: Parts<S, J>,
+    pub(crate) journal: Mutex<Journal<S, J>>,
+    pub(crate) changed: Condvar,
+}
+
+impl<S: Striped, J: Opening<S>> Shared<S, J> {
+    /// Tries a call once. The locks of the touched parts are asked for in rising order, then the journal's, which is given
+    /// back first. Seats that rest are woken where there are any.
+    fn try_call<R: Wait, H: Hold>(
+        &self,
+        rt: &R,
+        alloc: Global,
+        seat: &mut Seat<S, J>,
+        op: S::Op,
+        expected: Option<&Entry>,
+        hold: &H,
+    ) -> Result<Tried<S::Reply>, NoMemory>
+        requires fits { Fits S.meaning J.named.memory.fixed op }
+        ensures done { IfOk result (λ t. IfDone t (λ r e. seat.new.calls ≡ seat.old.calls ++ call seat.old.thread op r e ∷ [])) }
+        ensures open { IfOk result (λ t. IfDone t (λ r e. MatchOption expected.entry (Unit {0}) (λ x. x.now ≡ e))) }
+        ensures shut { IfOk result (λ t. IfShut t (is_some expected.entry ≡ true)) }
+        ensures kept { (IsDone result ≡ false) → seat.new ≡ seat.old }
+        ensures thread { seat.new.thread ≡ seat.old.thread }
+    {
+        let (thread, place) = (seat.thread(), seat.entries().len() as u64);
+        hold.before(thread, place);
+        let touches = S::touches(alloc, &op);
+        let kept = self.parts.keep(rt, &touches);
+        let mut journal = self.journal.lock(rt);
+        let mut lents = kept.lend(rt, &touches);
+        let answer = journal
+            .held
+            .enter(alloc, seat, op, expected, &touches, &mut lents);
+        drop(lents);
+        let is_entered = matches!(&answer, Ok(Tried::Done(..)));
+        let wakes = is_entered && journal.resting.entered();
+        drop(journal);
+        if is_entered {
+            hold.inside(thread, place);
+        }
+        drop(kept);
+        if wakes {
+            self.changed.notify_all();
+        }
+        hold.after(thread, place);
+        answer
+    }
+
+    /// Tries a call: where it is ready it is entered, behind the seat's other calls. It never answers `Shut`.
+    pub fn access<R: Wait, H: Hold>(
+        &self,
+        rt: &R,
+        alloc: Global,
+        seat: &mut Seat<S, J>,
+        op: S::Op,
+        hold: &H,
+    ) -> Result<Tried<S::Reply>, NoMemory>
+        requires fits { Fits S.meaning J.named.memory.fixed op }
+        ensures done { IfOk result (λ t. IfDone t (λ r e. seat.new.calls ≡ seat.old.calls ++ call seat.old.thread op r e ∷ [])) }
+        ensures never_shut { IfOk result (λ t. IfShut t ⊥) }
+        ensures kept { (IsDone result ≡ false) → seat.new ≡ seat.old }
+        ensures thread { seat.new.thread ≡ seat.old.thread }
+    {
+        self.try_call(rt, alloc, seat, op, None, hold)
+    }
+
+    /// Tries a call whose entry is to be this one: where it is, and the call is ready, it is entered, behind the seat's other
+    /// calls.
+    pub fn access_at<R: Wait, H: Hold>(
+        &self,
+        rt: &R,
+        alloc: Global,
+        seat: &mut Seat<S, J>,
+        op: S::Op,
+        expected: &Entry,
+        hold: &H,
+    ) -> Result<Tried<S::Reply>, NoMemory>
+        requires fits { Fits S.meaning J.named.memory.fixed op }
+        ensures done { IfOk result (λ t. IfDone t (λ r e. seat.new.calls ≡ seat.old.calls ++ call seat.old.thread op r expected.now ∷ [])) }
+        ensures entry { IfOk result (λ t. IfDone t (λ r e. e ≡ expected.now)) }
+        ensures kept { (IsDone result ≡ false) → seat.new ≡ seat.old }
+        ensures thread { seat.new.thread ≡ seat.old.thread }
+    {
+        self.try_call(rt, alloc, seat, op, Some(expected), hold)
+    }
+
+    /// How many calls were entered.
+    pub fn length<R: Wait>(&self, rt: &R) -> u64 {
+        self.journal.lock(rt).length()
+    }
+
+    /// Waits until more than `seen` calls were entered, or no seat can go on. Answers how many were entered: `seen` where no
+    /// seat can go on, since each rests with that number or has left.
+    pub fn rest<R: Wait>(&self, rt: &R, seen: u64) -> u64 {
+        let mut journal = self.journal.lock(rt);
+        if !journal.is_still(seen) {
+            return journal.length();
+        }
+        if journal.resting.rest() {
+            let length = journal.length();
+            drop(journal);
+            self.changed.notify_all();
+            return length;
+        }
+        let journal = self
+            .changed
+            .wait_while(rt, journal, |journal| journal.is_still(seen));
+        journal.length()
+    }
+
+    /// The seat enters no more calls, so nobody waits for it. To be called once for a seat.
+    pub fn leave<R: Wait>(&self, rt: &R, seat: &mut Seat<S, J>)
+        ensures { seat.new ≡ seat.old }
+    {
+        let _thread = seat.thread();
+        let mut journal = self.journal.lock(rt);
+        let is_over = journal.resting.leave();
+        drop(journal);
+        if is_over {
+            self.changed.notify_all();
+        }
+    }
+}

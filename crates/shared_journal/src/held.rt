@@ -1,0 +1,209 @@
+//! What lies under the journal's lock.
+
+ghost use Rattle.std.specs.Prelude.{◌≡◌, ◌≢◌, ℕ, ◌+◌, ◌<◌, ◌≤◌, List, [], ◌∷◌, ◌++◌, IfOk, OnOk, Bool, true, false, MatchOption, IsSomeAnd, length};
+ghost use Rattle.rw_objects.specs.Space.{Fits, AllBelow, is_ready, reply_of};
+ghost use Rattle.rw_objects.specs.Counts.{all_found, count_at, is_touched};
+ghost use Rattle.rw_objects.specs.Memory.{entry_of, memory_after};
+ghost use Rattle.striped_objects.specs.Cut.{sights};
+ghost use Rattle.shared_parts.specs.Calls.{call, IsLegalHistory, memory_after_calls};
+ghost use Rattle.shared_journal.specs.Tries.{IfDone, IfShut, IfNotReady, IsDone};
+ghost use Rattle.shared_parts.specs.Eights.{AreHere, Covers};
+
+use crate::seat::Seat;
+use crate::tried::Tried;
+use call_chain::{Head, Tail};
+use rw_objects::{Entry, Few, Found, Mode, ObjectSpace, Touch, Versions};
+use shared_parts::{Books, Call, Count, Lents, Opening};
+use std::alloc::Global;
+use std::marker::Model;
+use std::snapshot::Snapshot;
+use std::sync::ledger::{Book, Share};
+use striped_objects::Striped;
+use wasm_types::{NoMemory, Same};
+
+/// The versions of all objects and the journal. At run time the journal is the thread of each call, a byte each: what was
+/// asked and answered is known to proofs alone. Contracts see the list of its calls.
+#[derive(Drop)]
+pub struct Held<S: Striped, J: Opening<S>> {
+    pub versions: Versions,
+    pub order: Vec<u8>,
+    pub head: Head<Call<S::Op, S::Reply>, J>,
+    pub tail: Tail<Call<S::Op, S::Reply>, J>,
+    pub books: Books<S, J>,
+    pub book: Book<Count<S, J>>,
+    pub rest: Share<Count<S, J>>,
+}
+
+impl<S: Striped, J: Opening<S>> Model for Held<S, J> {
+    ghost use Rattle.std.specs.Prelude.{◌≡◌, ◌≤◌, length, ℕ, List};
+    ghost use Rattle.rw_objects.specs.Counts.{count_at};
+    ghost use Rattle.shared_parts.specs.declared.call.Call.{Call};
+    ghost use Rattle.striped_objects.specs.Cut.{AllSound};
+    ghost use Rattle.shared_parts.specs.Calls.{IsLegalHistory, memory_after_calls, threads_in};
+    ghost use Rattle.shared_parts.specs.Writes.{writes};
+    ghost use Rattle.shared_parts.specs.Eights.{totals_by};
+
+    ghost Value = { List (Call S.Op S.Reply) };
+
+    ghost view = { λ h. h.tail };
+
+    ghost invariant = { λ h. record {
+      legal : IsLegalHistory S.meaning J.named.memory h.tail;
+      sound : AllSound S.cut J.named.memory.fixed (memory_after_calls S.meaning J.named.memory h.tail).values;
+      counts : count_at h.versions ≡ (memory_after_calls S.meaning J.named.memory h.tail).counts;
+      sized : length h.versions ≡ S.meaning.objects J.named.memory.fixed;
+      few_versions : (o : ℕ) → (count_at h.versions o).version ≤ length h.order.items;
+      few_reads : (o : ℕ) → (count_at h.versions o).reads ≤ length h.order.items;
+      order : h.order.items ≡ threads_in h.tail;
+      books : h.books ≡ totals_by (λ i. writes S.meaning.touches i h.tail);
+      total : h.book.total ≡ length h.tail;
+      rest : h.rest.parts ≡ 1;
+      none : h.rest.amount ≡ 0;
+    } };
+}
+
+/// What touches would find.
+fn find(alloc: Global, versions: &Versions, touches: &Few<Touch>) -> Few<Found>
+    ensures { result ≡ all_found touches.now (count_at versions.now) }
+{
+    let mut found = Few::new(alloc);
+    for touch in touches.as_slice() {
+        let count = versions.at(touch.object);
+        found.push(match touch.mode {
+            Mode::Read => Found::Read {
+                object: touch.object,
+                version: count.version,
+            },
+            Mode::Write => Found::Write {
+                object: touch.object,
+                version: count.version,
+                reads: count.reads,
+            },
+        });
+    }
+    found
+}
+
+/// Whether two entries are one.
+fn is_same(one: &Entry, other: &Entry) -> bool
+    ensures same { result ≡ true → one.now ≡ other.now }
+    ensures other { result ≡ false → one.now ≢ other.now }
+{
+    *one == *other
+}
+
+impl<S: Striped, J: Opening<S>> Held<S, J> {
+    /// How long the journal is, and that it is legal.
+    pub fn length(&self) -> usize
+        ensures length { result ≡ length self.now }
+        ensures legal { IsLegalHistory S.meaning J.named.memory self.now }
+    {
+        self.order.len()
+    }
+
+    /// What an operation sees of the objects that it touches, of the memory to which the journal leads.
+    pub fn look(
+        &mut self,
+        lents: &mut Lents<'_, S, J>,
+        touches: &Few<Touch>,
+        op: &S::Op,
+        seen: &mut Vec<S::Seen>,
+    ) -> Result<(), NoMemory>
+        requires empty { seen.old.items ≡ [] }
+        requires fits { Fits S.meaning J.named.memory.fixed op.now }
+        requires touches { touches.now ≡ S.meaning.touches op.now }
+        requires covers { Covers touches.now lents.old }
+        ensures kept { self.new ≡ self.old }
+        ensures lents { lents.new ≡ lents.old }
+        ensures here { AreHere S.held (memory_after_calls S.meaning J.named.memory self.old).values lents.new }
+        ensures seen { OnOk result (seen.new.items ≡ sights S.meaning S.cut J.named.memory.fixed (memory_after_calls S.meaning J.named.memory self.old).values op.now) }
+    {
+        let Held {
+            versions: _,
+            order: _,
+            head,
+            tail,
+            books,
+            book: _,
+            rest: _,
+        } = self;
+        lents.meet(books, head, tail);
+        for touch in touches.as_slice() {
+            seen.push(lents.look(tail, touch.object, op))?;
+        }
+        Ok(())
+    }
+
+    /// Tries one call, over the parts that it touches. `Shut` is tested first.
+    pub fn enter(
+        &mut self,
+        alloc: Global,
+        seat: &mut Seat<S, J>,
+        op: S::Op,
+        expected: Option<&Entry>,
+        touches: &Few<Touch>,
+        lents: &mut Lents<'_, S, J>,
+    ) -> Result<Tried<S::Reply>, NoMemory>
+        requires fits { Fits S.meaning J.named.memory.fixed op }
+        requires touches { touches.now ≡ S.meaning.touches op }
+        requires covers { Covers touches.now lents.old }
+        ensures done { IfOk result (λ t. IfDone t (λ r e. (is_ready S.meaning J.named.memory.fixed (memory_after_calls S.meaning J.named.memory self.old).values op ≡ true) × (r ≡ reply_of S.meaning J.named.memory.fixed (memory_after_calls S.meaning J.named.memory self.old).values op) × (e ≡ entry_of S.meaning (memory_after_calls S.meaning J.named.memory self.old) op) × (memory_after_calls S.meaning J.named.memory self.new ≡ memory_after S.meaning (memory_after_calls S.meaning J.named.memory self.old) op))) }
+        ensures journal { IfOk result (λ t. IfDone t (λ r e. self.new ≡ self.old ++ call seat.old.thread op r e ∷ [])) }
+        ensures own { IfOk result (λ t. IfDone t (λ r e. seat.new.calls ≡ seat.old.calls ++ call seat.old.thread op r e ∷ [])) }
+        ensures open { IfOk result (λ t. IfDone t (λ r e. MatchOption expected.entry (Unit {0}) (λ x. x.now ≡ e))) }
+        ensures shut { IfOk result (λ t. IfShut t (IsSomeAnd expected.entry (λ x. x.now ≢ entry_of S.meaning (memory_after_calls S.meaning J.named.memory self.old) op))) }
+        ensures not_ready { IfOk result (λ t. IfNotReady t ((is_ready S.meaning J.named.memory.fixed (memory_after_calls S.meaning J.named.memory self.old).values op ≡ false) × MatchOption expected.entry (Unit {0}) (λ x. x.now ≡ entry_of S.meaning (memory_after_calls S.meaning J.named.memory self.old) op))) }
+        ensures kept { (IsDone result ≡ false) → (self.new ≡ self.old) × (seat.new ≡ seat.old) }
+        ensures thread { seat.new.thread ≡ seat.old.thread }
+    {
+        let mut seen = Vec::new(alloc);
+        self.look(lents, touches, &op, &mut seen)?;
+        let entry = Entry {
+            kind: S::kind(&op),
+            found: find(alloc, &self.versions, touches),
+        };
+        if let Some(wanted) = expected {
+            if !is_same(wanted, &entry) {
+                return Ok(Tried::Shut);
+            }
+        }
+        let decision = S::decide(&op, seen.as_slice());
+        if !S::is_ready(&decision) {
+            return Ok(Tried::NotReady);
+        }
+        let told = entry.copy(alloc)?;
+        self.order.reserve(1)?;
+        seat.entries.reserve(1)?;
+        let reply = S::reply(&decision);
+        let made = Call {
+            thread: u32::from(seat.thread),
+            op,
+            reply,
+            entry,
+        };
+        let before = self.tail.told();
+        self.tail.meet(&self.head, &seat.told);
+        self.tail.push(&self.head, Snapshot::of(&made));
+        seat.calls.push(Snapshot::of(&made));
+        seat.told = self.tail.told();
+        self.book.add(&mut seat.share, 1);
+        self.order.push_reserved(seat.thread);
+        let Call {
+            thread: _,
+            op,
+            reply,
+            entry,
+        } = made;
+        seat.entries.push_reserved(entry);
+        self.versions.touch_all(touches);
+        lents.advance(
+            &mut self.books,
+            &before,
+            &self.tail,
+            touches,
+            &op,
+            &decision,
+        );
+        Ok(Tried::Done(reply, told))
+    }
+}

@@ -1,0 +1,10 @@
+//! The journal of all calls of a shared space, a seat for each thread, and how a call is entered in both.
+#![tactic(auto)]
+
+mod held;
+mod seat;
+mod tried;
+
+pub use held::Held;
+pub use seat::Seat;
+pub use tried::Tried;

@@ -1,0 +1,48 @@
+//! The seats of threads.
+
+ghost use Rattle.std.specs.Prelude.{◌≡◌, ◌+◌, length};
+ghost use Rattle.shared_parts.specs.Calls.{entries_in};
+
+use call_chain::{Pile, Told};
+use rw_objects::{Entry, ObjectSpace};
+use shared_parts::{Call, Count, Opening};
+use std::marker::Model;
+use std::sync::ledger::Share;
+
+/// A thread's own calls, with what shows that they stand in the journal. What they asked and were answered is known to
+/// proofs alone: at run time there are their entries.
+#[derive(Drop)]
+pub struct Seat<S: ObjectSpace, J: Opening<S>> {
+    pub thread: u8,
+    pub entries: Vec<Entry>,
+    pub calls: Pile<Call<S::Op, S::Reply>>,
+    pub share: Share<Count<S, J>>,
+    pub told: Told<Call<S::Op, S::Reply>, J>,
+}
+
+impl<S: ObjectSpace, J: Opening<S>> Model for Seat<S, J> {
+    ghost use Rattle.std.specs.Prelude.{◌≡◌, length};
+    ghost use Rattle.shared_parts.specs.Calls.{Part, part_of, entries_in, IsWithin};
+
+    ghost Value = { Part S.Op S.Reply };
+
+    ghost view = { λ s. record { thread = s.thread; calls = s.calls } };
+
+    ghost invariant = { λ s. (s.share.parts ≡ 1) × (s.share.amount ≡ length s.calls) × (s.entries.items ≡ entries_in s.calls) × IsWithin s.calls (part_of s.thread s.told) };
+}
+
+impl<S: ObjectSpace, J: Opening<S>> Seat<S, J> {
+    /// Its thread.
+    pub fn thread(&self) -> u32
+        ensures { result ≡ self.now.thread }
+    {
+        u32::from(self.thread)
+    }
+
+    /// The entries of its calls.
+    pub fn entries(&self) -> &[Entry]
+        ensures { result.now ≡ entries_in self.now.calls }
+    {
+        self.entries.as_slice()
+    }
+}

@@ -1,0 +1,4 @@
+pub mod Named
+pub mod Calls
+pub mod Writes
+pub mod Eights

@@ -1,0 +1,39 @@
+//! What names one shared space.
+
+use call_chain::Naming;
+use rw_objects::ObjectSpace;
+use std::marker::PhantomData;
+use std::sync::ledger::Ledger;
+
+/// Names the opening space and the ledgers of one shared space. Each call of a program picks it.
+pub trait Opening<S: ObjectSpace>: Naming {
+    ghost use Rattle.shared_parts.specs.Named.{Named};
+
+    ghost named: { Named S.Value S.Fixed };
+}
+
+/// The ledger of the calls, with a part for each seat and one beside the journal.
+pub struct Count<S: ObjectSpace, J: Opening<S>> {
+    of: PhantomData<(S, J)>,
+}
+
+impl<S: ObjectSpace, J: Opening<S>> Ledger for Count<S, J> {
+    ghost use Rattle.std.specs.Prelude.{◌+◌};
+
+    ghost name = { J.named.ledger };
+
+    ghost parts = { J.named.threads + 1 };
+}
+
+/// The ledger of the writes of the part with this number.
+pub struct Lane<S: ObjectSpace, J: Opening<S>, const I: u64> {
+    of: PhantomData<(S, J)>,
+}
+
+impl<S: ObjectSpace, J: Opening<S>, const I: u64> Ledger for Lane<S, J, I> {
+    ghost use Rattle.std.specs.Prelude.{slice_index_or};
+
+    ghost name = { slice_index_or J.named.lanes I 0 };
+
+    ghost parts = { 1 };
+}

@@ -1,0 +1,121 @@
+//! One part of a shared space.
+
+ghost use Rattle.std.specs.Prelude.{◌≡◌, ◌+◌, ◌%◌, ◌/◌, ◌<◌, ℕ, true, ◌++◌, ◌∷◌, [], box_value};
+ghost use Rattle.rw_objects.specs.Space.{Fits, RisesFrom};
+ghost use Rattle.rw_objects.specs.Counts.{is_touched};
+ghost use Rattle.striped_objects.specs.Cut.{AllSound, decision_at};
+ghost use Rattle.striped_objects.specs.Parts.{IsPart, part_values, lane_writes};
+ghost use Rattle.shared_parts.specs.Calls.{memory_after_calls};
+ghost use Rattle.shared_parts.specs.Writes.{writes};
+
+use crate::call::Call;
+use crate::naming::{Lane, Opening};
+use call_chain::{Head, Tail, Told};
+use rw_objects::{Few, Mode, ObjectSpace, Touch};
+use std::boxed::Box;
+use std::marker::Model;
+use std::sync::ledger::{Book, Share};
+use striped_objects::{Striped, change_lane};
+
+/// What one part of the space holds, with what shows that it is what the journal leads to.
+#[derive(Drop)]
+pub struct Stripe<S: Striped, J: Opening<S>, const I: u64> {
+    pub part: Box<S::Part>,
+    pub share: Share<Lane<S, J, I>>,
+    pub told: Told<Call<S::Op, S::Reply>, J>,
+}
+
+impl<S: Striped, J: Opening<S>, const I: u64> Model for Stripe<S, J, I> {
+    ghost use Rattle.std.specs.Prelude.{◌≡◌, ◌<◌};
+    ghost use Rattle.striped_objects.specs.Parts.{IsPart};
+    ghost use Rattle.shared_parts.specs.Calls.{memory_after_calls};
+    ghost use Rattle.shared_parts.specs.Writes.{writes};
+
+    ghost Value = { S.Part };
+
+    ghost view = { λ s. s.part.value };
+
+    ghost invariant = { λ s. (I < 8) × (s.share.parts ≡ 1) × (s.share.amount ≡ writes S.meaning.touches I s.told) × IsPart S.lane S.part_fixed S.held I J.named.memory.fixed (memory_after_calls S.meaning J.named.memory s.told).values s.part.value };
+}
+
+impl<S: Striped, J: Opening<S>, const I: u64> Stripe<S, J, I> {
+    /// What it holds is what the journal leads to.
+    pub fn meet(
+        &mut self,
+        book: &mut Book<Lane<S, J, I>>,
+        head: &Head<Call<S::Op, S::Reply>, J>,
+        tail: &mut Tail<Call<S::Op, S::Reply>, J>,
+    )
+        ensures kept { self.new ≡ self.old }
+        ensures total { book.new.total ≡ book.old.total }
+        ensures tail { tail.new ≡ tail.old }
+        ensures met { book.old.total ≡ writes S.meaning.touches I tail.old → S.held self.old ≡ part_values I (memory_after_calls S.meaning J.named.memory tail.old).values }
+    {
+        tail.meet(head, &self.told);
+        book.audit(&mut self.share);
+    }
+
+    /// What an operation sees of an object that it touches.
+    pub fn look(&self, object: u32, op: &S::Op) -> S::Seen
+        requires fits { Fits S.meaning J.named.memory.fixed op.now }
+        requires touched { is_touched (S.meaning.touches op.now) object ≡ true }
+        requires lane { object % 8 ≡ I }
+        ensures { result ≡ S.cut.sight J.named.memory.fixed op.now object (S.held self.now (object / 8)) }
+    {
+        S::look(&self.part, object, op)
+    }
+
+    /// Makes what a call that the journal has just got makes of this part. `before` knows the calls before it.
+    pub fn advance(
+        &mut self,
+        book: &mut Book<Lane<S, J, I>>,
+        before: &Told<Call<S::Op, S::Reply>, J>,
+        tail: &Tail<Call<S::Op, S::Reply>, J>,
+        touches: &Few<Touch>,
+        op: &S::Op,
+        decision: &S::Decision,
+    )
+        requires fits { Fits S.meaning J.named.memory.fixed op.now }
+        requires touches { touches.now ≡ S.meaning.touches op.now }
+        requires grown { (c : Call S.Op S.Reply) × (tail.now ≡ before.now ++ c ∷ []) × (c.op ≡ op.now) }
+        requires total { book.old.total ≡ writes S.meaning.touches I before.now }
+        requires here { S.held self.old ≡ part_values I (memory_after_calls S.meaning J.named.memory before.now).values }
+        requires decided { decision.now ≡ decision_at S.meaning S.cut J.named.memory.fixed (memory_after_calls S.meaning J.named.memory before.now).values op.now }
+        requires sound { AllSound S.cut J.named.memory.fixed (memory_after_calls S.meaning J.named.memory before.now).values }
+
+        ensures total { book.new.total ≡ writes S.meaning.touches I tail.now }
+    {
+        book.audit(&mut self.share);
+        change_lane::<S>(&mut self.part, I as u32, touches, op, decision);
+        book.add(&mut self.share, lane_writes(I, touches));
+        self.told = tail.told();
+    }
+
+    /// Gives up what it holds.
+    pub fn into_part(self) -> Box<S::Part>
+        ensures { box_value result ≡ self }
+    {
+        let Stripe {
+            part,
+            share: _,
+            told: _,
+        } = self;
+        part
+    }
+}
+
+/// How many objects of part `lane` are written.
+pub fn lane_writes(lane: u64, touches: &Few<Touch>) -> u64
+    ensures { result ≡ lane_writes lane touches.now }
+{
+    let mut count = 0;
+    for touch in touches.as_slice() {
+        if u64::from(touch.object % 8) == lane {
+            match touch.mode {
+                Mode::Write => count += 1,
+                Mode::Read => {}
+            }
+        }
+    }
+    count
+}
