@@ -1,13 +1,10 @@
 use crate::open_world;
 use binary_decoder::decode;
-use event_core::World;
-use integer_machine::ThreadState;
 use std::alloc::Global;
 use std::test::Fail;
 use thread_plan::Plan;
 use validator::{Valid, validate};
-use waiter_queues::SharedSpace;
-use wasm_types::{NoMemory, Outcome, Profile};
+use wasm_types::Profile;
 
 // A module with a shared memory of one page, a segment `2a` at address 3, and a function `f`.
 const MODULE: &str = "\
@@ -19,27 +16,24 @@ fn valid(alloc: Global) -> Result<Valid, Fail> {
     Ok(validate(alloc, decode(alloc, &bytes)?)?)
 }
 
-#[test]
-fn a_world_opens(rt: HostRuntime) -> Result<(), Fail> {
-    let alloc = rt.alloc();
-    let valid = valid(alloc)?;
-    let plan = Plan::read(alloc, b"wreplay plan 1\nthread f\nthread f\n", &valid)?;
+// The memory with which the world of a plan opens.
+fn opening_memory(alloc: Global, valid: &Valid, plan: &[u8]) -> Result<Vec<u8>, Fail> {
+    let plan = Plan::read(alloc, plan, valid)?;
     if !valid.fits(&Profile::One) {
         return Err("the module does not fit profile 1".into());
     }
-    let opened: Result<World<ThreadState<'_>, SharedSpace>, NoMemory> = open_world(
-        alloc,
-        &valid,
-        &plan,
-        Profile::One,
-    );
-    let world = opened?;
-    assert!(rt; world.count() == 2);
-    assert!(rt; world.steps(0) == Some(0) && world.steps(1) == Some(0));
-    assert!(rt; world.places(1) == Some(0) && world.places(2).is_none());
-    assert!(rt; world.outcome(0) == Some(Outcome::Running));
+    let world = open_world(alloc, valid, &plan, Profile::One)?;
     let end = world.end(alloc)?;
-    assert!(rt; end.memory().len() == 65_536);
-    assert!(rt; end.memory()[3] == 0x2a && end.memory()[4] == 0);
+    Ok(Vec::from_slice(alloc, end.memory())?)
+}
+
+#[test]
+fn the_segment_is_written(rt: HostRuntime) -> Result<(), Fail> {
+    let alloc = rt.alloc();
+    let valid = valid(alloc)?;
+    let memory = opening_memory(alloc, &valid, b"wreplay plan 1\nthread f\nthread f\n")?;
+    assert_eq!(rt; memory.len(), 65_536);
+    assert_eq!(rt; memory.get(3).copied(), Some(0x2a));
+    assert_eq!(rt; memory.get(4).copied(), Some(0));
     Ok(())
 }
