@@ -13,6 +13,3 @@ mod texts;
 pub use byte_reader::DecodeFault;
 pub use module::{decode, one_module};
 pub use texts::summary;
-
-#[cfg(test)]
-mod tests;

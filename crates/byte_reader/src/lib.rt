@@ -6,6 +6,3 @@ mod fault;
 
 pub use cursor::Cursor;
 pub use fault::DecodeFault;
-
-#[cfg(test)]
-mod tests;

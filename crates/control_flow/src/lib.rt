@@ -4,6 +4,3 @@
 mod targets;
 
 pub use targets::{Target, TargetFinder, Targets};
-
-#[cfg(test)]
-mod tests;

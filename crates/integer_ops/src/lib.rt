@@ -6,6 +6,3 @@ mod word32;
 mod word64;
 
 pub use computing::compute;
-
-#[cfg(test)]
-mod tests;

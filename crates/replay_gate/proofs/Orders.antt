@@ -10,7 +10,7 @@ use Rattle.event_core.specs.Run.{end_of_world}
 use Rattle.replay_laws.specs.declared.turn.Refusal.{Refusal}
 use Rattle.replay_laws.specs.Log.{Log, HasLimits}
 use Rattle.replay_laws.specs.Gates.{IsFinished}
-use Rattle.replay_laws.specs.Finishing.{OrderedAnswer, Ends, Stops, Sticks, IsFinishedRun, OrderedEnds}
+use Rattle.replay_laws.specs.Finishing.{Ends, Stops, Sticks, IsFinishedRun, OrderedEnds}
 use Rattle.replay_laws.proofs.Finishing.{finished_runs_are_ordered, ordered_ends_are_finished}
 use Rattle.replay_laws.proofs.Replays.{finished_replays_vouch, finished_replays_end_alike}
 use Rattle.replay_laws.proofs.OneAnswer.{one_ordered_answer}

@@ -2,4 +2,4 @@ pub mod Gate
 pub mod Leads
 pub mod Answers
 pub mod Rounds
-pub mod Claimed
+pub mod Turned

@@ -21,6 +21,17 @@ pub enum Gate {
     Shut,
 }
 
+/// What a turn of a replay did.
+#[derive(Clone, Copy, Debug, PartialEq, Eq)]
+pub enum Turned {
+    /// The thread made a local step.
+    Local,
+    /// The thread made its next event.
+    Event,
+    /// The thread stands at its logged end, or there is none of that number. Nothing changed.
+    Done,
+}
+
 /// Why a replay does not come to its end.
 #[derive(Clone, Copy, Debug, PartialEq, Eq, Error)]
 pub enum ReplayFault {

@@ -1,12 +1,13 @@
 //! One turn of a replay.
 
-ghost use Rattle.std.specs.Prelude.{◌≡◌, ◌⊎◌, IfOk, IfErr, OnErr};
+ghost use Rattle.std.specs.Prelude.{◌≡◌, ◌⊎◌, Some, IfOk, IfErr, OnOk, OnErr};
 ghost use Rattle.event_core.specs.World.{world_of};
 ghost use Rattle.replay_laws.specs.Turns.{op_for, can_give, turn_by_step, turn_by_item, turn_by_place, turn_by_next, turn_of, world_after_turn};
 ghost use Rattle.replay_laws.specs.Finishing.{PassesOn};
 ghost use Rattle.replay_gate.specs.Answers.{makes_step, IsThreadsFault, TurnStops};
+ghost use Rattle.replay_gate.specs.Turned.{answer_of_turn, TurnRefused};
 
-use crate::answers::{ReplayFault, fault_of};
+use crate::answers::{ReplayFault, Turned, fault_of};
 use crate::event::input_for;
 use crate::gates::{are_of, is_open};
 use crate::read_log::ReadLog;
@@ -176,6 +177,35 @@ fn fault_at<M: Machine<S>, S: ObjectSpace>(
     }
 }
 
+/// Makes the step of a turn, where the log lets it pass; a refusal, a shut gate's too, leaves the world as it was.
+pub(crate) fn take_turn<M: Machine<S>, S: ObjectSpace, L: ReadLog>(
+    alloc: Global,
+    world: &mut World<M, S>,
+    log: &L,
+    thread: u32,
+) -> Result<Turned, ReplayFault>
+    ensures ok { IfOk result (λ turned. answer_of_turn (turn_of S.meaning M.code (L.log log.now) (world_of world.old) thread) ≡ Some turned) }
+    ensures world { OnOk result (world_of world.new ≡ world_after_turn S.meaning M.code (world_of world.old) thread (turn_of S.meaning M.code (L.log log.now) (world_of world.old) thread)) }
+    ensures err { IfErr result (λ f. (f ≡ ReplayFault.NoMemory) ⊎ TurnRefused S.meaning M.code (L.log log.now) (world_of world.old) thread f) }
+    ensures unchanged { OnErr result (world_of world.new ≡ world_of world.old) }
+{
+    match turn_of(alloc, world, log, thread) {
+        Turn::Done => Ok(Turned::Done),
+        Turn::Local => match world.step(Pick {
+            thread,
+            input: Input::Go,
+        }) {
+            Ok(_) => Ok(Turned::Local),
+            Err(_) => Err(ReplayFault::NoMemory),
+        },
+        Turn::Event(input) => match world.step(Pick { thread, input }) {
+            Ok(_) => Ok(Turned::Event),
+            Err(_) => Err(ReplayFault::NoMemory),
+        },
+        Turn::Refused(refusal) => Err(fault_at(world, thread, refusal)),
+    }
+}
+
 /// Makes the step of a turn, if it has one. Answers whether it did; a shut gate and a thread that is done are passed over.
 pub(crate) fn pass<M: Machine<S>, S: ObjectSpace, L: ReadLog>(
     alloc: Global,
@@ -189,22 +219,12 @@ pub(crate) fn pass<M: Machine<S>, S: ObjectSpace, L: ReadLog>(
     ensures err { IfErr result (λ f. (f ≡ ReplayFault.NoMemory) ⊎ TurnStops S.meaning M.code (L.log log.now) (world_of world.old) thread f) }
     ensures unchanged { OnErr result (world_of world.new ≡ world_of world.old) }
 {
-    match turn_of(alloc, world, log, thread) {
-        Turn::Done => Ok(false),
-        Turn::Local => match world.step(Pick {
-            thread,
-            input: Input::Go,
-        }) {
-            Ok(_) => Ok(true),
-            Err(_) => Err(ReplayFault::NoMemory),
+    match take_turn(alloc, world, log, thread) {
+        Ok(Turned::Done) => Ok(false),
+        Ok(Turned::Local | Turned::Event) => Ok(true),
+        Err(fault) => match fault {
+            ReplayFault::Shut => Ok(false),
+            _ => Err(fault),
         },
-        Turn::Event(input) => match world.step(Pick { thread, input }) {
-            Ok(_) => Ok(true),
-            Err(_) => Err(ReplayFault::NoMemory),
-        },
-        Turn::Refused(Refusal::Shut) => Ok(false),
-        Turn::Refused(Refusal::Missing) => Err(fault_at(world, thread, Refusal::Missing)),
-        Turn::Refused(Refusal::Clash) => Err(fault_at(world, thread, Refusal::Clash)),
-        Turn::Refused(Refusal::Diverged) => Err(fault_at(world, thread, Refusal::Diverged)),
     }
 }

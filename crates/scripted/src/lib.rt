@@ -14,6 +14,3 @@ pub use op::{Cell, CellOp, ScriptStep};
 pub use open::open_scripts;
 pub use script::Script;
 pub use striped::{CellDecision, CellPart};
-
-#[cfg(test)]
-mod tests;

@@ -13,6 +13,3 @@ pub use fault::PlanFault;
 pub use laws::lines_are_spelled;
 pub use plan::Plan;
 pub use planned_thread::PlannedThread;
-
-#[cfg(test)]
-mod tests;

@@ -21,6 +21,3 @@ pub use laws::{
     typed_is_checked,
 };
 pub use valid::{Valid, validate};
-
-#[cfg(test)]
-mod tests;

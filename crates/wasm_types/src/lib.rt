@@ -35,6 +35,3 @@ pub use outcome::Outcome;
 pub use same::Same;
 pub use trap::Trap;
 pub use value::{ValType, Value};
-
-#[cfg(test)]
-mod tests;

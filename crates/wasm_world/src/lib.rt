@@ -4,7 +4,7 @@
 mod laws;
 mod open;
 
-pub use laws::opening_worlds_open;
+pub use laws::{opening_worlds_open, plans_open};
 pub use open::open_world;
 
 #[cfg(test)]

@@ -1,6 +1,0 @@
-use Rattle.std.proofs.Common.{refl, Some}
-use Rattle.join_laws.specs.declared.flat.Flat.TheVariants.{Known}
-use Rattle.join_laws.proofs.tests.seven_and_eight_clash.Goals as goal
-
-pub returns : goal.returns
-returns c = c.agreed_joined.ensures (Some (Known 7)) (Some (Known 8)) (refl, λ y h. h) (refl, λ y h. h)

@@ -1,0 +1,72 @@
+//! A replay that is made turn by turn.
+
+ghost use Rattle.std.specs.Prelude.{◌≡◌, ◌⊎◌, Some, IfOk, IfErr, OnOk, OnErr};
+ghost use Rattle.event_core.specs.World.{world_of};
+ghost use Rattle.replay_laws.specs.Turns.{turn_of, world_after_turn};
+ghost use Rattle.event_core.specs.Opening.{IsOpeningWorld};
+ghost use Rattle.replay_gate.specs.Leads.{Leads};
+ghost use Rattle.replay_gate.specs.Turned.{answer_of_turn, TurnRefused, IsRightRefusal, IsFreeRefusal};
+ghost use Rattle.replay_gate.specs.declared.answers.ReplayFault.TheVariants as ReplayFault;
+
+use crate::answers::{ReplayFault, Turned};
+use crate::read_log::ReadLog;
+use crate::replaying::OpenWorld;
+use crate::turn::take_turn;
+use event_core::World;
+use rw_objects::{Machine, ObjectSpace};
+use std::alloc::Global;
+use wasm_types::NoMemory;
+
+/// A replay: a log, and the world to which some gated run from the log leads from the opening world.
+#[derive(Drop)]
+pub struct Replay<M: Machine<S>, S: ObjectSpace, L: ReadLog, O: OpenWorld<M, S>> {
+    opens: O,
+    log: L,
+    world: World<M, S>,
+    ghost opening: { ∥ IsOpeningWorld M.code (O.opened opens) ∥₁ },
+    ghost leads: { ∥ Leads S.meaning M.code (L.log log) (O.opened opens) (world_of world) ∥₁ },
+}
+
+impl<M: Machine<S>, S: ObjectSpace, L: ReadLog + Drop, O: OpenWorld<M, S> + Drop> Replay<
+    M,
+    S,
+    L,
+    O,
+> {
+    /// The replay of a log before its first turn.
+    pub fn new(alloc: Global, opens: O, log: L) -> Result<Replay<M, S, L, O>, NoMemory>
+        requires { O.suits opens }
+        ensures log { IfOk result (λ replay. replay.log ≡ log) }
+        ensures opens { IfOk result (λ replay. replay.opens ≡ opens) }
+        ensures world { IfOk result (λ replay. world_of replay.world ≡ O.opened opens) }
+    {
+        match opens.open(alloc) {
+            Ok(world) => Ok(Replay { opens, log, world }),
+            Err(error) => Err(error),
+        }
+    }
+}
+
+impl<M: Machine<S>, S: ObjectSpace, L: ReadLog, O: OpenWorld<M, S>> Replay<M, S, L, O> {
+    /// The world at which it stands.
+    pub fn world(&self) -> &World<M, S>
+        ensures { result.now ≡ self.now.world }
+    {
+        &self.world
+    }
+
+    /// A turn of a thread: its next step, where the log lets it pass. A refusal leaves the replay as it was. On a log below
+    /// that of a run nothing clashes and no thread diverges; on the whole log of a run it is refused by a shut gate alone.
+    pub fn turn(&mut self, alloc: Global, thread: u32) -> Result<Turned, ReplayFault>
+        ensures log { self.new.log ≡ self.old.log }
+        ensures opens { self.new.opens ≡ self.old.opens }
+        ensures ok { IfOk result (λ turned. answer_of_turn (turn_of S.meaning M.code (L.log self.old.log) (world_of self.old.world) thread) ≡ Some turned) }
+        ensures world { OnOk result (world_of self.new.world ≡ world_after_turn S.meaning M.code (world_of self.old.world) thread (turn_of S.meaning M.code (L.log self.old.log) (world_of self.old.world) thread)) }
+        ensures refused { IfErr result (λ f. (f ≡ ReplayFault.NoMemory) ⊎ TurnRefused S.meaning M.code (L.log self.old.log) (world_of self.old.world) thread f) }
+        ensures right { IfErr result (IsRightRefusal S.meaning M.code (L.log self.old.log) (O.opened self.old.opens)) }
+        ensures free { IfErr result (IsFreeRefusal S.meaning M.code (L.log self.old.log) (O.opened self.old.opens)) }
+        ensures unchanged { OnErr result (world_of self.new.world ≡ (world_of self.old.world)) }
+    {
+        take_turn(alloc, &mut self.world, &self.log, thread)
+    }
+}

@@ -1,0 +1,8 @@
+//! Tests of recordings and replays of scripts. A crate with tests is proved twice, so they stand here, over what those crates
+//! offer.
+#![tactic(auto)]
+
+#[cfg(test)]
+mod recordings;
+#[cfg(test)]
+mod replays;

@@ -1,0 +1,413 @@
+//! Replays of three scripts. What they must give was computed by a program of its own, or by hand.
+
+ghost use Rattle.std.specs.Prelude.{◌≡◌, ◌≤◌, length, map};
+ghost use Rattle.replay_tests.specs.Claimed.{claimed, few, scripts_world, scripts_open};
+
+use event_core::{Input, World};
+use join_laws::Flat;
+use log_pieces::End;
+use replay_gate::{Gate, OpenWorld, ReadLog, Replay, ReplayFault, Turned, gate, replay, turn_of};
+use replay_laws::{Refusal, Turn};
+use rw_objects::{Entry, Few, Found, Kind};
+use scripted::{Cell, CellOp, Cells, Script, ScriptStep, open_scripts};
+use std::alloc::Global;
+use std::test::Fail;
+use wasm_types::{NoMemory, Outcome, Value};
+
+/// What is claimed of two places of each of three threads.
+type Accesses = [[Option<Option<Found>>; 2]; 3];
+
+/// A log of three threads. At each of two places nothing is claimed, or a clash, or an access of one object; a thread
+/// ends with a sum behind two events, if its end is known.
+#[derive(Drop)]
+struct ClaimedLog {
+    alloc: Global,
+    accesses: Accesses,
+    sums: [Option<u64>; 3],
+}
+
+impl ReadLog for ClaimedLog {
+    ghost log = { λ c. claimed c.accesses c.sums };
+
+    fn entry(&self, thread: u32, place: u32) -> Option<Flat<Entry>> {
+        let Some(row) = self.accesses.get(thread as usize) else {
+            return None;
+        };
+        match row.get(place as usize) {
+            None | Some(None) => None,
+            Some(Some(None)) => Some(Flat::Clash),
+            Some(Some(Some(found))) => Some(Flat::Known(Entry {
+                kind: Kind::Access,
+                found: Few::one(self.alloc, *found),
+            })),
+        }
+    }
+
+    fn end(&self, thread: u32) -> Option<Flat<End>> {
+        match self.sums.get(thread as usize) {
+            None | Some(None) => None,
+            Some(Some(sum)) => Some(Flat::Known(End {
+                steps: 2,
+                places: 2,
+                outcome: Outcome::Done(Some(Value::I64(*sum))),
+            })),
+        }
+    }
+
+    ghost limits = { λ c. few c.accesses c.sums };
+}
+
+/// Scripts over cells that hold 0.
+#[derive(Drop)]
+struct Scripts<'a> {
+    scripts: &'a [&'a [ScriptStep]],
+}
+
+impl<'a> OpenWorld<Script, Cells> for Scripts<'a> {
+    ghost opened = { λ s. scripts_world (map (λ steps. steps.now) s.scripts.now) };
+
+    ghost suits = { λ s. length (map (λ steps. steps.now) s.scripts.now) ≤ 16 };
+
+    fn open(&self, alloc: Global) -> Result<World<Script, Cells>, NoMemory> {
+        open_scripts(alloc, self.scripts, [0, 0, 0])
+    }
+
+    ghost opening = { λ s few. scripts_open (map (λ steps. steps.now) s.scripts.now) few };
+}
+
+/// Thread 0 reads A and adds 2 to B, thread 1 adds 5 to A and reads B, thread 2 reads A and B.
+const SCRIPTS: [[ScriptStep; 2]; 3] = [
+    [
+        ScriptStep::Make(CellOp::Read(Cell::A)),
+        ScriptStep::Make(CellOp::Add(Cell::B, 2)),
+    ],
+    [
+        ScriptStep::Make(CellOp::Add(Cell::A, 5)),
+        ScriptStep::Make(CellOp::Read(Cell::B)),
+    ],
+    [
+        ScriptStep::Make(CellOp::Read(Cell::A)),
+        ScriptStep::Make(CellOp::Read(Cell::B)),
+    ],
+];
+
+// Reads of A and B at versions 0 and 1, and additions to them behind no read, one or two.
+const READ_A_0: Option<Option<Found>> = Some(Some(Found::Read {
+    object: 0,
+    version: 0,
+}));
+
+const READ_A_1: Option<Option<Found>> = Some(Some(Found::Read {
+    object: 0,
+    version: 1,
+}));
+
+const ADD_A_0: Option<Option<Found>> = Some(Some(Found::Write {
+    object: 0,
+    version: 0,
+    reads: 0,
+}));
+
+const ADD_A_1: Option<Option<Found>> = Some(Some(Found::Write {
+    object: 0,
+    version: 0,
+    reads: 1,
+}));
+
+const ADD_A_2: Option<Option<Found>> = Some(Some(Found::Write {
+    object: 0,
+    version: 0,
+    reads: 2,
+}));
+
+const READ_B_0: Option<Option<Found>> = Some(Some(Found::Read {
+    object: 1,
+    version: 0,
+}));
+
+const READ_B_1: Option<Option<Found>> = Some(Some(Found::Read {
+    object: 1,
+    version: 1,
+}));
+
+const ADD_B_0: Option<Option<Found>> = Some(Some(Found::Write {
+    object: 1,
+    version: 0,
+    reads: 0,
+}));
+
+const ADD_B_1: Option<Option<Found>> = Some(Some(Found::Write {
+    object: 1,
+    version: 0,
+    reads: 1,
+}));
+
+const ADD_B_2: Option<Option<Found>> = Some(Some(Found::Write {
+    object: 1,
+    version: 0,
+    reads: 2,
+}));
+
+/// The log that runs of these schedules have, and the answers' sums.
+#[derive(Clone, Copy)]
+struct Row {
+    accesses: Accesses,
+    sums: [u64; 3],
+}
+
+const FIRST: Accesses = [
+    [READ_A_0, ADD_B_0],
+    [ADD_A_1, READ_B_1],
+    [READ_A_1, READ_B_1],
+];
+
+const SECOND: Accesses = [
+    [READ_A_0, ADD_B_0],
+    [ADD_A_2, READ_B_1],
+    [READ_A_0, READ_B_1],
+];
+
+/// 0 0 1 1 2 2 and 0 1 2 0 1 2; 0 0 2 2 1 1 and 0 2 1 0 2 1; 1 1 0 0 2 2 and 1 0 2 1 0 2; 1 1 2 2 0 0 and 1 2 0 1 2 0;
+/// 2 2 0 0 1 1 and 2 0 1 2 0 1; 2 2 1 1 0 0 and 2 1 0 2 1 0.
+const ROWS: [Row; 6] = [
+    Row {
+        accesses: FIRST,
+        sums: [0, 2, 7],
+    },
+    Row {
+        accesses: SECOND,
+        sums: [0, 2, 2],
+    },
+    Row {
+        accesses: [
+            [READ_A_1, ADD_B_1],
+            [ADD_A_0, READ_B_0],
+            [READ_A_1, READ_B_1],
+        ],
+        sums: [5, 0, 7],
+    },
+    Row {
+        accesses: [
+            [READ_A_1, ADD_B_2],
+            [ADD_A_0, READ_B_0],
+            [READ_A_1, READ_B_0],
+        ],
+        sums: [5, 0, 5],
+    },
+    Row {
+        accesses: [
+            [READ_A_0, ADD_B_1],
+            [ADD_A_2, READ_B_1],
+            [READ_A_0, READ_B_0],
+        ],
+        sums: [0, 2, 0],
+    },
+    Row {
+        accesses: [
+            [READ_A_1, ADD_B_2],
+            [ADD_A_1, READ_B_0],
+            [READ_A_0, READ_B_0],
+        ],
+        sums: [5, 0, 0],
+    },
+];
+
+fn log_of(alloc: Global, row: &Row) -> ClaimedLog {
+    let [first, second, third] = row.sums;
+    ClaimedLog {
+        alloc,
+        accesses: row.accesses,
+        sums: [Some(first), Some(second), Some(third)],
+    }
+}
+
+/// Each log is replayed by three orders, one of which names threads that are not there.
+#[test]
+fn recorded_logs_are_replayed(rt: HostRuntime) -> Result<(), Fail> {
+    let alloc = rt.alloc();
+    let scripts = [&SCRIPTS[0][..], &SCRIPTS[1][..], &SCRIPTS[2][..]];
+    let opens = Scripts { scripts: &scripts };
+    let mut memory = Vec::new(alloc);
+    for cell in [5u64, 2, 0] {
+        memory.extend_from_slice(&cell.to_le_bytes())?;
+    }
+    for row in ROWS {
+        let log = log_of(alloc, &row);
+        for order in [[0, 1, 2, 0, 1, 2], [2, 1, 0, 2, 1, 0], [7, 3, 0, 99, 1, 2]] {
+            let ended = replay(alloc, &opens, &log, &order)?;
+            assert_eq!(rt; ended.memory(), memory.as_slice());
+            assert_eq!(rt; ended.outcomes().len(), 3);
+            for (outcome, sum) in ended.outcomes().iter().zip(row.sums.iter()) {
+                assert_eq!(rt; *outcome, Outcome::Done(Some(Value::I64(*sum))));
+            }
+        }
+    }
+    Ok(())
+}
+
+/// One place of the first log claimed otherwise, the sums with which threads end, the first turn, and the refusal.
+#[derive(Clone, Copy)]
+struct Fault {
+    thread: usize,
+    place: usize,
+    claim: Option<Option<Found>>,
+    sums: [Option<u64>; 3],
+    order: [u32; 1],
+    fault: ReplayFault,
+}
+
+/// An entry that is missing, that clashes, that is of another access, and that waits for a read that never comes; ends that
+/// are not known, by two orders; and an end with another sum.
+const FAULTS: [Fault; 7] = [
+    Fault {
+        thread: 1,
+        place: 1,
+        claim: None,
+        sums: [Some(0), Some(2), Some(7)],
+        order: [0],
+        fault: ReplayFault::Missing {
+            thread: 1,
+            place: 1,
+        },
+    },
+    Fault {
+        thread: 0,
+        place: 0,
+        claim: Some(None),
+        sums: [Some(0), Some(2), Some(7)],
+        order: [2],
+        fault: ReplayFault::Clash {
+            thread: 0,
+            place: 0,
+        },
+    },
+    Fault {
+        thread: 1,
+        place: 0,
+        claim: READ_A_0,
+        sums: [Some(0), Some(2), Some(7)],
+        order: [1],
+        fault: ReplayFault::Diverged {
+            thread: 1,
+            place: 0,
+        },
+    },
+    Fault {
+        thread: 1,
+        place: 0,
+        claim: ADD_A_2,
+        sums: [Some(0), Some(2), Some(7)],
+        order: [0],
+        fault: ReplayFault::Stuck,
+    },
+    Fault {
+        thread: 0,
+        place: 0,
+        claim: READ_A_0,
+        sums: [None, None, None],
+        order: [1],
+        fault: ReplayFault::Missing {
+            thread: 1,
+            place: 0,
+        },
+    },
+    Fault {
+        thread: 0,
+        place: 0,
+        claim: READ_A_0,
+        sums: [None, None, None],
+        order: [0],
+        fault: ReplayFault::Missing {
+            thread: 0,
+            place: 0,
+        },
+    },
+    Fault {
+        thread: 0,
+        place: 0,
+        claim: READ_A_0,
+        sums: [Some(0), Some(3), Some(7)],
+        order: [0],
+        fault: ReplayFault::Diverged {
+            thread: 1,
+            place: 2,
+        },
+    },
+];
+
+#[test]
+fn replays_are_refused(rt: HostRuntime) -> Result<(), Fail> {
+    let alloc = rt.alloc();
+    let scripts = [&SCRIPTS[0][..], &SCRIPTS[1][..], &SCRIPTS[2][..]];
+    let opens = Scripts { scripts: &scripts };
+    for row in FAULTS {
+        let mut accesses = FIRST;
+        if row.thread < 3 && row.place < 2 {
+            accesses[row.thread][row.place] = row.claim;
+        }
+        let log = ClaimedLog {
+            alloc,
+            accesses,
+            sums: row.sums,
+        };
+        let answer = replay(alloc, &opens, &log, &row.order);
+        assert_eq!(rt; answer.err(), Some(row.fault));
+    }
+    Ok(())
+}
+
+/// Gates and turns at the opening world, by the second log without place 1 of thread 1 and with a clash at place 1 of
+/// thread 2.
+#[test]
+fn gates_and_turns(rt: HostRuntime) -> Result<(), Fail> {
+    let alloc = rt.alloc();
+    let scripts = [&SCRIPTS[0][..], &SCRIPTS[1][..], &SCRIPTS[2][..]];
+    let world = open_scripts(alloc, &scripts, [0, 0, 0])?;
+    let mut accesses = SECOND;
+    accesses[1][1] = None;
+    accesses[2][1] = Some(None);
+    let log = ClaimedLog {
+        alloc,
+        accesses,
+        sums: [Some(0), Some(2), Some(2)],
+    };
+    for (thread, place, want) in [
+        (0, 0, Gate::Open),
+        (1, 0, Gate::Shut),
+        (1, 1, Gate::Missing),
+        (2, 1, Gate::Clash),
+        (2, 2, Gate::Done),
+        (3, 0, Gate::Missing),
+    ] {
+        assert_eq!(rt; gate(&log, world.versions(), thread, place), want);
+    }
+    for (thread, want) in [
+        (0, Turn::Event(Input::Go)),
+        (1, Turn::Refused(Refusal::Shut)),
+        (3, Turn::Done),
+    ] {
+        assert_eq!(rt; turn_of(alloc, &world, &log, thread), want);
+    }
+    Ok(())
+}
+
+/// A replay turn by turn, by the second log: a shut gate refuses and changes nothing, a thread that is not there is done.
+#[test]
+fn turns_are_taken(rt: HostRuntime) -> Result<(), Fail> {
+    let alloc = rt.alloc();
+    let scripts = [&SCRIPTS[0][..], &SCRIPTS[1][..], &SCRIPTS[2][..]];
+    let opens = Scripts { scripts: &scripts };
+    let mut replay = Replay::new(alloc, opens, log_of(alloc, &ROWS[1]))?;
+    for (thread, want) in [
+        (1, Err(ReplayFault::Shut)),
+        (0, Ok(Turned::Event)),
+        (1, Err(ReplayFault::Shut)),
+        (2, Ok(Turned::Event)),
+        (3, Ok(Turned::Done)),
+    ] {
+        assert_eq!(rt; replay.turn(alloc, thread), want);
+    }
+    assert_eq!(rt; replay.world().places(1), Some(0));
+    assert_eq!(rt; replay.world().places(2), Some(1));
+    Ok(())
+}

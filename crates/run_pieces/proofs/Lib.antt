@@ -1,0 +1,7 @@
+pub mod Parts
+pub mod Counting
+pub mod Joining
+pub mod Cuts
+pub mod Rules
+pub mod Loops
+pub mod Keeping

@@ -1,0 +1,5 @@
+pub mod Joined
+pub mod PieceOf
+pub mod Cut
+pub mod Keeps
+pub mod Laws

@@ -1,0 +1,7 @@
+//! The report of a run's end.
+#![tactic(auto)]
+
+mod row;
+mod text;
+
+pub use text::report;

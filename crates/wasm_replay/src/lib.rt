@@ -1,0 +1,8 @@
+//! Replay of the logs of WebAssembly runs.
+#![tactic(auto)]
+
+mod gathered;
+mod opener;
+mod replaying;
+
+pub use replaying::{WasmReplayFault, replay_gathered};

@@ -1,0 +1,34 @@
+//! A module and a plan, as what opens their world.
+
+use event_core::World;
+use integer_machine::ThreadState;
+use replay_gate::OpenWorld;
+use std::alloc::Global;
+use thread_plan::Plan;
+use validator::Valid;
+use waiter_queues::SharedSpace;
+use wasm_types::{NoMemory, Profile};
+use wasm_world::open_world;
+
+/// A module, a plan of it, and the profile of their runs.
+#[derive(Drop)]
+pub(crate) struct Opener<'a> {
+    pub(crate) valid: &'a Valid,
+    pub(crate) plan: &'a Plan,
+    pub(crate) profile: Profile,
+}
+
+impl<'a> OpenWorld<ThreadState<'a>, SharedSpace> for Opener<'a> {
+    ghost use Rattle.wasm_replay.specs.Replays.{opened_world, Suits};
+    ghost use Rattle.wasm_replay.specs.Opens.{opens};
+
+    ghost opened = { λ o. opened_world o.valid.now o.plan.now o.profile };
+
+    ghost suits = { λ o. Suits o.valid.now o.plan.now o.profile };
+
+    fn open(&self, alloc: Global) -> Result<World<ThreadState<'a>, SharedSpace>, NoMemory> {
+        open_world(alloc, self.valid, self.plan, self.profile)
+    }
+
+    ghost opening = { λ o suits. opens o.valid.now o.plan.now o.profile suits };
+}
