@@ -30,6 +30,7 @@ bench: $(PROGRAM) $(STEPS) $(ACCESSES) $(DECODE) $(MACHINE)
 	python3 bench/accesses.py $(ACCESSES)
 	-python3 bench/decode.py $(DECODE)
 	-python3 bench/machine.py $(MACHINE)
+	python3 bench/record.py $(PROGRAM) $(MACHINE)
 
 $(STEPS): crates.txt $(wildcard crates/*/src/*.rt crates/*/specs/*.antt)
 	cd crates/steps_bench && rt run -- parts 0 >/dev/null

@@ -3,6 +3,10 @@
 #![tactic(auto)]
 
 #[cfg(test)]
+mod breaks;
+#[cfg(test)]
+mod logs;
+#[cfg(test)]
 mod recordings;
 #[cfg(test)]
 mod replays;

@@ -1,5 +1,6 @@
 //! Recordings of three scripts by twelve schedules; what they must give was computed by a program of its own.
 
+use crate::logs::SCRIPTS;
 use event_core::{Input, Pick, StepFault};
 use recorder::record;
 use scripted::{Cell, CellOp, ScriptStep, open_scripts};
@@ -135,22 +136,6 @@ static ROWS: [Row; 12] = [
             "access r0@0, access r1@0",
         ],
     },
-];
-
-/// Threads 0, 1 and 2.
-const SCRIPTS: [[ScriptStep; 2]; 3] = [
-    [
-        ScriptStep::Make(CellOp::Read(Cell::A)),
-        ScriptStep::Make(CellOp::Add(Cell::B, 2)),
-    ],
-    [
-        ScriptStep::Make(CellOp::Add(Cell::A, 5)),
-        ScriptStep::Make(CellOp::Read(Cell::B)),
-    ],
-    [
-        ScriptStep::Make(CellOp::Read(Cell::A)),
-        ScriptStep::Make(CellOp::Read(Cell::B)),
-    ],
 ];
 
 #[test]

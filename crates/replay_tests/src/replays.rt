@@ -1,95 +1,14 @@
 //! Replays of three scripts. What they must give was computed by a program of its own, or by hand.
 
-ghost use Rattle.std.specs.Prelude.{◌≡◌, ◌≤◌, length, map};
-ghost use Rattle.replay_tests.specs.Claimed.{claimed, few, scripts_world, scripts_open};
-
-use event_core::{Input, World};
-use join_laws::Flat;
-use log_pieces::End;
-use replay_gate::{Gate, OpenWorld, ReadLog, Replay, ReplayFault, Turned, gate, replay, turn_of};
+use crate::logs::{Accesses, ClaimedLog, SCRIPTS, Scripts};
+use event_core::Input;
+use replay_gate::{Gate, Replay, ReplayFault, Turned, gate, replay, turn_of};
 use replay_laws::{Refusal, Turn};
-use rw_objects::{Entry, Few, Found, Kind};
-use scripted::{Cell, CellOp, Cells, Script, ScriptStep, open_scripts};
+use rw_objects::Found;
+use scripted::open_scripts;
 use std::alloc::Global;
 use std::test::Fail;
-use wasm_types::{NoMemory, Outcome, Value};
-
-/// What is claimed of two places of each of three threads.
-type Accesses = [[Option<Option<Found>>; 2]; 3];
-
-/// A log of three threads. At each of two places nothing is claimed, or a clash, or an access of one object; a thread
-/// ends with a sum behind two events, if its end is known.
-#[derive(Drop)]
-struct ClaimedLog {
-    alloc: Global,
-    accesses: Accesses,
-    sums: [Option<u64>; 3],
-}
-
-impl ReadLog for ClaimedLog {
-    ghost log = { λ c. claimed c.accesses c.sums };
-
-    fn entry(&self, thread: u32, place: u32) -> Option<Flat<Entry>> {
-        let Some(row) = self.accesses.get(thread as usize) else {
-            return None;
-        };
-        match row.get(place as usize) {
-            None | Some(None) => None,
-            Some(Some(None)) => Some(Flat::Clash),
-            Some(Some(Some(found))) => Some(Flat::Known(Entry {
-                kind: Kind::Access,
-                found: Few::one(self.alloc, *found),
-            })),
-        }
-    }
-
-    fn end(&self, thread: u32) -> Option<Flat<End>> {
-        match self.sums.get(thread as usize) {
-            None | Some(None) => None,
-            Some(Some(sum)) => Some(Flat::Known(End {
-                steps: 2,
-                places: 2,
-                outcome: Outcome::Done(Some(Value::I64(*sum))),
-            })),
-        }
-    }
-
-    ghost limits = { λ c. few c.accesses c.sums };
-}
-
-/// Scripts over cells that hold 0.
-#[derive(Drop)]
-struct Scripts<'a> {
-    scripts: &'a [&'a [ScriptStep]],
-}
-
-impl<'a> OpenWorld<Script, Cells> for Scripts<'a> {
-    ghost opened = { λ s. scripts_world (map (λ steps. steps.now) s.scripts.now) };
-
-    ghost suits = { λ s. length (map (λ steps. steps.now) s.scripts.now) ≤ 16 };
-
-    fn open(&self, alloc: Global) -> Result<World<Script, Cells>, NoMemory> {
-        open_scripts(alloc, self.scripts, [0, 0, 0])
-    }
-
-    ghost opening = { λ s few. scripts_open (map (λ steps. steps.now) s.scripts.now) few };
-}
-
-/// Thread 0 reads A and adds 2 to B, thread 1 adds 5 to A and reads B, thread 2 reads A and B.
-const SCRIPTS: [[ScriptStep; 2]; 3] = [
-    [
-        ScriptStep::Make(CellOp::Read(Cell::A)),
-        ScriptStep::Make(CellOp::Add(Cell::B, 2)),
-    ],
-    [
-        ScriptStep::Make(CellOp::Add(Cell::A, 5)),
-        ScriptStep::Make(CellOp::Read(Cell::B)),
-    ],
-    [
-        ScriptStep::Make(CellOp::Read(Cell::A)),
-        ScriptStep::Make(CellOp::Read(Cell::B)),
-    ],
-];
+use wasm_types::{Outcome, Value};
 
 // Reads of A and B at versions 0 and 1, and additions to them behind no read, one or two.
 const READ_A_0: Option<Option<Found>> = Some(Some(Found::Read {

@@ -66,8 +66,8 @@ module _ (m : Module) (plan : PlanValue) (log : GatheredLog) where
     pub ordered : (w : WasmWorld) → Opens w → (f ≡ fault.NoMemory) ⊎ IsOrderedFault shared_memory thread_code (gathered_log log) w order f
     pub wanting : (w : WasmWorld) → Opens w → IsWantOfMemory shared_memory thread_code (gathered_log log) w f
 
-  -- another run goes before another profile, and that before a fault of the replay
+  -- another run goes before an old profile, and that before a fault of the replay
   abbrev pub IsRefusal : List ℕ → WasmReplayFault → Type 0
   IsRefusal order refusal.OtherRun = is_of m plan (key_of log) ≡ false
-  IsRefusal order refusal.OtherProfile = (is_of m plan (key_of log) ≡ true) × (fits_profile m (key_of log).profile ≡ false)
+  IsRefusal order refusal.OldProfile = (is_of m plan (key_of log) ≡ true) × (fits_profile m (key_of log).profile ≡ false)
   IsRefusal order (refusal.Replay f) = (is_of m plan (key_of log) ≡ true) × (fits_profile m (key_of log).profile ≡ true) × IsReplayFault order f

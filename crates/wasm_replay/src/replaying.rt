@@ -24,7 +24,7 @@ pub enum WasmReplayFault {
     OtherRun,
     /// Refusal 58: the module has no runs of the log's profile.
     #[error("the module has no runs of the log's profile")]
-    OtherProfile,
+    OldProfile,
     /// Refusals 52 to 57: the replay's own.
     #[error("{0}")]
     Replay(ReplayFault),
@@ -75,7 +75,7 @@ pub fn replay_gathered(
         return Err(WasmReplayFault::OtherRun);
     }
     if !valid.fits(&profile) {
-        return Err(WasmReplayFault::OtherProfile);
+        return Err(WasmReplayFault::OldProfile);
     }
     has_small_blocks(&profile);
     let opener = Opener {

@@ -1,19 +1,10 @@
-//! `wreplay` records runs of threaded WebAssembly modules and replays them; so far it gathers the pieces of a recorded
-//! run and lists the log that they claim, and checks modules.
+//! `wreplay` records runs of threaded WebAssembly modules by schedules, gathers the pieces of a recorded run and lists the
+//! log that they claim, replays it, and checks modules.
 #![tactic(auto)]
 
-mod check;
-mod command;
-mod fault;
-mod files;
-mod run;
-mod standard;
-#[cfg(test)]
-mod tests;
-
-use crate::files::{FileFault, Files};
-use crate::run::{refuse_words, run};
-use crate::standard::{StandardSink, StandardSource};
+use commands::{FileFault, Files};
+use program::{refuse_words, run};
+use standard_streams::{StandardSink, StandardSource};
 use std::alloc::Global;
 use std::io::{self, ErrorKind};
 use std::process::ExitCode;

@@ -1,0 +1,210 @@
+"""Writes the commands of crates/worked_rows, the files that they read, and what they must write: by the model, and for the
+recordings of profile 1 by what was recorded apart."""
+import os, struct, sys
+from model import Module, World, digest
+
+TARGET = sys.argv[1]
+DATA = os.path.join(TARGET, 'data')
+os.makedirs(DATA, exist_ok=True)
+script, expected = [], []
+
+def keep(name, content):
+    with open(os.path.join(DATA, name), 'wb') as file:
+        file.write(content if isinstance(content, bytes) else content.encode())
+    return name
+
+def command(line, output='', errors='', status=0):
+    script.append(line)
+    expected.append('$ wreplay ' + line + '\n' + output + errors + ('exit %d\n' % status if status else ''))
+
+def refused(line, text): command(line, '', 'refused %s\n' % text, 1)
+
+# ---- one recorded run, its pieces, its listing and its replays
+
+def run_of(name, module, plan, schedule, block=64, steps=1000000):
+    world = World(module, plan, block)
+    world.run(schedule, steps)
+    return world
+
+def recorded(name, module_file, module, plan_file, plan, schedule, block=64, steps=None, size=None, orders=('',), run=None):
+    """Records, reports, gathers and replays one schedule; answers the model's run."""
+    keep(name + '.schedule', schedule)
+    world = run_of(name, module, plan, schedule, block, 1000000 if steps is None else steps)
+    d, number = digest(module, plan), 0 if run is None else run
+    options = ' --schedule %s.schedule' % name
+    if run is not None: options += ' --run %d' % run
+    if steps is not None: options += ' --steps %d' % steps
+    if block != 64: options += ' --block %d' % block
+    files = '%s %s' % (module_file, plan_file)
+    command('record %s%s --report' % (files, options), world.report())
+    cut = '' if size is None else ' --size %d' % size
+    script.append('record %s%s%s > %s.pieces' % (files, options, cut, name))
+    expected.append('$ wreplay ' + script[-1] + '\n')
+    command('gather < %s.pieces' % name, world.listing(d, number))
+    for order in orders:
+        command('replay %s %s.pieces%s' % (files, name, ' --order ' + order if order else ''), world.report())
+    return world
+
+# ---- modules and plans
+
+def plan_of(*threads): return ('wreplay plan 1\n' + ''.join('thread %s\n' % t for t in threads)).encode()
+add = [('i32.const', 0), ('i32.const', 1), 'i32.atomic.rmw.add']
+COUNTER = Module([('w', [], 'i32', add + ['drop'] + add + ['end'])])
+TWO = plan_of('w', 'w')
+keep('counter.wasm', COUNTER.bytes); keep('counter.plan', TWO)
+def load(a): return [('i32.const', a), 'i32.load', 'end']
+def wait(a, expected_value, timeout): return [('i32.const', a), ('i32.const', expected_value), ('i64.const', timeout), 'wait32', 'end']
+
+ORDERS = ('', '1,1,0', '0,1,0,1,0,1,7')
+
+# two threads add 1 twice: four schedules
+worlds = {}
+for name, schedule in (('first', b'go 0 8\ngo 1 8\n'), ('second', b'go 1 8\ngo 0 8\n'), ('third', b'go 0 3\ngo 1 8\ngo 0 5\n'), ('fourth', b'go 0 3\ngo 1 3\ngo 0 5\ngo 1 5\n')):
+    worlds[name] = recorded(name, 'counter.wasm', COUNTER, 'counter.plan', TWO, schedule, size=1 if name == 'first' else 3, orders=ORDERS, run=1)
+FIRST, D = worlds['first'], digest(COUNTER, TWO)
+command('record counter.wasm counter.plan --schedule first.schedule --size 1', FIRST.lines(D, 0, 1))
+command('record counter.wasm counter.plan --schedule first.schedule --size 3', FIRST.lines(D, 0, 3))
+command('record counter.wasm counter.plan --schedule first.schedule --timeouts now', FIRST.lines(D, 0, 4096))
+recorded('bounded', 'counter.wasm', COUNTER, 'counter.plan', TWO, b'go 0 8\ngo 1 8\n', steps=3)
+recorded('nothing', 'counter.wasm', COUNTER, 'counter.plan', TWO, b'')
+recorded('over', 'counter.wasm', COUNTER, 'counter.plan', TWO, b'out 0\ngo 5 4\ngo 0 8\ngo 0 3\ngo 1 8\n')
+
+# two readers and a writer
+SHARED = Module([('r', [], 'i32', load(0)), ('s', [], None, [('i32.const', 0), ('i32.const', 7), 'i32.store', 'end'])])
+keep('readers.wasm', SHARED.bytes); READERS = plan_of('r', 'r', 's'); keep('readers.plan', READERS)
+recorded('readers', 'readers.wasm', SHARED, 'readers.plan', READERS, b'go 0 3\ngo 1 3\ngo 2 4\n', orders=('', '2,2,2', '2,1,0,2,1,0,2,1,0'))
+
+# a store over the border of two blocks, and one past the memory
+def store64(a): return [('i32.const', a), ('i64.const', 0x0807060504030201), 'i64.store', 'end']
+BORDER = Module([('f', [], None, store64(60)), ('g', [], None, store64(65532)), ('h', [], None, store64(4092))])
+keep('border.wasm', BORDER.bytes)
+for name, f in (('border', 'f'), ('past', 'g'), ('page', 'h')):
+    keep(name + '.plan', plan_of(f))
+    for block in (64, 4096):
+        recorded('%s%d' % (name, block), 'border.wasm', BORDER, name + '.plan', plan_of(f), b'go 0 9\n', block=block)
+
+# a memory that grows while another thread reads past its first page
+GROW = Module([('g', [], 'i32', [('i32.const', 1), 'memory.grow', 'end']), ('r', [], 'i32', load(65536))], (1, 2, True))
+keep('grow.wasm', GROW.bytes); GROWS = plan_of('g', 'r'); keep('grow.plan', GROWS)
+recorded('reader', 'grow.wasm', GROW, 'grow.plan', GROWS, b'go 1 3\ngo 0 3\n', orders=('', '0,0,0', '1,1'))
+recorded('grower', 'grow.wasm', GROW, 'grow.plan', GROWS, b'go 0 3\ngo 1 3\n', orders=('', '1,1,1', '0,1,0,1'))
+def grow_by(n): return [('i32.const', n), 'memory.grow']
+FAR = Module([('f', [], 'i32', grow_by(15) + ['drop'] + grow_by(1) + ['drop'] + grow_by(84) + ['drop'] + grow_by(83) + ['end']),
+              ('s', [], 'i32', [('i32.const', 4)] + grow_by(15) + ['i32.store', ('i32.const', 8)] + grow_by(300) + ['i32.store', 'memory.size', 'end'])], (1, 100, True))
+keep('far.wasm', FAR.bytes)
+for f in 'fs':
+    keep('far%s.plan' % f, plan_of(f)); recorded('far' + f, 'far.wasm', FAR, 'far%s.plan' % f, plan_of(f), b'go 0 99\n')
+
+# waiting: another value, for ever, woken in turn, out of time
+WAITS = Module([('other', [], 'i32', wait(0, 5, -1)), ('ever', [], 'i32', wait(0, 0, -1))])
+keep('waits.wasm', WAITS.bytes)
+for f in ('other', 'ever'):
+    keep(f + '.plan', plan_of(f)); recorded(f, 'waits.wasm', WAITS, f + '.plan', plan_of(f), b'go 0 9\n', orders=('', '0,0,0', '3'))
+notify = lambda n: [('i32.const', 0), ('i32.const', n), 'notify']
+FIVE = Module([('f', [], 'i32', wait(0, 0, -1)), ('g', [], 'i32', wait(4, 0, -1)), ('n', [], 'i32', notify(2) + [('i32.const', 10), 'i32.mul'] + notify(-1) + ['i32.add', 'end'])])
+keep('five.wasm', FIVE.bytes); FIVES = plan_of('f', 'f', 'f', 'g', 'n'); keep('five.plan', FIVES)
+FIVE_LINES = b'go 2 4\ngo 0 4\ngo 1 4\ngo 3 4\ngo 4 3\ngo 1 1\ngo 0 2\ngo 2 2\ngo 4 7\ngo 1 2\ngo 3 1\n'
+recorded('five', 'five.wasm', FIVE, 'five.plan', FIVES, FIVE_LINES, orders=('', '4,4,4,4,4,4,4,4', '4,3,2,1,0,4,3,2,1,0'))
+for name, timeout in (('limited', 1000), ('endless', -1)):
+    m = Module([('f', [], 'i32', wait(0, 0, timeout)), ('n', [], 'i32', notify(1) + ['end'])])
+    keep(name + '.wasm', m.bytes); keep(name + '.plan', plan_of('f', 'n'))
+    recorded(name + '1', name + '.wasm', m, name + '.plan', plan_of('f', 'n'), b'go 0 4\nout 0\ngo 1 4\ngo 0 1\n', orders=('', '1,1,1,1', '0,1,0,1'))
+    recorded(name + '2', name + '.wasm', m, name + '.plan', plan_of('f', 'n'), b'go 0 4\ngo 1 4\nout 0\ngo 0 2\n', orders=('', '1,1,1,1', '0,1,0,1'))
+
+# traps, and accesses that are narrower than their operands
+TRAPS = Module([('d', [], 'i32', [('i32.const', -2147483648), ('i32.const', -1), 'i32.div_s', 'end']), ('u', [], 'i32', [('i32.const', 1), 'i32.atomic.load', 'end'])])
+keep('traps.wasm', TRAPS.bytes); keep('traps.plan', plan_of('d', 'u'))
+recorded('traps', 'traps.wasm', TRAPS, 'traps.plan', plan_of('d', 'u'), b'go 0 9\ngo 1 9\n', orders=ORDERS)
+ALONE = Module([('f', [], 'i32', wait(0, 0, -1))], (1, 1, False))
+keep('alone.wasm', ALONE.bytes); keep('alone.plan', plan_of('f')); keep('alone2.plan', plan_of('f', 'f'))
+recorded('alone', 'alone.wasm', ALONE, 'alone.plan', plan_of('f'), b'go 0 9\n')
+def exchange(e): return [('i32.const', 0), ('i32.const', e), ('i32.const', 9), 'i32.atomic.rmw8.cmpxchg_u', 'end']
+EXCHANGE = Module([('f', [], 'i32', exchange(5)), ('g', [], 'i32', exchange(261))], data=((0, b'\5'),))
+keep('exchange.wasm', EXCHANGE.bytes)
+for f in 'fg':
+    keep('exchange%s.plan' % f, plan_of(f)); recorded('exchange' + f, 'exchange.wasm', EXCHANGE, 'exchange%s.plan' % f, plan_of(f), b'go 0 9\n')
+SIGNS = Module([('f', ['i32'], 'i32', [('local.get', 0), 'i32.extend8_s', 'end']), ('g', ['i64'], 'i64', [('local.get', 0), 'i64.extend32_s', 'end'])])
+keep('signs.wasm', SIGNS.bytes); SIGNED = plan_of('f 128', 'f 383', 'f -1', 'g 2147483648', 'g -9223372036854775808'); keep('signs.plan', SIGNED)
+recorded('signs', 'signs.wasm', SIGNS, 'signs.plan', SIGNED, b'go 0 9\ngo 1 9\ngo 2 9\ngo 3 9\ngo 4 9\n')
+
+# ---- refusals, in the order in which the files are read
+
+keep('bad.wasm', COUNTER.bytes[:-1]); keep('bad.plan', b'wreplay plan 1\nthread w 1\n'); keep('zeros.schedule', b'go 0 0\n'); keep('empty', b'')
+keep('late.schedule', b'go 0 8\nout 1\ngo 16 1\n')
+refused('record bad.wasm bad.plan --schedule zeros.schedule', '1 Refused 33')
+refused('record counter.wasm bad.plan --schedule zeros.schedule', '15 WrongArguments 2')
+refused('record counter.wasm counter.plan --schedule zeros.schedule', '18 BadSchedule 1')
+refused('record counter.wasm counter.plan --schedule late.schedule', '18 BadSchedule 3')
+refused('record counter.wasm counter.plan --schedule missing.schedule', '44 SourceFailed')
+refused('record missing.wasm missing.plan --schedule zeros.schedule', '44 SourceFailed')
+refused('record alone.wasm alone2.plan --schedule first.schedule', '16 NotShared')
+for size, text in ((0, '31 Empty'), (4097, '32 TooMany')):
+    refused('record counter.wasm counter.plan --schedule first.schedule --size %d' % size, text)
+    refused('record counter.wasm counter.plan --schedule first.schedule --size %d --report' % size, text)
+refused('replay bad.wasm bad.plan absent.pieces', '1 Refused 33')
+refused('replay counter.wasm bad.plan absent.pieces', '15 WrongArguments 2')
+refused('replay counter.wasm counter.plan absent.pieces', '44 SourceFailed')
+refused('replay readers.wasm readers.plan first.pieces', '51 OtherRun')
+refused('replay counter.wasm counter.plan empty', '53 Missing 0 0')
+refused('replay counter.wasm counter.plan first.schedule', '43 BadLine 1')
+
+# ---- logs with one change: each a piece more, or a thread's whole log in another form
+
+def piece(world, d, run, thread, first, entries, end=None, steps=None, outcome=None, profile=True):
+    b = (b'IRP\2' if profile else b'IRP\1') + d + struct.pack('<Q', run) + (bytes([world.block.bit_length() - 1]) if profile else b'')
+    b += bytes([thread]) + struct.pack('<IHB', first, len(entries), end is not None)
+    for kind, found in entries:
+        b += bytes([{'access': 0, 'woken': 1, 'timedout': 2}[kind], len(found)])
+        for x in found:
+            o, rest = x[1:].split('@')
+            b += struct.pack('<I', int(o)) + (b'\0' if x[0] == 'r' else b'\1') + b''.join(struct.pack('<Q', int(n)) for n in rest.split('/'))
+    if end is not None: b += struct.pack('<II', *end) + outcome
+    return b.hex() + '\n'
+w = [('access', ['w1@%d/0' % v]) for v in range(4)]
+ONE, THREE = b'\3\1\0\0\0', b'\3\3\0\0\0'
+def thread0(entries=w[:2], end=(8, 2), outcome=ONE): return piece(FIRST, D, 0, 0, 0, entries, end, None, outcome)
+def thread1(entries=w[2:], end=(8, 2), outcome=THREE): return piece(FIRST, D, 0, 1, 0, entries, end, None, outcome)
+assert thread0() + thread1() == FIRST.lines(D, 0, 4096)
+def changed(name, text, answer, order=''):
+    keep(name + '.pieces', text); refused('replay counter.wasm counter.plan %s.pieces%s' % (name, order), answer)
+changed('missing', thread0() + piece(FIRST, D, 0, 1, 0, w[2:3]), '53 Missing 1 0')
+changed('hole', thread0() + piece(FIRST, D, 0, 1, 0, w[2:3]) + piece(FIRST, D, 0, 1, 2, [], (8, 2), None, THREE), '53 Missing 1 1')
+changed('clash', thread0() + thread1() + piece(FIRST, D, 0, 0, 0, [('access', ['w1@5/0'])]), '52 Clash 0 0')
+changed('version', thread0() + thread1([w[2], ('access', ['w1@9/0'])]), '57 Stuck')
+changed('object', thread0() + thread1([w[2], ('access', ['w3@0/0'])]), '55 Diverged 1 1')
+changed('kind', thread0([('woken', ['w1@0/0']), w[1]]) + thread1(), '55 Diverged 0 0')
+changed('longer', thread0(end=(9, 2)) + thread1(), '55 Diverged 0 2')
+changed('shorter', thread0(end=(7, 2)) + thread1(), '55 Diverged 0 2')
+changed('noend', thread0() + piece(FIRST, D, 0, 1, 0, w[2:]), '53 Missing 1 0')
+changed('twoends', thread0() + thread0(outcome=b'\3\2\0\0\0') + thread1(), '52 Clash 0 0')
+changed('otherrun', thread0() + piece(FIRST, D, 1, 1, 0, w[2:], (8, 2), None, THREE), '41 OtherRun 2')
+changed('otherorder', piece(FIRST, D, 0, 0, 0, w[:2]) + piece(FIRST, D, 0, 1, 0, w[2:]), '53 Missing 1 0', ' --order 1')
+# what stands past an end, and what is of a thread that the plan lacks, changes nothing
+keep('stray.pieces', thread0() + thread1() + piece(FIRST, D, 0, 7, 0, w[:1], (3, 1), None, b'\2'))
+command('replay counter.wasm counter.plan stray.pieces --order 7,7,1', FIRST.report())
+keep('pastend.pieces', thread0() + thread1() + piece(FIRST, D, 0, 0, 2, w[:1]) + piece(FIRST, D, 0, 0, 2, w[1:2]))
+command('replay counter.wasm counter.plan pastend.pieces', FIRST.report())
+# a log of profile 1, of this module, and of one that profile 1 does not fit
+keep('old.pieces', piece(FIRST, D, 1, 0, 0, w[:2], (8, 2), None, ONE, False) + piece(FIRST, D, 1, 1, 0, w[2:], (8, 2), None, THREE, False))
+command('replay counter.wasm counter.plan old.pieces', FIRST.report())
+LARGE = Module([('w', [], 'i32', add + ['drop'] + add + ['end'])], (17, 17, True))
+keep('large.wasm', LARGE.bytes)
+keep('large.pieces', piece(FIRST, digest(LARGE, TWO), 1, 0, 0, w[:2], (8, 2), None, ONE, False))
+refused('replay large.wasm counter.plan large.pieces', '58 OldProfile')
+# the pieces of the missing place, found
+script.append('record counter.wasm counter.plan --schedule first.schedule > whole.pieces'); expected.append('$ wreplay ' + script[-1] + '\n')
+command('replay counter.wasm counter.plan whole.pieces', FIRST.report())
+
+# recordings of profile 1 that were made apart: their listings, and their replays by three orders
+ROWS = os.path.join(os.path.dirname(os.path.abspath(__file__)), 'profile1')
+def row(name, kind):
+    with open(os.path.join(ROWS, name + '.' + kind), 'rb') as file: return file.read()
+for name in sorted({file.split('.')[0] for file in os.listdir(ROWS)}):
+    for kind in ('wasm', 'plan', 'pieces'): keep('%s.%s' % (name, kind), row(name, kind))
+    command('gather < %s.pieces' % name, row(name, 'listing').decode())
+    for order in ORDERS:
+        command('replay %s.wasm %s.plan %s.pieces%s' % (name, name, name, ' --order ' + order if order else ''), row(name, 'report').decode())
+
+keep('commands', '\n'.join(script) + '\n')
+with open(os.path.join(TARGET, 'stdout'), 'w') as file: file.write(''.join(expected))
+print(len(script), 'commands', len(os.listdir(DATA)), 'files', len(''.join(expected)), 'bytes')

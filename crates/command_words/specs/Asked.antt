@@ -1,0 +1,89 @@
+-- What command lines ask for.
+use Rattle.std.specs.Prelude.{◌≡◌, ◌⊎◌, ◌≤◌, ◌^◌, ◌||◌, ℕ, Bool, true, false, List, [], Option, Some, None, codes}
+use Rattle.std.specs.Str.{bytes_eq}
+use Rattle.clap.specs.Words.{Text, Row, first_of, subcommand_of, fault_of, IsAmong}
+use Rattle.clap.specs.declared.error.kind.ErrorKind.TheVariants as kind
+use Rattle.command_words.specs.Words.{number_up_to, order_in}
+use Rattle.command_words.specs.Commands.{program}
+use Rattle.command_words.specs.declared.requests.Request.{Request}
+use Rattle.command_words.specs.declared.requests.Request.TheVariants.{Gather, Check, Record, Replay}
+use Rattle.command_words.specs.declared.requests.RecordRequest.{RecordRequest}
+use Rattle.command_words.specs.declared.requests.ReplayRequest.{ReplayRequest}
+use Rattle.command_words.specs.declared.command.Asked.{Asked}
+use Rattle.command_words.specs.declared.command.Asked.TheVariants as asked
+
+-- the number of an option, at most so large
+abbrev pub number_of : ℕ → Option Text → Option ℕ
+number_of most None = None
+number_of most (Some text) = number_up_to most text
+
+-- no order is an empty one
+abbrev pub order_of : Option Text → Option (List ℕ)
+order_of None = Some []
+order_of (Some text) = order_in text
+
+abbrev pub is_text : Text → Option Text → Bool
+is_text expected None = false
+is_text expected (Some text) = bytes_eq text expected
+
+-- the number is the size of a block, two to that power
+abbrev pub IsBlockOf : Option ℕ → ℕ → Type 0
+IsBlockOf size power = (size ≡ Some (2 ^ power)) × (6 ≤ power) × (power ≤ 12)
+
+-- the values that a parser found ask for this recording
+pub record IsRecordAsked (rows : List Row) (r : RecordRequest) : Type 0 where
+  pub has_module : first_of (codes "MODULE") rows ≡ Some r.«module».now
+  pub has_plan : first_of (codes "PLAN") rows ≡ Some r.plan.now
+  pub has_schedule : first_of (codes "schedule") rows ≡ Some r.schedule.now
+  pub has_run : number_of 18446744073709551615 (first_of (codes "run") rows) ≡ Some r.run
+  pub has_steps : number_of 1000000000 (first_of (codes "steps") rows) ≡ Some r.steps
+  pub has_size : number_of 4294967295 (first_of (codes "size") rows) ≡ Some r.size
+  pub has_block : IsBlockOf (number_of 4294967295 (first_of (codes "block") rows)) r.block
+  pub has_timeouts : (is_text (codes "never") (first_of (codes "timeouts") rows) || is_text (codes "now") (first_of (codes "timeouts") rows)) ≡ true
+  pub has_report : r.report ≡ is_text (codes "true") (first_of (codes "report") rows)
+
+-- the values that a parser found ask for this replay
+pub record IsReplayAsked (rows : List Row) (r : ReplayRequest) : Type 0 where
+  pub has_module : first_of (codes "MODULE") rows ≡ Some r.«module».now
+  pub has_plan : first_of (codes "PLAN") rows ≡ Some r.plan.now
+  pub has_pieces : first_of (codes "PIECES") rows ≡ Some r.pieces.now
+  pub has_order : order_of (first_of (codes "order") rows) ≡ Some r.order.items
+
+-- a command and its values ask for this
+abbrev pub IsAsked : Text → List Row → Request → Type 0
+IsAsked name rows Gather = name ≡ codes "gather"
+IsAsked name rows (Check path) = (name ≡ codes "check") × (first_of (codes "MODULE") rows ≡ Some path.now)
+IsAsked name rows (Record r) = (name ≡ codes "record") × IsRecordAsked rows r
+IsAsked name rows (Replay r) = (name ≡ codes "replay") × IsReplayAsked rows r
+
+-- the same of a command and its values that a parser found
+abbrev pub IsFoundBy : Option (Text × List Row) → Request → Type 0
+IsFoundBy None request = ⊥
+IsFoundBy (Some p) request = IsAsked p.0 p.1 request
+
+-- the words ask for this: the parser takes them, and finds this command and these values
+pub record Asks (words : List Text) (request : Request) : Type 0 where
+  pub taken : fault_of program words ≡ []
+  pub found : IsFoundBy (subcommand_of program words) request
+
+-- the words ask for nothing that there is
+abbrev pub AsksNothing : List Text → Type 0
+AsksNothing words = (request : Request) → Asks words request → ⊥
+
+-- the words ask for help or for the version
+abbrev pub AsksForText : List Text → Type 0
+AsksForText words = IsAmong kind.DisplayHelp (fault_of program words) ⊎ IsAmong kind.DisplayVersion (fault_of program words)
+
+-- what is answered says what the words ask for
+abbrev pub IsRequested : List Text → Asked → Type 0
+IsRequested words (asked.Request request) = Asks words request
+IsRequested words (asked.Text text) = AsksNothing words × AsksForText words
+IsRequested words (asked.Unknown text) = AsksNothing words
+IsRequested words (asked.Wrong text) = AsksNothing words
+
+-- what is answered says what was found
+abbrev pub IsFound : Option (Text × List Row) → Asked → Type 0
+IsFound found (asked.Request request) = IsFoundBy found request
+IsFound found (asked.Text text) = ⊥
+IsFound found (asked.Unknown text) = ⊥
+IsFound found (asked.Wrong text) = (request : Request) → IsFoundBy found request → ⊥

@@ -1,0 +1,48 @@
+-- The command lines that there are, as the parser has them.
+use Rattle.std.specs.Prelude.{codes, true, Some, [], ◌∷◌}
+use Rattle.clap.specs.Words.{App, Rule, Text, new_app, new_rule, with_rule, with_subcommand}
+use Rattle.clap.specs.declared.builder.action.ArgAction.TheVariants.{SetTrue}
+
+-- a file that has to be named
+abbrev pub file_rule : Text → Rule
+file_rule name = record (new_rule name) { required = true }
+
+-- `--NAME VALUE`, with a default
+abbrev pub default_rule : Text → Text → Rule
+default_rule name value = record (new_rule name) { long = Some name; value_names = 1; defaults = value ∷ [] }
+
+-- `--NAME VALUE`
+abbrev pub option_rule : Text → Rule
+option_rule name = record (new_rule name) { long = Some name; value_names = 1 }
+
+-- `--NAME`
+abbrev pub flag_rule : Text → Rule
+flag_rule name = record (new_rule name) { long = Some name; action = Some SetTrue }
+
+abbrev pub gather : App
+gather = new_app (codes "gather")
+
+abbrev pub check : App
+check = with_rule (new_app (codes "check")) (file_rule (codes "MODULE"))
+
+-- a command on a module and a plan
+abbrev pub on_program : App → App
+on_program a = with_rule (with_rule a (file_rule (codes "MODULE"))) (file_rule (codes "PLAN"))
+
+abbrev pub with_numbers : App → App
+with_numbers a = with_rule (with_rule (with_rule (with_rule a (default_rule (codes "run") (codes "0"))) (default_rule (codes "steps") (codes "1000000")))
+    (default_rule (codes "size") (codes "4096"))) (default_rule (codes "block") (codes "64"))
+
+abbrev pub recording : App
+recording = with_rule (with_rule (with_numbers (with_rule (on_program (new_app (codes "record"))) (record (option_rule (codes "schedule")) { required = true })))
+    (default_rule (codes "timeouts") (codes "never"))) (flag_rule (codes "report"))
+
+abbrev pub replaying : App
+replaying = with_rule (with_rule (on_program (new_app (codes "replay"))) (file_rule (codes "PIECES"))) (option_rule (codes "order"))
+
+-- the program before its commands, one of which is required
+abbrev pub above : App
+above = record { top = record (new_app (codes "wreplay")).top { has_version = true; subcommand_required = true }; subs = [] }
+
+abbrev pub program : App
+program = with_subcommand (with_subcommand (with_subcommand (with_subcommand above check.top) recording.top) replaying.top) gather.top

@@ -1,0 +1,27 @@
+-- Numbers on the command line.
+use Rattle.std.specs.Prelude.{ℕ, ◌&&◌, Bool, List, [], ◌∷◌, Option, Some, None, length, nat_lt, nat_le, if◌then◌else◌}
+use Rattle.std.specs.Char.{is_ascii_digit}
+use Rattle.std.specs.List.{list_all}
+use Rattle.std.specs.Str.Parse.{digits_value}
+use Rattle.text_lines.specs.Parts.{parts}
+
+-- decimal digits, one or more
+abbrev pub has_digits_alone : List ℕ → Bool
+has_digits_alone text = nat_lt 0 (length text) && list_all is_ascii_digit text
+
+-- the number that decimal digits alone write, if it is at most so large
+abbrev pub number_up_to : ℕ → List ℕ → Option ℕ
+number_up_to most text = if has_digits_alone text && nat_le (digits_value 10 text) most then Some (digits_value 10 text) else None
+
+abbrev pub in_front : Option ℕ → Option (List ℕ) → Option (List ℕ)
+in_front (Some thread) (Some threads) = Some (thread ∷ threads)
+in_front _ _ = None
+
+-- the numbers of threads
+abbrev pub threads_in : List (List ℕ) → Option (List ℕ)
+threads_in [] = Some []
+threads_in (part ∷ parts) = in_front (number_up_to 4294967295 part) (threads_in parts)
+
+-- the numbers that stand between commas, at most 1,000,000 of them
+abbrev pub order_in : List ℕ → Option (List ℕ)
+order_in text = if nat_le (length (parts 44 text)) 1000000 then threads_in (parts 44 text) else None

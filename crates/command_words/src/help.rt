@@ -1,0 +1,177 @@
+//! The texts of help.
+
+/// What the program does, and how runs are recorded and gathered.
+pub(crate) const LONG_ABOUT: &str = "\
+wreplay records a run of a threaded WebAssembly module, so that a fault that
+shows once can be replayed.
+
+A recorder logs, for each access of shared memory, only which version of each
+object it met, and writes the log in pieces: lines of hexadecimal digits. The
+pieces of one run may come from several machines, in any order, with repeats,
+and some may be lost. `wreplay gather` joins them into the one log that they
+claim, and `wreplay replay` makes the run again.";
+
+/// How the program ends.
+pub(crate) const STATUSES: &str = "\
+Exit status:
+  0  done
+  1  refused: standard error has one line, `refused`, a number, a name, and
+     perhaps numbers that say where
+  2  the command line was not understood
+
+Example:
+  wreplay record examples/lost.wasm examples/lost.plan \\
+      --schedule examples/lost.schedule > pieces.txt";
+
+/// What `gather` reads and writes.
+pub(crate) const GATHER_ABOUT: &str = "\
+Reads piece lines from standard input and writes the listing of their joined log
+to standard output. The order of the lines and repeats make no difference. The
+first line names the run.
+
+The listing has the run's key, then by rising thread its items by place and its
+end, then four counts:
+
+  run KEY:RUN
+  0.0 access w1@0/0      thread 0, place 0: a write of object 1, which had
+                         version 0 and no reads
+  0.1 clash              two pieces claim place 1 differently
+  0 end steps=8 places=2 i32 1
+  ends 1 missing 0 strays 0 clashes 1
+
+ends     threads whose end is known
+missing  places below a known end that no piece claims
+strays   items at or past a known end
+clashes  items and ends that two pieces claim differently
+
+A whole log has as many ends as the run has threads, and 0 in the other counts.";
+
+/// How `gather` refuses.
+pub(crate) const GATHER_REFUSALS: &str = "\
+Refusals (exit status 1):
+  refused 41 OtherRun N    line N is of another run than the lines before it
+  refused 42 NoMemory      the log does not fit into memory
+  refused 43 BadLine N     line N is no piece line
+  refused 44 SourceFailed  reading failed; nothing was written
+  refused 45 SinkFailed    writing failed; a beginning of the listing was
+                           written
+
+Example:
+  wreplay gather < examples/pieces.txt";
+
+/// What `check` reads and writes.
+pub(crate) const CHECK_ABOUT: &str = "\
+Reads a WebAssembly module and says whether it can be recorded: its bytes are of
+the integer profile, within the limits, and it is well typed. Then it writes the
+summary of the module:
+
+  types 1
+  functions 1
+  table none
+  memory 1 1 shared      the minimum and the maximum in pages; `-` where there
+                         is no maximum
+  globals 0
+  exports 1
+  start none
+  valid
+
+The integer profile is WebAssembly Core 1.0 without floats, with the atomic
+instructions of the threads proposal and the five sign extensions. Of imports it
+has one, a memory.";
+
+/// How `check` refuses.
+pub(crate) const CHECK_REFUSALS: &str = "\
+Refusals (exit status 1):
+  refused 1 Refused N        the bytes spell no module of the profile, from
+                             byte N on
+  refused 2 TooLarge         more than 1,048,576 bytes, 256 pages or 4,096
+                             elements at first, or 1,024 locals
+  refused 3 NoMemory         the module does not fit into memory
+  refused 11 Invalid F I     function F is not well typed at instruction I,
+                             both numbered from 0
+  refused 11 Invalid module  a rule outside the functions is broken
+  refused 12 NoMemory        the types do not fit into memory
+  refused 44 SourceFailed    the file can't be read
+
+Example:
+  wreplay check examples/counter.wasm";
+
+/// What `record` reads and writes.
+pub(crate) const RECORD_ABOUT: &str = "\
+Runs the threads of a plan by a schedule, and writes the log of that run as
+lines of pieces, which `wreplay gather` lists and `wreplay replay` replays. With
+--report it writes what the run came to: the pages of memory, each 16 bytes that
+are not all zero, and how each thread ended.
+
+MODULE is a WebAssembly module, as `wreplay check` takes it. PLAN says which
+exported functions run as threads, numbered from 0, with their arguments:
+
+  wreplay plan 1
+  thread add
+  thread add
+
+The schedule says in which order the threads go on:
+
+  go 0 3    thread 0 makes 3 steps; a step is one instruction
+  out 1     the wait of thread 1 times out
+
+A step that its thread cannot make is passed over: the thread is done, or sleeps
+and was not woken, or made as many steps as --steps lets it.";
+
+/// How `record` refuses.
+pub(crate) const RECORD_REFUSALS: &str = "\
+Refusals (exit status 1), the first of them in this order:
+  refused 1, 2, 3, 11, 12          MODULE, as `wreplay check` refuses it
+  refused 13 BadLine N             line N is no line of a plan
+  refused 14 NoExport N            line N of PLAN names no exported function
+  refused 15 WrongArguments N      line N of PLAN has other arguments than its
+                                   function takes
+  refused 16 NotShared             two threads or more need a shared memory
+  refused 17 SegmentOutOfBounds    a segment does not fit the memory or table
+  refused 18 BadSchedule N         line N of FILE is no line of a schedule
+  refused 31 Empty                 --size is 0
+  refused 32 TooMany               --size is above 4096
+  refused 12 or 23 NoMemory        the run or its text does not fit into memory
+  refused 44 SourceFailed          a file can't be read
+  refused 45 SinkFailed            writing failed; a beginning was written
+
+Example:
+  wreplay record examples/lost.wasm examples/lost.plan \\
+      --schedule examples/lost.schedule > pieces.txt";
+
+/// What `replay` reads and writes.
+pub(crate) const REPLAY_ABOUT: &str = "\
+Makes a recorded run again from its log, and writes what it came to: the pages
+of memory, each 16 bytes that are not all zero, and how each thread ended.
+
+PIECES has piece lines of one run of MODULE and PLAN, in any order, with
+repeats. A file of no bytes is an empty log.
+
+Each thread waits at each access until the objects have the versions that the
+log names, so every order gives the same end. --order says which threads take
+turns first, one turn for each number; then all threads take turns in rounds.";
+
+/// How `replay` refuses.
+pub(crate) const REPLAY_REFUSALS: &str = "\
+Refusals (exit status 1), the first of them in this order:
+  refused 1, 2, 3, 11, 12      MODULE, as `wreplay check` refuses it
+  refused 12 to 17             PLAN, as `wreplay record` refuses it
+  refused 41 OtherRun N        line N of PIECES is of another run
+  refused 42 NoMemory          the log does not fit into memory
+  refused 43 BadLine N         line N of PIECES is no piece line
+  refused 51 OtherRun          the log is of another module or plan
+  refused 58 OldProfile        the module has no runs of the log's profile
+  refused 52 Clash T P         two pieces claim place P of thread T, or its
+                               end, differently
+  refused 53 Missing T P       no piece claims place P of thread T, or its end
+  refused 55 Diverged T P      thread T cannot do what the log says at place P
+  refused 56 NoMemory          the replay does not fit into memory
+  refused 57 Stuck             no thread can go on, and not all are done
+  refused 23 NoMemory          a file or the text does not fit into memory
+  refused 44 SourceFailed      a file can't be read
+  refused 45 SinkFailed        writing failed; a beginning was written
+
+Example:
+  wreplay record examples/lost.wasm examples/lost.plan \\
+      --schedule examples/lost.schedule > pieces.txt
+  wreplay replay examples/lost.wasm examples/lost.plan pieces.txt --order 1,0,1";

@@ -1,0 +1,11 @@
+//! What the words of a command line ask for.
+#![tactic(auto)]
+
+mod command;
+mod help;
+mod numbers;
+mod requests;
+mod wanted;
+
+pub use command::{Asked, requested};
+pub use requests::{RecordRequest, ReplayRequest, Request};

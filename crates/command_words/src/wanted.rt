@@ -1,0 +1,168 @@
+//! What the values of a command ask for.
+
+ghost use Rattle.std.specs.Prelude.{◌≡◌, ℕ, codes, Some, None, IfOk, OnErr, IfSome, IfNone, option_map};
+ghost use Rattle.clap.specs.Words.{Row, rows_of, first_of};
+ghost use Rattle.clap.specs.Matches.{found_of};
+ghost use Rattle.command_words.specs.Asked.{IsAsked, IsRecordAsked, IsReplayAsked, IsBlockOf, order_of, is_text, number_of};
+ghost use Rattle.command_words.specs.declared.requests.Request.{Request};
+ghost use Rattle.command_words.specs.declared.requests.RecordRequest.{RecordRequest};
+ghost use Rattle.command_words.specs.declared.requests.ReplayRequest.{ReplayRequest};
+
+use crate::numbers::{number_up_to, order_in, small_number_up_to};
+use crate::requests::{RecordRequest, ReplayRequest, Request};
+use clap::ArgMatches;
+use std::alloc::Global;
+use wasm_types::{Block, NoMemory};
+
+/// The greatest number of steps that a thread may be allowed.
+const MOST_STEPS: u32 = 1_000_000_000;
+
+/// What is said where a value is missing, which clap does not let pass.
+const MISSING: &str = "error: a value is missing\n";
+
+/// What is said of a number that is none.
+const BAD_RUN: &str = "error: '--run <N>' takes a number from 0 to 18446744073709551615\n";
+
+const BAD_STEPS: &str = "error: '--steps <N>' takes a number from 0 to 1000000000\n";
+
+const BAD_SIZE: &str = "error: '--size <N>' takes a number from 0 to 4294967295\n";
+
+const BAD_BLOCK: &str = "error: '--block <N>' takes 64, 128, 256, 512, 1024, 2048 or 4096\n";
+
+const BAD_TIMEOUTS: &str = "error: '--timeouts <WHEN>' takes never or now\n";
+
+const BAD_ORDER: &str =
+    "error: '--order <LIST>' takes 1 to 1000000 thread numbers, joined by commas\n";
+
+const NO_COMMAND: &str = "error: there is no such command\n";
+
+/// What a command's values come to: a request, or what is wrong with them.
+pub(crate) type Wanted<T> = Result<T, &'static str>;
+
+/// The value of an option or a file.
+fn value<'a>(matches: &ArgMatches<'a>, id: &str) -> Option<&'a str>
+    ensures { option_map (λ v. v.now) result ≡ first_of id.now (rows_of (found_of matches.now)) }
+{
+    matches.get_str(id)
+}
+
+/// The number that an option has, at most so large.
+fn number(matches: &ArgMatches<'_>, id: &str, most: u64) -> Option<u64>
+    ensures { result ≡ number_of most (first_of id.now (rows_of (found_of matches.now))) }
+{
+    number_up_to(value(matches, id)?.as_bytes(), most)
+}
+
+/// The same of a u32.
+fn small_number(matches: &ArgMatches<'_>, id: &str, most: u32) -> Option<u32>
+    ensures { result ≡ number_of most (first_of id.now (rows_of (found_of matches.now))) }
+{
+    small_number_up_to(value(matches, id)?.as_bytes(), most)
+}
+
+/// The size of a block that an option has.
+fn block(matches: &ArgMatches<'_>) -> Option<Block>
+    ensures asked { IfSome result (IsBlockOf (number_of 4294967295 (first_of (codes "block") (rows_of (found_of matches.now))))) }
+    ensures none { IfNone result ((power : ℕ) → IsBlockOf (number_of 4294967295 (first_of (codes "block") (rows_of (found_of matches.now)))) power → ⊥) }
+{
+    match Block::new(small_number(matches, "block", u32::MAX)?) {
+        Ok(block) => {
+            let _power = block.power();
+            Some(block)
+        }
+        Err(_) => None,
+    }
+}
+
+/// Whether an option's value is this text.
+fn has_text(matches: &ArgMatches<'_>, id: &str, text: &str) -> bool
+    ensures { result ≡ is_text text.now (first_of id.now (rows_of (found_of matches.now))) }
+{
+    match value(matches, id) {
+        Some(value) => value == text,
+        None => false,
+    }
+}
+
+/// The recording that the values of `record` ask for.
+fn recording_of<'a>(matches: &ArgMatches<'a>) -> Wanted<RecordRequest<'a>>
+    ensures asked { IfOk result (IsRecordAsked (rows_of (found_of matches.now))) }
+    ensures none { OnErr result ((r : RecordRequest) → IsRecordAsked (rows_of (found_of matches.now)) r → ⊥) }
+{
+    let module = value(matches, "MODULE").ok_or(MISSING)?;
+    let plan = value(matches, "PLAN").ok_or(MISSING)?;
+    let schedule = value(matches, "schedule").ok_or(MISSING)?;
+    let run = number(matches, "run", u64::MAX).ok_or(BAD_RUN)?;
+    let steps = small_number(matches, "steps", MOST_STEPS).ok_or(BAD_STEPS)?;
+    let size = small_number(matches, "size", u32::MAX).ok_or(BAD_SIZE)?;
+    let block = block(matches).ok_or(BAD_BLOCK)?;
+    if !has_text(matches, "timeouts", "never") && !has_text(matches, "timeouts", "now") {
+        return Err(BAD_TIMEOUTS);
+    }
+    let report = has_text(matches, "report", "true");
+    Ok(RecordRequest {
+        module,
+        plan,
+        schedule,
+        run,
+        steps,
+        size,
+        block,
+        report,
+    })
+}
+
+/// The order that the values of `replay` have.
+fn order_of(alloc: Global, matches: &ArgMatches<'_>) -> Result<Option<Vec<u32>>, NoMemory>
+    ensures { IfOk result (λ order. option_map (λ o. o.items) order ≡ order_of (first_of (codes "order") (rows_of (found_of matches.now)))) }
+{
+    match value(matches, "order") {
+        Some(text) => order_in(alloc, text.as_bytes()),
+        None => Ok(Some(Vec::new(alloc))),
+    }
+}
+
+/// The replay, in that order, that the values of `replay` ask for.
+fn replay_of<'a>(matches: &ArgMatches<'a>, order: Option<Vec<u32>>) -> Wanted<ReplayRequest<'a>>
+    requires { option_map (λ o. o.items) order ≡ order_of (first_of (codes "order") (rows_of (found_of matches.now))) }
+    ensures asked { IfOk result (IsReplayAsked (rows_of (found_of matches.now))) }
+    ensures none { OnErr result ((r : ReplayRequest) → IsReplayAsked (rows_of (found_of matches.now)) r → ⊥) }
+{
+    let module = value(matches, "MODULE").ok_or(MISSING)?;
+    let plan = value(matches, "PLAN").ok_or(MISSING)?;
+    let pieces = value(matches, "PIECES").ok_or(MISSING)?;
+    let order = order.ok_or(BAD_ORDER)?;
+    Ok(ReplayRequest {
+        module,
+        plan,
+        pieces,
+        order,
+    })
+}
+
+/// What a command of that name with these values asks for.
+pub(crate) fn request_of<'a>(
+    alloc: Global,
+    name: &str,
+    matches: &ArgMatches<'a>,
+) -> Result<Wanted<Request<'a>>, NoMemory>
+    ensures asked { IfOk result (λ wanted. IfOk wanted (IsAsked name.now (rows_of (found_of matches.now)))) }
+    ensures none { IfOk result (λ wanted. OnErr wanted ((r : Request) → IsAsked name.now (rows_of (found_of matches.now)) r → ⊥)) }
+{
+    match name {
+        "gather" => Ok(Ok(Request::Gather)),
+        "check" => match value(matches, "MODULE") {
+            Some(path) => Ok(Ok(Request::Check(path))),
+            None => Ok(Err(MISSING)),
+        },
+        "record" => match recording_of(matches) {
+            Ok(recording) => Ok(Ok(Request::Record(recording))),
+            Err(wrong) => Ok(Err(wrong)),
+        },
+        "replay" => match replay_of(matches, order_of(alloc, matches)?) {
+            Ok(replay) => Ok(Ok(Request::Replay(replay))),
+            Err(wrong) => Ok(Err(wrong)),
+        },
+        _ => Ok(Err(NO_COMMAND)),
+    }
+}

@@ -1,0 +1,52 @@
+-- What the check of a module answers, by what its file may hold.
+use Rattle.std.specs.Prelude.{◌≡◌, ◌⊎◌, ℕ, List, ◌++◌, codes}
+use Rattle.wasm_types.specs.declared.modules.Module.{Module}
+use Rattle.byte_reader.specs.declared.fault.DecodeFault.{DecodeFault}
+use Rattle.byte_reader.specs.declared.fault.DecodeFault.TheVariants as decoding
+use Rattle.binary_decoder.specs.Grammar.{Spells}
+use Rattle.wasm_types.specs.Limits.{Within}
+use Rattle.binary_decoder.specs.Summary.{summary_text}
+use Rattle.validator.specs.Valid.{WellTyped, Refuses}
+use Rattle.commands.specs.declared.files.FileFault.{FileFault}
+use Rattle.commands.specs.declared.files.FileFault.TheVariants as file
+use Rattle.commands.specs.declared.fault.Fault.{Fault}
+use Rattle.commands.specs.declared.fault.Fault.TheVariants.{File, Decode, Valid, NoMemory}
+
+-- the bytes spell this module within the limits
+pub record IsModule (bytes : List ℕ) (m : Module) : Type 0 where
+  pub spells : Spells m bytes
+  pub within : Within m
+
+-- why no module is read from the bytes
+abbrev pub IsDecodeFault : List ℕ → DecodeFault → Type 0
+IsDecodeFault bytes (decoding.Refused offset) = (m : Module) → Spells m bytes → ⊥
+IsDecodeFault bytes decoding.TooLarge = (m : Module) → IsModule bytes m → ⊥
+IsDecodeFault bytes decoding.NoMemory = Unit {0}
+
+-- why a file is not read, where it fails so
+abbrev pub IsFileFault : Type 0 → FileFault → Type 0
+IsFileFault fails file.NotRead = fails
+IsFileFault fails file.NoMemory = Unit {0}
+
+module _ (holds : List ℕ → Type 0) where
+  -- the file's module, which is well typed
+  pub record IsValidFile (m : Module) : Type 0 where
+    pub bytes : List ℕ
+    pub held : holds bytes
+    pub is_module : IsModule bytes m
+    pub typed : WellTyped m
+
+  -- when each fault is answered for a module: the file is read, then decoded, then typed
+  abbrev pub IsModuleRefused : Type 0 → Fault → Type 0
+  IsModuleRefused fails (File fault) = IsFileFault fails fault
+  IsModuleRefused fails (Decode fault) = (bytes : List ℕ) × holds bytes × IsDecodeFault bytes fault
+  IsModuleRefused fails (Valid fault) = (bytes : List ℕ) × (m : Module) × holds bytes × IsModule bytes m × Refuses m fault
+  IsModuleRefused fails _ = ⊥
+
+  -- the summary of the file's module, which is well typed, and the line `valid`
+  abbrev pub IsChecked : List ℕ → Type 0
+  IsChecked text = (m : Module) × IsValidFile m × (text ≡ summary_text m ++ codes "valid\n")
+
+  -- the module is refused, or there is no memory for the text
+  abbrev pub IsCheckRefused : Type 0 → Fault → Type 0
+  IsCheckRefused fails fault = IsModuleRefused fails fault ⊎ (fault ≡ NoMemory)

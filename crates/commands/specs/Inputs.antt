@@ -1,0 +1,59 @@
+-- The plans and logs in files.
+use Rattle.std.specs.Prelude.{◌≡◌, ◌⊎◌, ◌<◌, ℕ, List, [], ◌++◌, Ok, length}
+use Rattle.wasm_types.specs.declared.modules.Module.{Module}
+use Rattle.wasm_types.specs.declared.key.Profile.TheVariants.{Two}
+use Rattle.thread_plan.specs.Plans.{PlanValue, plan_of, IsFaultOf}
+use Rattle.log_pieces.specs.Piece.{PieceValue}
+use Rattle.replica.specs.declared.log.Log.{Log}
+use Rattle.replica.specs.declared.fault.GatherFault.{GatherFault}
+use Rattle.replica.specs.declared.fault.GatherFault.TheVariants as gathering
+use Rattle.replica.specs.Log.{key_of}
+use Rattle.replica.specs.LogOf.{IsLogOf, Among}
+use Rattle.replica.specs.Gathered.{IsText, IsGathered, IsBadLine, IsOtherRun}
+use Rattle.wasm_record.specs.Recordings.{IsKeyOf}
+use Rattle.commands.specs.Checks.{IsFileFault}
+use Rattle.commands.specs.declared.fault.Fault.{Fault}
+use Rattle.commands.specs.declared.fault.Fault.TheVariants.{File, Plan, Gather}
+
+-- the text is the lines of some pieces of one run, and this is the log of these pieces
+pub record IsLogOfLines (text : List ℕ) (log : Log) : Type 0 where
+  pub pieces : List PieceValue
+  pub lines : IsText text pieces
+  pub some : 0 < length pieces
+  pub gathered : IsGathered pieces log
+
+-- no piece, of run 0 of the module and the plan in profile 2 with blocks of 64 bytes
+pub record IsEmptyLog (m : Module) (plan : PlanValue) (log : Log) : Type 0 where
+  pub key : IsKeyOf m plan 0 (Two 6) (key_of log)
+  pub items : IsLogOf (Among []) log
+
+-- the log that a text gives for a module and a plan
+abbrev pub IsLogIn : List ℕ → Module → PlanValue → Log → Type 0
+IsLogIn text m plan log = IsLogOfLines text log ⊎ ((text ≡ []) × IsEmptyLog m plan log)
+
+-- which line is refused, and why; what stands behind it is not judged
+abbrev pub IsLinesFault : List ℕ → GatherFault → Type 0
+IsLinesFault text (gathering.OtherRun line) = (read rest : List ℕ) × (text ≡ read ++ rest) × IsOtherRun read line
+IsLinesFault text gathering.NoMemory = Unit {0}
+IsLinesFault text (gathering.BadLine line) = (read rest : List ℕ) × (text ≡ read ++ rest) × IsBadLine (rest ≡ []) read line
+IsLinesFault text gathering.SourceFailed = ⊥
+IsLinesFault text gathering.SinkFailed = ⊥
+
+module _ (holds : List ℕ → Type 0) where
+  -- the plan that the file spells for a module
+  abbrev pub IsPlanFile : Module → PlanValue → Type 0
+  IsPlanFile m plan = (bytes : List ℕ) × holds bytes × (plan_of m bytes ≡ Ok plan)
+
+  abbrev pub IsPlanRefused : Type 0 → Module → Fault → Type 0
+  IsPlanRefused fails m (File fault) = IsFileFault fails fault
+  IsPlanRefused fails m (Plan fault) = (bytes : List ℕ) × holds bytes × IsFaultOf (plan_of m bytes) fault
+  IsPlanRefused fails m _ = ⊥
+
+  -- the log that the file gives for a module and a plan
+  abbrev pub IsLogFile : Module → PlanValue → Log → Type 0
+  IsLogFile m plan log = (bytes : List ℕ) × holds bytes × IsLogIn bytes m plan log
+
+  abbrev pub IsLinesRefused : Type 0 → Fault → Type 0
+  IsLinesRefused fails (File fault) = IsFileFault fails fault
+  IsLinesRefused fails (Gather fault) = (bytes : List ℕ) × holds bytes × IsLinesFault bytes fault
+  IsLinesRefused fails _ = ⊥

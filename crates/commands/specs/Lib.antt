@@ -1,0 +1,5 @@
+pub mod Texts
+pub mod Checks
+pub mod Inputs
+pub mod Records
+pub mod Replays

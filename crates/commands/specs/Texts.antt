@@ -1,0 +1,89 @@
+-- The texts of faults: `refused`, the number, the name, and perhaps numbers in decimal, each after one space.
+use Rattle.std.specs.Prelude.{ℕ, List, ◌++◌, ◌∷◌, codes, Some, None}
+use Rattle.std.specs.Fmt.{decimal}
+use Rattle.byte_reader.specs.declared.fault.DecodeFault.{DecodeFault}
+use Rattle.byte_reader.specs.declared.fault.DecodeFault.TheVariants as decoding
+use Rattle.validator.specs.declared.fault.ValidFault.{ValidFault}
+use Rattle.validator.specs.declared.fault.ValidFault.TheVariants as typing
+use Rattle.thread_plan.specs.declared.fault.PlanFault.{PlanFault}
+use Rattle.thread_plan.specs.declared.fault.PlanFault.TheVariants as planning
+use Rattle.pick_schedule.specs.declared.fault.ScheduleFault.{ScheduleFault}
+use Rattle.pick_schedule.specs.declared.fault.ScheduleFault.TheVariants as scheduling
+use Rattle.replica.specs.declared.fault.GatherFault.{GatherFault}
+use Rattle.replica.specs.declared.fault.GatherFault.TheVariants as gathering
+use Rattle.replay_gate.specs.declared.answers.ReplayFault.{ReplayFault}
+use Rattle.replay_gate.specs.declared.answers.ReplayFault.TheVariants as replaying
+use Rattle.wasm_replay.specs.declared.replaying.WasmReplayFault.{WasmReplayFault}
+use Rattle.wasm_replay.specs.declared.replaying.WasmReplayFault.TheVariants as refusal
+use Rattle.commands.specs.declared.files.FileFault.{FileFault}
+use Rattle.commands.specs.declared.files.FileFault.TheVariants as file
+use Rattle.commands.specs.declared.fault.SizeFault.{SizeFault}
+use Rattle.commands.specs.declared.fault.SizeFault.TheVariants as size
+use Rattle.commands.specs.declared.fault.Fault.{Fault}
+use Rattle.commands.specs.declared.fault.Fault.TheVariants.{File, Decode, Valid, Plan, Schedule, Size, Gather, Replay, NoMemory, SinkFailed}
+
+-- a name, and two numbers behind it
+abbrev pub placed : List ℕ → ℕ → ℕ → List ℕ
+placed head first second = head ++ (decimal first ++ 32 ∷ decimal second)
+
+abbrev pub file_text : FileFault → List ℕ
+file_text file.NotRead = codes "refused 44 SourceFailed"
+file_text file.NoMemory = codes "refused 23 NoMemory"
+
+abbrev pub decode_text : DecodeFault → List ℕ
+decode_text (decoding.Refused offset) = codes "refused 1 Refused " ++ decimal offset
+decode_text decoding.TooLarge = codes "refused 2 TooLarge"
+decode_text decoding.NoMemory = codes "refused 3 NoMemory"
+
+abbrev pub valid_text : ValidFault → List ℕ
+valid_text (typing.Invalid None instruction) = codes "refused 11 Invalid module"
+valid_text (typing.Invalid (Some function) instruction) = placed (codes "refused 11 Invalid ") function instruction
+valid_text typing.NoMemory = codes "refused 12 NoMemory"
+
+abbrev pub plan_text : PlanFault → List ℕ
+plan_text (planning.BadLine line) = codes "refused 13 BadLine " ++ decimal line
+plan_text (planning.NoExport line) = codes "refused 14 NoExport " ++ decimal line
+plan_text (planning.WrongArguments line) = codes "refused 15 WrongArguments " ++ decimal line
+plan_text planning.NotShared = codes "refused 16 NotShared"
+plan_text planning.SegmentOutOfBounds = codes "refused 17 SegmentOutOfBounds"
+plan_text planning.NoMemory = codes "refused 12 NoMemory"
+
+abbrev pub schedule_text : ScheduleFault → List ℕ
+schedule_text (scheduling.BadLine line) = codes "refused 18 BadSchedule " ++ decimal line
+schedule_text scheduling.NoMemory = codes "refused 23 NoMemory"
+
+abbrev pub size_text : SizeFault → List ℕ
+size_text size.Empty = codes "refused 31 Empty"
+size_text size.TooMany = codes "refused 32 TooMany"
+
+abbrev pub gather_text : GatherFault → List ℕ
+gather_text (gathering.OtherRun line) = codes "refused 41 OtherRun " ++ decimal line
+gather_text gathering.NoMemory = codes "refused 42 NoMemory"
+gather_text (gathering.BadLine line) = codes "refused 43 BadLine " ++ decimal line
+gather_text gathering.SourceFailed = codes "refused 44 SourceFailed"
+gather_text gathering.SinkFailed = codes "refused 45 SinkFailed"
+
+abbrev pub replay_text : ReplayFault → List ℕ
+replay_text (replaying.Clash thread place) = placed (codes "refused 52 Clash ") thread place
+replay_text (replaying.Missing thread place) = placed (codes "refused 53 Missing ") thread place
+replay_text replaying.Shut = codes "refused 54 Shut"
+replay_text (replaying.Diverged thread place) = placed (codes "refused 55 Diverged ") thread place
+replay_text replaying.NoMemory = codes "refused 56 NoMemory"
+replay_text replaying.Stuck = codes "refused 57 Stuck"
+
+abbrev pub refusal_text : WasmReplayFault → List ℕ
+refusal_text refusal.OtherRun = codes "refused 51 OtherRun"
+refusal_text refusal.OldProfile = codes "refused 58 OldProfile"
+refusal_text (refusal.Replay fault) = replay_text fault
+
+abbrev pub fault_text : Fault → List ℕ
+fault_text (File fault) = file_text fault
+fault_text (Decode fault) = decode_text fault
+fault_text (Valid fault) = valid_text fault
+fault_text (Plan fault) = plan_text fault
+fault_text (Schedule fault) = schedule_text fault
+fault_text (Size fault) = size_text fault
+fault_text (Gather fault) = gather_text fault
+fault_text (Replay fault) = refusal_text fault
+fault_text NoMemory = codes "refused 23 NoMemory"
+fault_text SinkFailed = codes "refused 45 SinkFailed"

@@ -1,0 +1,56 @@
+//! Why a command is refused.
+
+ghost use Rattle.std.specs.Prelude.{◌≡◌};
+
+use crate::files::FileFault;
+use byte_reader::DecodeFault;
+use pick_schedule::ScheduleFault;
+use replica::GatherFault;
+use thread_plan::PlanFault;
+use validator::ValidFault;
+use wasm_replay::WasmReplayFault;
+use wasm_types::NoMemory;
+
+/// Why pieces of a size can't be.
+#[derive(Clone, Copy, Debug, PartialEq, Eq)]
+pub enum SizeFault {
+    /// Refusal 31: pieces of no entry.
+    Empty,
+    /// Refusal 32: pieces of more than 4,096 entries.
+    TooMany,
+}
+
+/// Why a command is refused. `text` is the line that the program writes, without its end.
+#[derive(Clone, Copy, Debug, PartialEq, Eq)]
+pub enum Fault {
+    /// A file was not read.
+    File(FileFault),
+    /// The bytes of the module spell none of the integer profile within the limits.
+    Decode(DecodeFault),
+    /// The module is not well typed.
+    Valid(ValidFault),
+    /// The text of the plan spells none for the module.
+    Plan(PlanFault),
+    /// The text of the schedule spells none.
+    Schedule(ScheduleFault),
+    /// Pieces of the size can't be.
+    Size(SizeFault),
+    /// The piece lines give no log.
+    Gather(GatherFault),
+    /// The log is not replayed to its end.
+    Replay(WasmReplayFault),
+    /// Refusal 23: memory for the command line or for a text could not be had.
+    NoMemory,
+    /// Refusal 45: writing failed, after a beginning was written.
+    SinkFailed,
+}
+
+impl From<NoMemory> for Fault {
+    ghost use Rattle.commands.specs.declared.fault.Fault.TheVariants as faults;
+
+    ghost from_gives = { λ _ fault. fault ≡ faults.NoMemory };
+
+    fn from(_refused: NoMemory) -> Fault {
+        Fault::NoMemory
+    }
+}

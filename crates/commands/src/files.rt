@@ -1,0 +1,34 @@
+//! The files that commands name.
+
+ghost use Rattle.std.specs.Prelude.{◌≡◌, ℕ, List, IfOk, Err};
+
+use std::alloc::Global;
+
+/// Why a file was not read.
+#[derive(Clone, Copy, Debug, PartialEq, Eq)]
+pub enum FileFault {
+    /// Refusal 44: it does not stand there, or reading it failed.
+    NotRead,
+    /// Refusal 23: memory for its bytes could not be had.
+    NoMemory,
+}
+
+/// Where the files stand that a command names. What the system's files hold nobody can know beforehand; files for tests
+/// can say it.
+pub trait Files {
+    ghost use Rattle.commands.specs.declared.files.FileFault.TheVariants.{NotRead};
+
+    /// The file at a path may have these bytes, from now on.
+    ghost holds: { Self → List ℕ → List ℕ → Type 0 };
+
+    /// The file at a path may fail to be read, from now on.
+    ghost fails: { Self → List ℕ → Type 0 };
+
+    /// The bytes of the file at that path.
+    fn read(&mut self, alloc: Global, path: &str) -> Result<Vec<u8>, FileFault>
+        ensures bytes { IfOk result (λ bytes. holds self.old path.now bytes.items) }
+        ensures not_read { result ≡ Err NotRead → fails self.old path.now }
+        // What may be read later might have been read before.
+        ensures still_holds { (other bytes : List ℕ) → holds self.new other bytes → holds self.old other bytes }
+        ensures still_fails { (other : List ℕ) → fails self.new other → fails self.old other };
+}

@@ -1,0 +1,18 @@
+//! What the program's commands make of the files that they name: the summary of a module, the report of a recording or a replay.
+#![tactic(auto)]
+
+mod checking;
+mod fault;
+mod files;
+mod gathered;
+mod program;
+mod recording;
+mod replaying;
+mod schedules;
+mod texts;
+
+pub use checking::check;
+pub use fault::{Fault, SizeFault};
+pub use files::{FileFault, Files};
+pub use recording::record;
+pub use replaying::replay;

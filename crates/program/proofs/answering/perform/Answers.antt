@@ -1,0 +1,25 @@
+use Rattle.std.proofs.Common.{rules}
+use Rattle.program.proofs.Stops.{shown_stops, gather_stops}
+use Rattle.program.proofs.answering.perform.Goals as goal
+
+pub returns-in-Err-clause-stopped : goal.returns-in-Err-clause-stopped
+returns-in-Err-clause-stopped g c =
+    gather_stops _ _ _ _ _ _ _ _ c.args.request.now c.fault_of.result c.in-Err.fault c.in-Gather.is c.fault_of.ensures
+    (λ n e. c.in-Err.ensures.bad_line n e)
+    (λ n e. c.in-Err.ensures.other_run n e)
+    (λ e. let s = c.in-Err.ensures.source_failed e in s)
+    (λ e. let s = c.in-Err.ensures.sink_failed e in
+    ((s.0.listed, s.0.taken.0, s.0.taken.1, record { text = s.0.text; came = s.0.came; end = s.0.end; pieces = s.0.pieces; lines = s.0.lines; is_listing = s.0.is_listing }, s.0.taken.2, s.0.taken.3), s.1))
+    c.in-Err.ensures.unwritten
+
+pub returns-in-Ok-check-clause-stopped : goal.returns-in-Ok-check-clause-stopped
+returns-in-Ok-check-clause-stopped g c =
+    shown_stops _ _ _ _ _ _ _ _ c.args.request.now _ c.deref.result.now c.in-Ok-check.text.items c.show.result c.in-Check.is c.deref.ensures.value c.in-Ok-check.ensures.checked c.show.ensures.error c.show.ensures.one_failed c.show.ensures.begun
+
+pub returns-in-Ok-record-clause-stopped : goal.returns-in-Ok-record-clause-stopped
+returns-in-Ok-record-clause-stopped g c =
+    shown_stops _ _ _ _ _ _ _ _ c.args.request.now _ c.deref-in-Ok-record.result.now c.in-Ok-record.text.items c.show-in-Ok-record.result c.in-Record.is c.deref-in-Ok-record.ensures.value c.in-Ok-record.ensures.recorded c.show-in-Ok-record.ensures.error c.show-in-Ok-record.ensures.one_failed c.show-in-Ok-record.ensures.begun
+
+pub returns-in-Ok-replay-clause-stopped : goal.returns-in-Ok-replay-clause-stopped
+returns-in-Ok-replay-clause-stopped g c =
+    shown_stops _ _ _ _ _ _ _ _ c.args.request.now _ c.as_bytes.result.now _ c.show-in-Ok-replay.result c.in-Replay.is (search rules) c.in-Ok-replay.ensures.replayed c.show-in-Ok-replay.ensures.error c.show-in-Ok-replay.ensures.one_failed c.show-in-Ok-replay.ensures.begun

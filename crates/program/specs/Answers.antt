@@ -1,0 +1,91 @@
+-- What the program answers.
+use Rattle.std.specs.Prelude.{◌≡◌, ◌≤◌, ◌⊎◌, ℕ, List, ◌++◌}
+use Rattle.clap.specs.Words.{Text}
+use Rattle.log_pieces.specs.Piece.{PieceValue}
+use Rattle.replica.specs.Gathered.{IsText, IsListing, IsBadLine, IsOtherRun, IsCutText}
+use Rattle.replica.specs.declared.fault.GatherFault.{GatherFault}
+use Rattle.replica.specs.declared.fault.GatherFault.TheVariants as gathering
+use Rattle.command_words.specs.Asked.{Asks, AsksNothing, AsksForText}
+use Rattle.command_words.specs.declared.requests.Request.{Request}
+use Rattle.command_words.specs.declared.requests.Request.TheVariants as request
+use Rattle.commands.specs.Checks.{IsChecked, IsCheckRefused}
+use Rattle.commands.specs.Records.{IsRecordedText, IsRecordRefused}
+use Rattle.commands.specs.Replays.{IsReplayedText, IsReplayRefused}
+use Rattle.commands.specs.declared.fault.Fault.{Fault}
+use Rattle.commands.specs.declared.fault.Fault.TheVariants.{Gather, NoMemory, SinkFailed}
+
+-- the program's fault where gathering is refused
+abbrev pub fault_of : GatherFault → Fault
+fault_of gathering.SinkFailed = SinkFailed
+fault_of fault = Gather fault
+
+module _ {Sink : Type 0} (takes : List ℕ → Sink → Type 0) where
+  -- a beginning of the text was taken
+  abbrev pub WritesSome : List ℕ → Sink → Type 0
+  WritesSome text sink = (part rest : List ℕ) × (text ≡ part ++ rest) × takes part sink
+
+-- the source brought lines of pieces, up to its end, and this is the listing of their log
+pub record IsListed (brought : List ℕ → Type 0) (ended : Type 0) (listed : List ℕ) : Type 0 where
+  pub text : List ℕ
+  pub came : brought text
+  pub end : ended
+  pub pieces : List PieceValue
+  pub lines : IsText text pieces
+  pub is_listing : IsListing pieces listed
+
+-- why what the source brought is refused; `broke` says that the source failed
+abbrev pub IsGatherRefused : (List ℕ → Type 0) → Type 0 → Type 0 → Fault → Type 0
+IsGatherRefused brought ended broke (Gather (gathering.OtherRun line)) = (text : List ℕ) × brought text × IsOtherRun text line
+IsGatherRefused brought ended broke (Gather gathering.NoMemory) = Unit {0}
+IsGatherRefused brought ended broke (Gather (gathering.BadLine line)) = (text : List ℕ) × brought text × IsBadLine ended text line
+IsGatherRefused brought ended broke (Gather gathering.SourceFailed) = ((text : List ℕ) × brought text × IsCutText text) × broke
+IsGatherRefused brought ended broke _ = ⊥
+
+module _ (took : List ℕ → Type 0) where
+  -- the output took such a text
+  abbrev pub IsShown : (List ℕ → Type 0) → Type 0
+  IsShown is = (text : List ℕ) × is text × took text
+
+  -- the output took a beginning of such a text
+  abbrev pub IsCut : (List ℕ → Type 0) → Type 0
+  IsCut is = (text part rest : List ℕ) × is text × (text ≡ part ++ rest) × took part
+
+-- What the files may hold and which may fail, what the source brought, and whether it ended or failed.
+module _ (holds : List ℕ → List ℕ → Type 0) (fails : List ℕ → Type 0) (brought : List ℕ → Type 0) (ended broke : Type 0) where
+  -- the text of a command that is done
+  abbrev pub IsDone : Request → List ℕ → Type 0
+  IsDone request.Gather text = IsListed brought ended text
+  IsDone (request.Check path) text = IsChecked (holds path.now) text
+  IsDone (request.Record r) text = IsRecordedText holds r text
+  IsDone (request.Replay r) text = IsReplayedText holds r text
+
+  -- when each fault is answered
+  abbrev pub IsRefused : Request → Fault → Type 0
+  IsRefused request.Gather fault = IsGatherRefused brought ended broke fault
+  IsRefused (request.Check path) fault = IsCheckRefused (holds path.now) (fails path.now) fault
+  IsRefused (request.Record r) fault = IsRecordRefused holds fails r fault
+  IsRefused (request.Replay r) fault = IsReplayRefused holds fails r fault
+
+  -- Which texts the output took from first to last, and whether it took nothing, or failed.
+  module _ (took : List ℕ → Type 0) (unwritten unwritable : Type 0) where
+    -- a command stops: it is refused, and nothing was written; or the output failed
+    abbrev pub IsStopped : Request → Fault → Type 0
+    IsStopped r fault = (IsRefused r fault × unwritten) ⊎ ((fault ≡ SinkFailed) × unwritable × IsCut took (IsDone r))
+
+    -- Whether a fault was told, and whether no file and no input was read.
+    module _ (tells : Fault → Type 0) (unread : Type 0) (words : List Text) where
+      -- the very text of the command that the words ask for, or a text of help where they ask for that
+      abbrev pub IsDoneBy : Type 0
+      IsDoneBy = ((r : Request) × Asks words r × IsShown took (IsDone r)) ⊎ (AsksForText words × unread × IsShown took (λ text. Unit {0}))
+
+      -- the command that the words ask for stops so; or a text of help is not written; or there is no memory for the words
+      abbrev pub IsRefusedBy : Fault → Type 0
+      IsRefusedBy fault = ((r : Request) × Asks words r × IsStopped r fault)
+          ⊎ ((AsksForText words × unread × (fault ≡ SinkFailed) × unwritable × IsCut took (λ text. Unit {0})) ⊎ (unread × unwritten × (fault ≡ NoMemory)))
+
+      -- by the exit status: done, refused, not understood
+      pub record IsAnswered (status : ℕ) : Type 0 where
+        pub done : status ≡ 0 → IsDoneBy
+        pub refused : status ≡ 1 → (fault : Fault) × tells fault × IsRefusedBy fault
+        pub unknown : status ≡ 2 → AsksNothing words × unread × unwritten
+        pub statuses : status ≤ 2

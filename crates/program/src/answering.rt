@@ -1,0 +1,151 @@
+//! What the words of a command line do.
+
+ghost use Rattle.std.specs.Prelude.{◌≡◌, ◌<◌, ◌-◌, ◌^◌, ◌⊎◌, ◌++◌, ◌+◌, ℕ, [], ◌∷◌, OnOk, OnErr, IfErr, map};
+ghost use Rattle.std.specs.IoError.{error_kind};
+ghost use Rattle.commands.specs.Texts.{fault_text};
+ghost use Rattle.commands.specs.declared.fault.Fault.TheVariants as faults;
+ghost use Rattle.program.specs.Answers.{WritesSome, IsShown, IsDone, IsStopped, IsAnswered, fault_of};
+
+use command_words::{Asked, Request, requested};
+use commands::{Fault, Files, check, record, replay};
+use replica::{Failed, GatherFault, Sink, Source, gather, write_all};
+use std::alloc::Global;
+use std::convert::AsStr;
+use std::io::{self, ErrorKind};
+use wasm_types::NoMemory;
+
+/// What is said where the command line is not text.
+const NOT_UTF_8: &str = "error: a word of the command line is not UTF-8\n";
+
+/// Writes a text to the output.
+fn show<W: Sink>(output: &mut W, text: &[u8]) -> Result<(), Fault>
+    requires { W.failed output.old < 2 ^ 64 - 1 }
+    ensures shown { OnOk result (W.takes output.old text.now output.new) }
+    ensures begun { OnErr result (WritesSome (W.takes output.old) text.now output.new) }
+    ensures none_failed { OnOk result (W.failed output.new ≡ W.failed output.old) }
+    ensures one_failed { OnErr result (W.failed output.new ≡ W.failed output.old + 1) }
+    ensures error { IfErr result (λ fault. fault ≡ faults.SinkFailed) }
+{
+    match write_all(output, text) {
+        Ok(()) => Ok(()),
+        Err(Failed) => Err(Fault::SinkFailed),
+    }
+}
+
+/// Writes the line of a fault, and answers the exit status of a refusal. Where writing fails there is nobody to tell.
+fn refuse<E: Sink>(errors: &mut E, fault: &Fault) -> u8
+    requires { E.failed errors.old < 2 ^ 64 - 1 }
+    ensures status { result ≡ 1 }
+    ensures tells { (E.takes errors.old (fault_text fault.now ++ 10 ∷ []) errors.new) ⊎ (E.failed errors.new ≡ E.failed errors.old + 1) }
+{
+    let mut line = fault.text();
+    line.push_str("\n");
+    let _ = write_all(errors, line.as_str().as_bytes());
+    1
+}
+
+/// Writes what is wrong with a command line, and answers the exit status of one that is not understood.
+fn complain<E: Sink>(errors: &mut E, text: &str) -> u8
+    requires { E.failed errors.old < 2 ^ 64 - 1 }
+    ensures { result ≡ 2 }
+{
+    let _ = write_all(errors, text.as_bytes());
+    2
+}
+
+/// The program's fault where gathering is refused.
+fn fault_of(fault: GatherFault) -> Fault
+    ensures { result ≡ fault_of fault }
+{
+    match fault {
+        GatherFault::SinkFailed => Fault::SinkFailed,
+        other => Fault::Gather(other),
+    }
+}
+
+/// Does what is asked for.
+fn perform<F: Files, R: Source, W: Sink>(
+    alloc: Global,
+    request: &Request<'_>,
+    files: &mut F,
+    source: &mut R,
+    output: &mut W,
+) -> Result<(), Fault>
+    requires source { R.failed source.old < 2 ^ 64 - 1 }
+    requires output { W.failed output.old < 2 ^ 64 - 1 }
+    ensures done { OnOk result (IsShown (λ text. W.takes output.old text output.new) (IsDone (F.holds files.old) (F.fails files.old) (λ text. R.brings source.old text source.new) (R.ended source.new) (R.failed source.new ≡ R.failed source.old + 1) request.now)) }
+    ensures stopped { IfErr result (IsStopped (F.holds files.old) (F.fails files.old) (λ text. R.brings source.old text source.new) (R.ended source.new) (R.failed source.new ≡ R.failed source.old + 1) (λ text. W.takes output.old text output.new) (output.new ≡ output.old) (W.failed output.new ≡ W.failed output.old + 1) request.now) }
+    ensures source_worked { OnOk result (R.failed source.new ≡ R.failed source.old) }
+    ensures output_worked { OnOk result (W.failed output.new ≡ W.failed output.old) }
+{
+    match request {
+        Request::Gather => match gather(alloc, source, output) {
+            Ok(()) => Ok(()),
+            Err(fault) => Err(fault_of(fault)),
+        },
+        Request::Check(path) => match check(alloc, files, path) {
+            Ok(text) => show(output, &text),
+            Err(fault) => Err(fault),
+        },
+        Request::Record(request) => match record(alloc, files, request) {
+            Ok(text) => show(output, &text),
+            Err(fault) => Err(fault),
+        },
+        Request::Replay(request) => match replay(alloc, files, request) {
+            Ok(text) => show(output, text.as_str().as_bytes()),
+            Err(fault) => Err(fault),
+        },
+    }
+}
+
+/// Answers the exit status where the words of the command line could not be had: they are not UTF-8, or do not fit into
+/// memory.
+pub fn refuse_words<E: Sink>(errors: &mut E, error: &io::Error) -> u8
+    requires { E.failed errors.old < 2 ^ 64 - 1 }
+    ensures no_memory { error_kind error.now ≡ ErrorKind.OutOfMemory → result ≡ 1 }
+    ensures not_text { (error_kind error.now ≡ ErrorKind.OutOfMemory → ⊥) → result ≡ 2 }
+{
+    match error.kind() {
+        ErrorKind::OutOfMemory => refuse(errors, &Fault::NoMemory),
+        _ => complain(errors, NOT_UTF_8),
+    }
+}
+
+/// Does what the words ask for, the first of which is the program's name, and answers the exit status: 0 where it is
+/// done, 1 where it is refused, and then `errors` took the line that says why, 2 where the words are not understood.
+pub fn run<F: Files, R: Source, W: Sink, E: Sink, S: AsStr>(
+    alloc: Global,
+    words: &[S],
+    files: &mut F,
+    source: &mut R,
+    output: &mut W,
+    errors: &mut E,
+) -> u8
+    requires source { R.failed source.old < 2 ^ 64 - 1 }
+    requires output { W.failed output.old < 2 ^ 64 - 1 }
+    requires errors { E.failed errors.old < 2 ^ 64 - 1 }
+    // Done: the output took the very text of the command that the words ask for. Refused: `errors` took the line of the
+    // fault, or failed, and nothing was written but by a failing output. Not understood: nothing was read or written.
+    ensures answered { IsAnswered (F.holds files.old) (F.fails files.old)
+        (λ text. R.brings source.old text source.new) (R.ended source.new) (R.failed source.new ≡ R.failed source.old + 1)
+        (λ text. W.takes output.old text output.new) (output.new ≡ output.old) (W.failed output.new ≡ W.failed output.old + 1)
+        (λ fault. (E.takes errors.old (fault_text fault ++ 10 ∷ []) errors.new) ⊎ (E.failed errors.new ≡ E.failed errors.old + 1))
+        ((files.new ≡ files.old) × (source.new ≡ source.old)) (map S.text words.now) result }
+    // A failing source or output is answered with 1.
+    ensures source_failed { (result ≡ 1 → ⊥) → R.failed source.new ≡ R.failed source.old }
+    ensures output_failed { (result ≡ 1 → ⊥) → W.failed output.new ≡ W.failed output.old }
+{
+    match requested(alloc, words) {
+        Ok(Asked::Request(request)) => match perform(alloc, &request, files, source, output) {
+            Ok(()) => 0,
+            Err(fault) => refuse(errors, &fault),
+        },
+        Ok(Asked::Text(text)) => match show(output, text.as_str().as_bytes()) {
+            Ok(()) => 0,
+            Err(fault) => refuse(errors, &fault),
+        },
+        Ok(Asked::Unknown(text)) => complain(errors, text.as_str()),
+        Ok(Asked::Wrong(text)) => complain(errors, text),
+        Err(NoMemory) => refuse(errors, &Fault::NoMemory),
+    }
+}

@@ -1,0 +1,229 @@
+//! Runs of the program on files in memory.
+
+use crate::answering::run;
+use commands::{FileFault, Files};
+use replica::{MemorySink, MemorySource};
+use std::alloc::Global;
+use std::test::Fail;
+
+/// A module of one shared page and one function `w`, which adds 1 at address 0 twice.
+const COUNTER: [u8; 55] = [
+    0x00, 0x61, 0x73, 0x6D, 0x01, 0x00, 0x00, 0x00, 0x01, 0x05, 0x01, 0x60, 0x00, 0x01, 0x7F, 0x03,
+    0x02, 0x01, 0x00, 0x05, 0x04, 0x01, 0x03, 0x01, 0x01, 0x07, 0x05, 0x01, 0x01, 0x77, 0x00, 0x00,
+    0x0A, 0x15, 0x01, 0x13, 0x00, 0x41, 0x00, 0x41, 0x01, 0xFE, 0x1E, 0x02, 0x00, 0x1A, 0x41, 0x00,
+    0x41, 0x01, 0xFE, 0x1E, 0x02, 0x00, 0x0B,
+];
+
+/// Two threads of it.
+const PLAN: &str = "wreplay plan 1\nthread w\nthread w\n";
+
+/// The piece of another run.
+const OTHER: &str =
+    "49525001bbbbbbbbbbbbbbbbbbbbbbbbbbbbbbbbbbbbbbbbbbbbbbbbbbbbbbbbbbbbbbbb01000000000000000300000000000001030000000000000002";
+
+/// The files `m`, `p`, `s` and `l`: a module, a plan, a schedule and piece lines. Their names are noted as they are read.
+#[derive(Drop)]
+struct NotedFiles<'a> {
+    module: &'a [u8],
+    plan: &'a str,
+    schedule: &'a str,
+    lines: &'a str,
+    noted: Vec<u8>,
+}
+
+impl<'a> Files for NotedFiles<'a> {
+    ghost holds = { λ files path bytes. Unit {0} };
+
+    ghost fails = { λ files path. Unit {0} };
+
+    fn read(&mut self, alloc: Global, path: &str) -> Result<Vec<u8>, FileFault> {
+        let _ = self.noted.extend_from_slice(path.as_bytes());
+        let bytes = match path {
+            "m" => self.module,
+            "p" => self.plan.as_bytes(),
+            "s" => self.schedule.as_bytes(),
+            "l" => self.lines.as_bytes(),
+            _ => return Err(FileFault::NotRead),
+        };
+        match Vec::from_slice(alloc, bytes) {
+            Ok(bytes) => Ok(bytes),
+            Err(_) => Err(FileFault::NoMemory),
+        }
+    }
+}
+
+/// What the program did.
+#[derive(Drop)]
+struct Done {
+    status: u8,
+    output: MemorySink,
+    errors: MemorySink,
+    noted: Vec<u8>,
+}
+
+/// What a sink took, as text.
+fn text(sink: &MemorySink) -> &str {
+    str::from_utf8(sink.taken()).unwrap_or("not UTF-8")
+}
+
+/// Runs the program on these words, a schedule and piece lines.
+fn running(alloc: Global, words: &[&str], schedule: &str, lines: &str) -> Done {
+    let mut files = NotedFiles {
+        module: &COUNTER,
+        plan: PLAN,
+        schedule,
+        lines,
+        noted: Vec::new(alloc),
+    };
+    let mut source = MemorySource::new(b"".as_slice(), 1, None);
+    let mut output = MemorySink::new(alloc, 65536, None);
+    let mut errors = MemorySink::new(alloc, 65536, None);
+    let status = run(
+        alloc,
+        words,
+        &mut files,
+        &mut source,
+        &mut output,
+        &mut errors,
+    );
+    Done {
+        status,
+        output,
+        errors,
+        noted: files.noted,
+    }
+}
+
+#[test]
+fn records_by_a_schedule(rt: HostRuntime) -> Result<(), Fail> {
+    let words = ["wreplay", "record", "m", "p", "--schedule", "s", "--report"];
+    let done = running(rt.alloc(), words.as_slice(), "go 0 3\ngo 1 8\ngo 0 5\n", "");
+    assert_eq!(rt; text(&done.errors), "");
+    assert_eq!(rt; done.status, 0);
+    assert_eq!(rt;
+        text(&done.output),
+        "pages 1\n00000000 04000000000000000000000000000000\nthread 0 i32 3\nthread 1 i32 2\n"
+    );
+    assert_eq!(rt; done.noted.as_slice(), b"mps".as_slice());
+    Ok(())
+}
+
+#[test]
+fn says_why_it_refuses_a_recording(rt: HostRuntime) -> Result<(), Fail> {
+    let cases = [
+        (
+            ["m", "p", "s", "4096"],
+            "go 0 0\n",
+            "refused 18 BadSchedule 1\n",
+            "mps",
+        ),
+        (
+            ["m", "p", "s", "0"],
+            "go 0 1\n",
+            "refused 31 Empty\n",
+            "mps",
+        ),
+        (
+            ["m", "p", "s", "4097"],
+            "go 0 1\n",
+            "refused 32 TooMany\n",
+            "mps",
+        ),
+        (
+            ["p", "p", "s", "0"],
+            "go 0 0\n",
+            "refused 1 Refused 0\n",
+            "p",
+        ),
+        (
+            ["m", "m", "s", "0"],
+            "go 0 0\n",
+            "refused 13 BadLine 1\n",
+            "mm",
+        ),
+        (["n", "n", "n", "0"], "", "refused 44 SourceFailed\n", "n"),
+        (["m", "n", "n", "0"], "", "refused 44 SourceFailed\n", "mn"),
+        (["m", "p", "n", "0"], "", "refused 44 SourceFailed\n", "mpn"),
+    ];
+    for ([module, plan, schedule, size], picks, line, noted) in cases {
+        let words = [
+            "wreplay",
+            "record",
+            module,
+            plan,
+            "--schedule",
+            schedule,
+            "--size",
+            size,
+            "--report",
+        ];
+        let refused = running(rt.alloc(), words.as_slice(), picks, "");
+        assert_eq!(rt; text(&refused.errors), line);
+        assert_eq!(rt; text(&refused.output), "");
+        assert_eq!(rt; refused.status, 1);
+        assert_eq!(rt; refused.noted.as_slice(), noted.as_bytes());
+    }
+    Ok(())
+}
+
+#[test]
+fn says_why_it_refuses_a_replay(rt: HostRuntime) -> Result<(), Fail> {
+    let cases = [
+        ("m", "", "refused 53 Missing 1 0\n", "mpl"),
+        ("m", "zz", "refused 43 BadLine 1\n", "mpl"),
+        ("m", OTHER, "refused 51 OtherRun\n", "mpl"),
+        ("p", "zz", "refused 1 Refused 0\n", "p"),
+    ];
+    for (module, lines, line, noted) in cases {
+        let words = ["wreplay", "replay", module, "p", "l", "--order", "1,0"];
+        let refused = running(rt.alloc(), words.as_slice(), "", lines);
+        assert_eq!(rt; text(&refused.errors), line);
+        assert_eq!(rt; text(&refused.output), "");
+        assert_eq!(rt; refused.status, 1);
+        assert_eq!(rt; refused.noted.as_slice(), noted.as_bytes());
+    }
+    Ok(())
+}
+
+#[test]
+fn refuses_values_that_it_does_not_understand(rt: HostRuntime) -> Result<(), Fail> {
+    let cases = [
+        ["wreplay", "record", "m", "p", "--report", "--run", "1"],
+        ["wreplay", "replay", "m", "p", "l", "--order", ""],
+        ["wreplay", "replay", "m", "p", "l", "--order", "1,"],
+        ["wreplay", "replay", "m", "p", "l", "--order", "+1"],
+        ["wreplay", "replay", "m", "p", "l", "--order", "4294967296"],
+    ];
+    for words in cases {
+        let unknown = running(rt.alloc(), words.as_slice(), "", "");
+        assert_eq!(rt; unknown.status, 2);
+        assert_eq!(rt; text(&unknown.output), "");
+        assert!(rt; text(&unknown.errors).starts_with("error: "));
+        assert_eq!(rt; unknown.noted.as_slice(), b"".as_slice());
+    }
+    let values = [
+        ["--block", "96"],
+        ["--block", "32"],
+        ["--steps", "1000000001"],
+        ["--size", "-1"],
+        ["--run", "18446744073709551616"],
+        ["--timeouts", "later"],
+    ];
+    for [option, value] in values {
+        let words = [
+            "wreplay",
+            "record",
+            "m",
+            "p",
+            "--schedule",
+            "s",
+            "--report",
+            option,
+            value,
+        ];
+        let unknown = running(rt.alloc(), words.as_slice(), "", "");
+        assert_eq!(rt; unknown.status, 2);
+        assert_eq!(rt; unknown.noted.as_slice(), b"".as_slice());
+    }
+    Ok(())
+}

@@ -1,0 +1,11 @@
+//! The whole program, but for the streams and files of the process.
+#![tactic(auto)]
+
+mod answering;
+
+pub use answering::{refuse_words, run};
+
+#[cfg(test)]
+mod command_tests;
+#[cfg(test)]
+mod gather_tests;

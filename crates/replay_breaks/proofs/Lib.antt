@@ -1,0 +1,6 @@
+pub mod Marking
+pub mod Testing
+pub mod Ending
+pub mod Taking
+pub mod Rounds
+pub mod Recorded

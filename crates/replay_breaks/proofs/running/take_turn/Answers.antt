@@ -1,0 +1,40 @@
+use Rattle.std.proofs.Common.{sym, ◌∙◌, subst}
+use Rattle.event_core.specs.World.{world_of}
+use Rattle.replay_breaks.specs.Marks.{AreMarks}
+use Rattle.replay_breaks.specs.Tests.{IsFirst, HoldsNone}
+use Rattle.replay_breaks.proofs.Taking.{fault_stops, first_hits, none_hits}
+use Rattle.replay_breaks.proofs.running.take_turn.Goals as goal
+
+pub returns-else-is_passed_over-clause-stops : goal.returns-else-is_passed_over-clause-stops
+returns-else-is_passed_over-clause-stops g c = (
+  fault_stops g.S.ObjectSpace.meaning g.M.Machine.code (g.L.ReadLog.log c.args.replay.now.log) (world_of c.args.replay.now.world) c.args.thread c.in-Err.fault c.in-Err.ensures.refused (sym c.is_passed_over.ensures ∙ c.if-is_passed_over.false),
+  c.in-Err.ensures.unchanged,
+)
+
+pub returns-in-Some-clause-stops : goal.returns-in-Some-clause-stops
+returns-in-Some-clause-stops g c =
+    let space = g.S.ObjectSpace.meaning in
+    let code = g.M.Machine.code in
+    let w = world_of c.args.replay.now.world in
+    let v = world_of c.turn.new.self.world in
+    let t = c.args.thread in
+    let d = c.in-Ok.turned in
+    let marks = c.marks_of-marks.result in
+    let m = subst (λ x. AreMarks space code (world_of x) t marks) c.world.ensures c.marks_of-marks.ensures in
+    let first = subst (λ x. IsFirst code c.args.breaks.now t d marks (world_of x) c.in-Some.index) c.world-else-is_done.ensures c.in-Some.ensures.some in (
+      first_hits space code (g.L.ReadLog.log c.args.replay.now.log) w t d marks v m c.in-Ok.ensures.ok c.in-Ok.ensures.world c.args.breaks.now c.in-Some.index (sym c.is_done.ensures ∙ c.if-is_done.false) first,
+      c.in-Ok.ensures.world,
+    )
+
+pub returns-in-None-clause-none : goal.returns-in-None-clause-none
+returns-in-None-clause-none g c =
+    let space = g.S.ObjectSpace.meaning in
+    let code = g.M.Machine.code in
+    let w = world_of c.args.replay.now.world in
+    let v = world_of c.turn.new.self.world in
+    let t = c.args.thread in
+    let d = c.in-Ok.turned in
+    let marks = c.marks_of-marks.result in
+    let m = subst (λ x. AreMarks space code (world_of x) t marks) c.world.ensures c.marks_of-marks.ensures in
+    let none = subst (λ x. HoldsNone code c.args.breaks.now t d marks (world_of x)) c.world-else-is_done.ensures (c.first_that_holds.ensures.none c.in-None.is) in
+    none_hits space code (g.L.ReadLog.log c.args.replay.now.log) w t d marks v m c.in-Ok.ensures.ok c.in-Ok.ensures.world c.args.breaks.now none

@@ -1,0 +1,5 @@
+pub mod Breaks
+pub mod Marks
+pub mod Tests
+pub mod Stops
+pub mod Rounds

@@ -1,0 +1,9 @@
+//! The stop of a replay at a break.
+#![tactic(auto)]
+
+mod breaks;
+mod marks;
+mod running;
+
+pub use breaks::{Break, Stopped};
+pub use running::run_to;

@@ -1,0 +1,96 @@
+//! What the next event of a thread may write.
+
+ghost use Rattle.std.specs.Prelude.{◌≡◌, ◌||◌};
+ghost use Rattle.rw_objects.specs.Counts.{count_at};
+ghost use Rattle.event_core.specs.World.{world_of, step_of_pick};
+ghost use Rattle.replay_breaks.specs.Marks.{marks_of_step, is_any_rewritten, AreMarks};
+
+use event_core::{Input, Pick, PickStep, World};
+use rw_objects::{Few, Machine, ObjectSpace, Versions};
+use std::alloc::Global;
+
+/// An object, and its version.
+#[derive(Clone, Copy, Debug, PartialEq, Eq, Default)]
+pub struct Mark {
+    pub object: u32,
+    pub version: u64,
+}
+
+/// The objects that a thread touches if it goes on, and if it times out, with their versions before.
+#[derive(Debug, Drop)]
+pub struct Marks {
+    pub goes: Few<Mark>,
+    pub times_out: Few<Mark>,
+}
+
+/// The objects that a pick touches, with their versions.
+fn marks_of_pick<M: Machine<S>, S: ObjectSpace>(
+    alloc: Global,
+    world: &World<M, S>,
+    pick: Pick,
+) -> Few<Mark>
+    ensures { result ≡ marks_of_step S.meaning (world_of world.now).memory.counts (step_of_pick S.meaning M.code (world_of world.now) pick) }
+{
+    let mut marks = Few::new(alloc);
+    if let PickStep::Event(op) = world.step_of(pick) {
+        let touches = S::touches(alloc, &op);
+        for touch in touches.as_slice() {
+            let object = touch.object;
+            let version = world.versions().at(object).version;
+            marks.push(Mark { object, version });
+        }
+    }
+    marks
+}
+
+/// The objects that a thread's next event may touch, with their versions.
+pub(crate) fn marks_of<M: Machine<S>, S: ObjectSpace>(
+    alloc: Global,
+    world: &World<M, S>,
+    thread: u32,
+) -> Marks
+    ensures { AreMarks S.meaning M.code (world_of world.now) thread result }
+{
+    let goes = marks_of_pick(
+        alloc,
+        world,
+        Pick {
+            thread,
+            input: Input::Go,
+        },
+    );
+    let times_out = marks_of_pick(
+        alloc,
+        world,
+        Pick {
+            thread,
+            input: Input::TimeOut,
+        },
+    );
+    Marks { goes, times_out }
+}
+
+/// Whether a marked object of the range has another version.
+fn is_any_rewritten(marks: &[Mark], versions: &Versions, from: u32, until: u32) -> bool
+    ensures { result ≡ is_any_rewritten from until (count_at versions.now) marks.now }
+{
+    match marks {
+        [] => false,
+        [mark, rest @ ..] => {
+            (from <= mark.object
+                && mark.object < until
+                && versions.at(mark.object).version != mark.version)
+                || is_any_rewritten(rest, versions, from, until)
+        }
+    }
+}
+
+impl Marks {
+    /// Whether a marked object of the range has another version.
+    pub(crate) fn are_rewritten(&self, versions: &Versions, from: u32, until: u32) -> bool
+        ensures { result ≡ (is_any_rewritten from until (count_at versions.now) self.now.goes || is_any_rewritten from until (count_at versions.now) self.now.times_out) }
+    {
+        is_any_rewritten(self.goes.as_slice(), versions, from, until)
+            || is_any_rewritten(self.times_out.as_slice(), versions, from, until)
+    }
+}

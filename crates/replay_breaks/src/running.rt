@@ -1,0 +1,197 @@
+//! Replay up to a break.
+
+ghost use Rattle.std.specs.Prelude.{◌≡◌, ◌||◌, None, IfSome, IfOk, IfErr};
+ghost use Rattle.event_core.specs.World.{world_of};
+ghost use Rattle.replay_laws.specs.Turns.{turn_of, world_after_turn};
+ghost use Rattle.replay_breaks.specs.Tests.{holds_by, IsFirst, HoldsNone};
+ghost use Rattle.replay_breaks.specs.Breaks.{NoneHits};
+ghost use Rattle.replay_breaks.specs.Stops.{GoesOn, taken_of, is_step, is_held, is_passed_over, is_done, TurnStopsAt, StopsAt, StopsRight, StopsFree};
+
+use crate::breaks::{Break, Stopped};
+use crate::marks::{Marks, marks_of};
+use event_core::World;
+use replay_gate::{OpenWorld, ReadLog, Replay, ReplayFault, Turned};
+use rw_objects::{Machine, ObjectSpace};
+use std::alloc::Global;
+
+/// What a turn did that stops no run.
+#[derive(Clone, Copy, Debug, PartialEq, Eq)]
+pub enum Taken {
+    /// Nothing: the thread stands at its logged end, or there is none of that number.
+    Done,
+    /// Nothing: the log does not let its next step pass, or does not know it.
+    Held,
+    /// A step, behind which no break holds.
+    Step,
+}
+
+impl Taken {
+    fn is_step(self) -> bool
+        ensures { result ≡ is_step self }
+    {
+        match self {
+            Taken::Done | Taken::Held => false,
+            Taken::Step => true,
+        }
+    }
+
+    fn is_held(self) -> bool
+        ensures { result ≡ is_held self }
+    {
+        match self {
+            Taken::Done | Taken::Step => false,
+            Taken::Held => true,
+        }
+    }
+}
+
+fn either(a: bool, b: bool) -> bool
+    ensures { result ≡ (a || b) }
+{
+    a || b
+}
+
+/// Whether a turn that was refused so stops no run.
+fn is_passed_over(fault: ReplayFault) -> bool
+    ensures { result ≡ is_passed_over fault }
+{
+    match fault {
+        ReplayFault::Missing { .. } | ReplayFault::Clash { .. } | ReplayFault::Shut => true,
+        ReplayFault::Diverged { .. } | ReplayFault::NoMemory | ReplayFault::Stuck => false,
+    }
+}
+
+/// Whether a turn that was not refused made no step.
+fn is_done(turned: Turned) -> bool
+    ensures { result ≡ is_done turned }
+{
+    match turned {
+        Turned::Done => true,
+        Turned::Local | Turned::Event => false,
+    }
+}
+
+/// Whether a break holds behind a turn of a thread that made a step.
+fn holds<M: Machine<S>, S: ObjectSpace>(
+    one: Break,
+    thread: u32,
+    turned: Turned,
+    marks: &Marks,
+    world: &World<M, S>,
+) -> bool
+    ensures { result ≡ holds_by M.code one thread turned marks.now (world_of world.now) }
+{
+    match one {
+        Break::Place { thread: of, place } => {
+            thread == of && turned == Turned::Event && world.places(thread) == Some(place)
+        }
+        Break::Step { thread: of, steps } => { thread == of && world.steps(thread) == Some(steps) }
+        Break::Write { from, until } => marks.are_rewritten(world.versions(), from, until),
+    }
+}
+
+/// The first break of the list that holds behind a turn of a thread that made a step.
+fn first_that_holds<M: Machine<S>, S: ObjectSpace>(
+    breaks: &[Break],
+    thread: u32,
+    turned: Turned,
+    marks: &Marks,
+    world: &World<M, S>,
+) -> Option<usize>
+    ensures some { IfSome result (λ index. IsFirst M.code breaks.now thread turned marks.now (world_of world.now) index) }
+    ensures none { result ≡ None → HoldsNone M.code breaks.now thread turned marks.now (world_of world.now) }
+{
+    for (index, one) in breaks.iter().enumerate() {
+        if holds(*one, thread, turned, marks, world) {
+            return Some(index);
+        }
+    }
+    None
+}
+
+/// A turn of a thread, and the test of the breaks behind its step.
+fn take_turn<M: Machine<S>, S: ObjectSpace, L: ReadLog, O: OpenWorld<M, S>>(
+    alloc: Global,
+    replay: &mut Replay<M, S, L, O>,
+    thread: u32,
+    breaks: &[Break],
+) -> Result<Taken, Stopped>
+    ensures log { replay.new.log ≡ replay.old.log }
+    ensures opens { replay.new.opens ≡ replay.old.opens }
+    ensures taken { IfOk result (λ taken. taken ≡ taken_of (turn_of S.meaning M.code (L.log replay.old.log) (world_of replay.old.world) thread)) }
+    ensures on { IfOk result (λ taken. GoesOn (turn_of S.meaning M.code (L.log replay.old.log) (world_of replay.old.world) thread)) }
+    ensures none { IfOk result (λ taken. NoneHits S.meaning M.code (L.log replay.old.log) (world_of replay.old.world) thread breaks.now) }
+    ensures world { IfOk result (λ taken. world_of replay.new.world ≡ world_after_turn S.meaning M.code (world_of replay.old.world) thread (turn_of S.meaning M.code (L.log replay.old.log) (world_of replay.old.world) thread)) }
+    ensures stops { IfErr result (TurnStopsAt S.meaning M.code (L.log replay.old.log) (world_of replay.old.world) thread breaks.now (world_of replay.new.world)) }
+{
+    let marks = marks_of(alloc, replay.world(), thread);
+    match replay.turn(alloc, thread) {
+        Err(fault) => {
+            if is_passed_over(fault) {
+                Ok(Taken::Held)
+            } else {
+                Err(Stopped::Fault(fault))
+            }
+        }
+        Ok(turned) => {
+            if is_done(turned) {
+                Ok(Taken::Done)
+            } else {
+                match first_that_holds(breaks, thread, turned, &marks, replay.world()) {
+                    Some(index) => Err(Stopped::Break(index)),
+                    None => Ok(Taken::Step),
+                }
+            }
+        }
+    }
+}
+
+/// Takes turns of a replay up to a break: a turn for each thread of the order, then rounds of threads 0, 1, .., until a
+/// break holds behind a turn that made a step, no thread has a step any more, or a turn is refused for divergence or want
+/// of memory. Threads that are done, that the log does not let pass, or of which it does not know are passed over. The
+/// replay can go on from there. On a log below that of a run no thread diverges; on the whole log of a run it is never
+/// stuck.
+pub fn run_to<M: Machine<S>, S: ObjectSpace, L: ReadLog, O: OpenWorld<M, S>>(
+    alloc: Global,
+    replay: &mut Replay<M, S, L, O>,
+    order: &[u32],
+    breaks: &[Break],
+) -> Stopped
+    ensures log { replay.new.log ≡ replay.old.log }
+    ensures opens { replay.new.opens ≡ replay.old.opens }
+    ensures stops { StopsAt S.meaning M.code (L.log replay.old.log) (world_of replay.old.world) order.now breaks.now (world_of replay.new.world) result }
+    ensures right { StopsRight S.meaning M.code (L.log replay.old.log) (O.opened replay.old.opens) result }
+    ensures free { StopsFree S.meaning M.code (L.log replay.old.log) (O.opened replay.old.opens) result }
+{
+    for thread in order {
+        match take_turn(alloc, replay, *thread, breaks) {
+            Ok(_) => {}
+            Err(stopped) => return stopped,
+        }
+    }
+    let count = replay.world().count() as u32;
+    let mut next: u32 = 0;
+    let mut made = false;
+    let mut held = false;
+    while made || next < count {
+        if next < count {
+            match take_turn(alloc, replay, next, breaks) {
+                Ok(taken) => {
+                    made = either(made, taken.is_step());
+                    held = either(held, taken.is_held());
+                }
+                Err(stopped) => return stopped,
+            }
+            next += 1;
+        } else {
+            next = 0;
+            made = false;
+            held = false;
+        }
+    }
+    if held {
+        Stopped::Stuck
+    } else {
+        Stopped::Finished
+    }
+}

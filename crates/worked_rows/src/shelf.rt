@@ -1,0 +1,61 @@
+//! Files that commands kept, and those of the system.
+
+use commands::{FileFault, Files};
+use std::alloc::Global;
+use std::fs;
+use std::io::ErrorKind;
+
+/// A file that a command kept.
+#[derive(Drop)]
+struct Kept {
+    name: String,
+    bytes: Vec<u8>,
+}
+
+/// Files that commands kept, before those of the system.
+#[derive(Drop)]
+pub(crate) struct Shelf {
+    runtime: HostRuntime,
+    kept: Vec<Kept>,
+}
+
+impl Shelf {
+    /// No file kept yet.
+    pub(crate) fn new(runtime: HostRuntime) -> Shelf {
+        Shelf {
+            runtime,
+            kept: Vec::new(runtime.alloc()),
+        }
+    }
+
+    /// Keeps a file under a name.
+    pub(crate) fn keep(&mut self, name: &str, bytes: &[u8]) -> anyhow::Result<()> {
+        let alloc = self.runtime.alloc();
+        let name = String::from_str(alloc, name)?;
+        let bytes = Vec::from_slice(alloc, bytes)?;
+        self.kept.push(Kept { name, bytes })?;
+        Ok(())
+    }
+}
+
+impl Files for Shelf {
+    ghost holds = { λ files path bytes. Unit {0} };
+
+    ghost fails = { λ files path. Unit {0} };
+
+    fn read(&mut self, alloc: Global, path: &str) -> Result<Vec<u8>, FileFault> {
+        for kept in &self.kept {
+            if kept.name.as_str() == path {
+                return match Vec::from_slice(alloc, &kept.bytes) {
+                    Ok(bytes) => Ok(bytes),
+                    Err(_) => Err(FileFault::NoMemory),
+                };
+            }
+        }
+        match fs::read(&self.runtime, path) {
+            Ok(bytes) => Ok(bytes),
+            Err(error) if error.kind() == ErrorKind::OutOfMemory => Err(FileFault::NoMemory),
+            Err(_) => Err(FileFault::NotRead),
+        }
+    }
+}
