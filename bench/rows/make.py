@@ -2,6 +2,7 @@
 recordings of profile 1 by what was recorded apart."""
 import os, struct, sys
 from model import Module, World, digest
+from views import stop, view
 
 TARGET = sys.argv[1]
 DATA = os.path.join(TARGET, 'data')
@@ -194,6 +195,39 @@ refused('replay large.wasm counter.plan large.pieces', '58 OldProfile')
 # the pieces of the missing place, found
 script.append('record counter.wasm counter.plan --schedule first.schedule > whole.pieces'); expected.append('$ wreplay ' + script[-1] + '\n')
 command('replay counter.wasm counter.plan whole.pieces', FIRST.report())
+
+# ---- views of a replay that stops
+
+def viewed(pieces, entries, ends, order='', place=None, step=None, write=None, start=None, length=None):
+    line = 'view counter.wasm counter.plan %s.pieces' % pieces
+    if order: line += ' --order ' + order
+    if place: line += ' --place %d.%d' % place
+    if step: line += ' --step %d.%d' % step
+    if write: line += ' --write %d+%d' % write
+    if start is not None: line += ' --from %d' % start
+    if length is not None: line += ' --len %d' % length
+    stopped, world = stop(World(COUNTER, TWO), entries, ends, [int(n) for n in order.split(',')] if order else [], place, step, write)
+    command(line, view(stopped, world, start or 0, 64 if length is None else length))
+ENTRIES = {(n, p): e for n, t in enumerate(FIRST.threads) for p, e in enumerate(t.entries)}
+ENDS = {t.n: (t.steps, len(t.entries), FIRST.outcome(t)) for t in FIRST.threads}
+HOLE = {at: e for at, e in ENTRIES.items() if at != (1, 1)}
+viewed('hole', HOLE, ENDS, length=16)
+for order in ORDERS + ('1,1,1,1,7,0,0',):
+    viewed('whole', ENTRIES, ENDS, order)
+    for thread in (0, 1):
+        for n in (0, 1, 2, 3, 8): viewed('whole', ENTRIES, ENDS, order, place=(thread, n)); viewed('whole', ENTRIES, ENDS, order, step=(thread, n))
+    for write in ((0, 4), (3, 1), (63, 2), (64, 64), (0, 0), (0, 4294967295)): viewed('whole', ENTRIES, ENDS, order, write=write, length=16)
+    viewed('whole', ENTRIES, ENDS, order, place=(1, 1), step=(1, 3), write=(0, 1), start=0, length=0)
+    viewed('whole', ENTRIES, ENDS, order, place=(1, 1), step=(0, 5), start=65520, length=16)
+viewed('whole', ENTRIES, ENDS, place=(7, 1), start=60, length=70)
+viewed('hole', HOLE, ENDS, step=(1, 6), start=1, length=17)
+refused('view counter.wasm counter.plan whole.pieces --from 65530 --len 64', '61 OutOfView')
+refused('view counter.wasm counter.plan whole.pieces --from 4294967295 --len 4294967295', '61 OutOfView')
+refused('view readers.wasm readers.plan whole.pieces', '51 OtherRun')
+refused('view large.wasm counter.plan large.pieces', '58 OldProfile')
+refused('view counter.wasm counter.plan kind.pieces', '55 Diverged 0 0')
+refused('view counter.wasm counter.plan absent.pieces', '44 SourceFailed')
+refused('view bad.wasm bad.plan absent.pieces', '1 Refused 33')
 
 # recordings of profile 1 that were made apart: their listings, and their replays by three orders
 ROWS = os.path.join(os.path.dirname(os.path.abspath(__file__)), 'profile1')

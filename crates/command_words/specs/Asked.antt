@@ -1,14 +1,17 @@
 -- What command lines ask for.
-use Rattle.std.specs.Prelude.{◌≡◌, ◌⊎◌, ◌≤◌, ◌^◌, ◌||◌, ℕ, Bool, true, false, List, [], Option, Some, None, codes}
+use Rattle.std.specs.Prelude.{◌≡◌, ◌⊎◌, ◌≤◌, ◌^◌, ◌||◌, ℕ, Bool, true, false, List, [], Option, Some, None, codes, option_map}
 use Rattle.std.specs.Str.{bytes_eq}
 use Rattle.clap.specs.Words.{Text, Row, first_of, subcommand_of, fault_of, IsAmong}
 use Rattle.clap.specs.declared.error.kind.ErrorKind.TheVariants as kind
-use Rattle.command_words.specs.Words.{number_up_to, order_in}
+use Rattle.command_words.specs.Words.{number_up_to, order_in, pair_in}
 use Rattle.command_words.specs.Commands.{program}
 use Rattle.command_words.specs.declared.requests.Request.{Request}
-use Rattle.command_words.specs.declared.requests.Request.TheVariants.{Gather, Check, Record, Replay}
+use Rattle.command_words.specs.declared.requests.Request.TheVariants.{Gather, Check, Record, Replay, View}
 use Rattle.command_words.specs.declared.requests.RecordRequest.{RecordRequest}
 use Rattle.command_words.specs.declared.requests.ReplayRequest.{ReplayRequest}
+use Rattle.command_words.specs.declared.requests.ThreadCount.{ThreadCount}
+use Rattle.command_words.specs.declared.requests.ByteRange.{ByteRange}
+use Rattle.command_words.specs.declared.requests.ViewRequest.{ViewRequest}
 use Rattle.command_words.specs.declared.command.Asked.{Asked}
 use Rattle.command_words.specs.declared.command.Asked.TheVariants as asked
 
@@ -21,6 +24,11 @@ number_of most (Some text) = number_up_to most text
 abbrev pub order_of : Option Text → Option (List ℕ)
 order_of None = Some []
 order_of (Some text) = order_in text
+
+-- no break is none, and another text must be two numbers
+abbrev pub pair_of_option : ℕ → Option Text → Option (Option (ℕ × ℕ))
+pair_of_option separator None = Some None
+pair_of_option separator (Some text) = option_map Some (pair_in separator text)
 
 abbrev pub is_text : Text → Option Text → Bool
 is_text expected None = false
@@ -49,12 +57,29 @@ pub record IsReplayAsked (rows : List Row) (r : ReplayRequest) : Type 0 where
   pub has_pieces : first_of (codes "PIECES") rows ≡ Some r.pieces.now
   pub has_order : order_of (first_of (codes "order") rows) ≡ Some r.order.items
 
+-- `T.N`, and `FROM+LEN`
+abbrev pub IsCountAsked : Option Text → Option ThreadCount → Type 0
+IsCountAsked text count = pair_of_option 46 text ≡ Some (option_map (λ c. (c.thread, c.count)) count)
+
+abbrev pub IsRangeAsked : Option Text → Option ByteRange → Type 0
+IsRangeAsked text range = pair_of_option 43 text ≡ Some (option_map (λ r. (r.from, r.len)) range)
+
+-- the values that a parser found ask for this view
+pub record IsViewAsked (rows : List Row) (v : ViewRequest) : Type 0 where
+  pub has_replay : IsReplayAsked rows v.replay
+  pub has_place : IsCountAsked (first_of (codes "place") rows) v.place
+  pub has_step : IsCountAsked (first_of (codes "step") rows) v.step
+  pub has_write : IsRangeAsked (first_of (codes "write") rows) v.write
+  pub has_from : number_of 4294967295 (first_of (codes "from") rows) ≡ Some v.range.from
+  pub has_len : number_of 4294967295 (first_of (codes "len") rows) ≡ Some v.range.len
+
 -- a command and its values ask for this
 abbrev pub IsAsked : Text → List Row → Request → Type 0
 IsAsked name rows Gather = name ≡ codes "gather"
 IsAsked name rows (Check path) = (name ≡ codes "check") × (first_of (codes "MODULE") rows ≡ Some path.now)
 IsAsked name rows (Record r) = (name ≡ codes "record") × IsRecordAsked rows r
 IsAsked name rows (Replay r) = (name ≡ codes "replay") × IsReplayAsked rows r
+IsAsked name rows (View v) = (name ≡ codes "view") × IsViewAsked rows v
 
 -- the same of a command and its values that a parser found
 abbrev pub IsFoundBy : Option (Text × List Row) → Request → Type 0

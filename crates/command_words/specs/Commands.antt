@@ -37,12 +37,22 @@ abbrev pub recording : App
 recording = with_rule (with_rule (with_numbers (with_rule (on_program (new_app (codes "record"))) (record (option_rule (codes "schedule")) { required = true })))
     (default_rule (codes "timeouts") (codes "never"))) (flag_rule (codes "report"))
 
+-- a replay's files, and its order
+abbrev pub on_pieces : App → App
+on_pieces a = with_rule (with_rule (on_program a) (file_rule (codes "PIECES"))) (option_rule (codes "order"))
+
 abbrev pub replaying : App
-replaying = with_rule (with_rule (on_program (new_app (codes "replay"))) (file_rule (codes "PIECES"))) (option_rule (codes "order"))
+replaying = on_pieces (new_app (codes "replay"))
+
+abbrev pub with_breaks : App → App
+with_breaks a = with_rule (with_rule (with_rule a (option_rule (codes "place"))) (option_rule (codes "step"))) (option_rule (codes "write"))
+
+abbrev pub viewing : App
+viewing = with_rule (with_rule (with_breaks (on_pieces (new_app (codes "view")))) (default_rule (codes "from") (codes "0"))) (default_rule (codes "len") (codes "64"))
 
 -- the program before its commands, one of which is required
 abbrev pub above : App
 above = record { top = record (new_app (codes "wreplay")).top { has_version = true; subcommand_required = true }; subs = [] }
 
 abbrev pub program : App
-program = with_subcommand (with_subcommand (with_subcommand (with_subcommand above check.top) recording.top) replaying.top) gather.top
+program = with_subcommand (with_subcommand (with_subcommand (with_subcommand (with_subcommand above check.top) recording.top) replaying.top) viewing.top) gather.top

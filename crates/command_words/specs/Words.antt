@@ -22,6 +22,18 @@ abbrev pub threads_in : List (List ℕ) → Option (List ℕ)
 threads_in [] = Some []
 threads_in (part ∷ parts) = in_front (number_up_to 4294967295 part) (threads_in parts)
 
+abbrev pub both : Option ℕ → Option ℕ → Option (ℕ × ℕ)
+both (Some first) (Some second) = Some (first, second)
+both _ _ = None
+
+abbrev pub pair_of : List (List ℕ) → Option (ℕ × ℕ)
+pair_of (first ∷ second ∷ []) = both (number_up_to 4294967295 first) (number_up_to 4294967295 second)
+pair_of _ = None
+
+-- the two numbers that a separator stands between
+abbrev pub pair_in : ℕ → List ℕ → Option (ℕ × ℕ)
+pair_in separator text = pair_of (parts separator text)
+
 -- the numbers that stand between commas, at most 1,000,000 of them
 abbrev pub order_in : List ℕ → Option (List ℕ)
 order_in text = if nat_le (length (parts 44 text)) 1000000 then threads_in (parts 44 text) else None

@@ -3,7 +3,7 @@
 ghost use Rattle.std.specs.Prelude.{◌≡◌, map, IfOk, codes, true, false};
 ghost use Rattle.clap.specs.Words.{app_of, rule_of, shape_of, new_app, with_rule, with_subcommand};
 ghost use Rattle.clap.specs.declared.builder.command.Command.TheViews.{out-Command};
-ghost use Rattle.command_words.specs.Commands.{program, gather, check, recording, replaying, on_program, with_numbers, file_rule, option_rule, default_rule, flag_rule};
+ghost use Rattle.command_words.specs.Commands.{program, gather, check, recording, replaying, viewing, on_program, on_pieces, with_breaks, with_numbers, file_rule, option_rule, default_rule, flag_rule};
 ghost use Rattle.command_words.specs.Asked.{IsRequested, IsFound};
 ghost use Rattle.clap.specs.Words.{subcommand_rows_of};
 
@@ -187,6 +187,18 @@ fn record_command<'a>(alloc: Global) -> Result<Command<'a>, AllocError>
     with_argument(command, report)
 }
 
+/// A command on the pieces of a run of a module and a plan, with an order.
+fn on_pieces<'a>(alloc: Global, command: Command<'a>) -> Result<Command<'a>, AllocError>
+    ensures app { IfOk result (λ c. app_of c ≡ on_pieces (app_of command.entry)) }
+    ensures local { IfOk result (λ c. (out-Command c).has_globals ≡ (out-Command command.entry).has_globals) }
+{
+    let pieces = file(alloc, "PIECES", "The file of the piece lines");
+    let order = "Threads that take turns first: numbers joined by commas";
+    let order = option(alloc, "order", "LIST", order);
+    let command = with_argument(on_program(alloc, command)?, pieces)?;
+    with_argument(command, order)
+}
+
 /// The command `replay`.
 fn replay_command<'a>(alloc: Global) -> Result<Command<'a>, AllocError>
     ensures app { IfOk result (λ c. app_of c ≡ replaying) }
@@ -196,11 +208,46 @@ fn replay_command<'a>(alloc: Global) -> Result<Command<'a>, AllocError>
         .about("Make a recorded run again, and write what it came to")
         .long_about(help::REPLAY_ABOUT)
         .after_help(help::REPLAY_REFUSALS);
-    let pieces = file(alloc, "PIECES", "The file of the piece lines");
-    let order = "Threads that take turns first: numbers joined by commas";
-    let order = option(alloc, "order", "LIST", order);
-    let command = with_argument(on_program(alloc, command)?, pieces)?;
-    with_argument(command, order)
+    on_pieces(alloc, command)
+}
+
+/// A command with the breaks of `view`.
+fn with_breaks<'a>(alloc: Global, command: Command<'a>) -> Result<Command<'a>, AllocError>
+    ensures app { IfOk result (λ c. app_of c ≡ with_breaks (app_of command.entry)) }
+    ensures local { IfOk result (λ c. (out-Command c).has_globals ≡ (out-Command command.entry).has_globals) }
+{
+    let place = "Stop where thread T has made P accesses";
+    let place = option(alloc, "place", "T.P", place);
+    let step = option(alloc, "step", "T.N", "Stop where thread T has made N steps");
+    let write = "Stop behind a write of a block that holds one of LEN bytes from FROM on";
+    let write = option(alloc, "write", "FROM+LEN", write);
+    let command = with_argument(command, place)?;
+    let command = with_argument(command, step)?;
+    with_argument(command, write)
+}
+
+/// The command `view`, without its arguments.
+fn bare_view<'a>(alloc: Global) -> Command<'a>
+    ensures app { app_of result ≡ new_app (codes "view") }
+    ensures local { (out-Command result).has_globals ≡ false }
+{
+    Command::new(alloc, "view")
+        .about("Stop a replay where it matters, and show it")
+        .long_about(help::VIEW_ABOUT)
+        .after_help(help::VIEW_REFUSALS)
+}
+
+/// The command `view`.
+fn view_command<'a>(alloc: Global) -> Result<Command<'a>, AllocError>
+    ensures app { IfOk result (λ c. app_of c ≡ viewing) }
+    ensures local { IfOk result (λ c. (out-Command c).has_globals ≡ false) }
+{
+    let from = default_option(alloc, "from", "N", "0", "The first byte that is shown");
+    let len = default_option(alloc, "len", "N", "64", "How many bytes are shown");
+    let command = on_pieces(alloc, bare_view(alloc))?;
+    let command = with_breaks(alloc, command)?;
+    let command = with_argument(command, from)?;
+    with_argument(command, len)
 }
 
 /// The command `gather`.
@@ -221,6 +268,7 @@ fn commands<'a>(alloc: Global) -> Result<Command<'a>, AllocError>
     let check = check_command(alloc)?;
     let record = record_command(alloc)?;
     let replay = replay_command(alloc)?;
+    let view = view_command(alloc)?;
     let command = Command::new(alloc, "wreplay")
         .version("0.1.0")
         .about("Record and replay runs of threaded WebAssembly modules")
@@ -230,6 +278,7 @@ fn commands<'a>(alloc: Global) -> Result<Command<'a>, AllocError>
     let command = with_command(command, check)?;
     let command = with_command(command, record)?;
     let command = with_command(command, replay)?;
+    let command = with_command(command, view)?;
     with_command(command, gather_command(alloc))
 }
 

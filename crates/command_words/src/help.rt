@@ -9,7 +9,8 @@ A recorder logs, for each access of shared memory, only which version of each
 object it met, and writes the log in pieces: lines of hexadecimal digits. The
 pieces of one run may come from several machines, in any order, with repeats,
 and some may be lost. `wreplay gather` joins them into the one log that they
-claim, and `wreplay replay` makes the run again.";
+claim, `wreplay replay` makes the run again, and `wreplay view` stops it where a
+thread has come so far, or where a byte is written.";
 
 /// How the program ends.
 pub(crate) const STATUSES: &str = "\
@@ -175,3 +176,31 @@ Example:
   wreplay record examples/lost.wasm examples/lost.plan \\
       --schedule examples/lost.schedule > pieces.txt
   wreplay replay examples/lost.wasm examples/lost.plan pieces.txt --order 1,0,1";
+
+/// What `view` reads and writes.
+pub(crate) const VIEW_ABOUT: &str = "\
+Replays a run as `wreplay replay` does, stops where a break holds, and shows
+what stands there: why it stopped, how far each thread is, the version and the
+reads of each block of 64 bytes or more that is shown, and its bytes.
+
+Breaks are tested behind each step, in the order place, step, write. Without a
+break, or where none holds, the view is of the replay's end, or of where no
+thread can go on: entries that are missing or clash are passed over.";
+
+/// How `view` refuses.
+pub(crate) const VIEW_REFUSALS: &str = "\
+Refusals (exit status 1), the first of them in this order:
+  refused 1, 2, 3, 11, 12      MODULE, as `wreplay check` refuses it
+  refused 12 to 17             PLAN, as `wreplay record` refuses it
+  refused 41 to 43, 51, 58     PIECES, as `wreplay replay` refuses them
+  refused 55 Diverged T P      thread T cannot do what the log says at place P
+  refused 56 NoMemory          the replay does not fit into memory
+  refused 61 OutOfView         the memory ends before the bytes that are shown
+  refused 62 NoMemory          the view does not fit into memory
+  refused 23 NoMemory          a file or the text does not fit into memory
+  refused 44 SourceFailed      a file can't be read
+  refused 45 SinkFailed        writing failed; a beginning was written
+
+Example:
+  wreplay view examples/lost.wasm examples/lost.plan examples/lost.pieces \\
+      --place 1.2 --len 16";

@@ -8,4 +8,4 @@ mod requests;
 mod wanted;
 
 pub use command::{Asked, requested};
-pub use requests::{RecordRequest, ReplayRequest, Request};
+pub use requests::{ByteRange, RecordRequest, ReplayRequest, Request, ThreadCount, ViewRequest};

@@ -4,7 +4,7 @@ ghost use Rattle.std.specs.Prelude.{◌≡◌, ◌∷◌, [], ◌++◌, List, �
 ghost use Rattle.std.specs.Char.{is_ascii_digit};
 ghost use Rattle.std.specs.List.{list_all};
 ghost use Rattle.text_lines.specs.Parts.{parts_left};
-ghost use Rattle.command_words.specs.Words.{has_digits_alone, number_up_to, threads_in, order_in};
+ghost use Rattle.command_words.specs.Words.{has_digits_alone, number_up_to, threads_in, order_in, pair_in};
 
 use std::alloc::Global;
 use text_lines::Parts;
@@ -54,6 +54,21 @@ pub(crate) fn small_number_up_to(text: &[u8], most: u32) -> Option<u32>
         Some(number) => Some(number as u32),
         None => None,
     }
+}
+
+/// The two numbers that a separator stands between.
+pub(crate) fn pair_in(text: &[u8], separator: u8) -> Option<(u32, u32)>
+    ensures { result ≡ pair_in separator text.now }
+{
+    let mut parts = Parts::new(text, separator);
+    let first = parts.take_part()?;
+    let second = parts.take_part()?;
+    if parts.take_part().is_some() {
+        return None;
+    }
+    let first = small_number_up_to(first, u32::MAX)?;
+    let second = small_number_up_to(second, u32::MAX)?;
+    Some((first, second))
 }
 
 /// The numbers that a text lists, joined by commas: at least one, and at most 1,000,000.

@@ -28,6 +28,34 @@ pub struct ReplayRequest<'a> {
     pub order: Vec<u32>,
 }
 
+/// So many events or steps of a thread.
+#[derive(Clone, Copy, Debug, PartialEq, Eq)]
+pub struct ThreadCount {
+    pub thread: u32,
+    pub count: u32,
+}
+
+/// So many bytes of the memory, from an address on.
+#[derive(Clone, Copy, Debug, PartialEq, Eq)]
+pub struct ByteRange {
+    pub from: u32,
+    pub len: u32,
+}
+
+/// A view of a replay: where it stops, and which bytes are shown.
+#[derive(Drop)]
+pub struct ViewRequest<'a> {
+    pub replay: ReplayRequest<'a>,
+    /// Stop where the thread has made so many events.
+    pub place: Option<ThreadCount>,
+    /// Stop where the thread has made so many steps.
+    pub step: Option<ThreadCount>,
+    /// Stop behind a write of a block that holds one of these bytes.
+    pub write: Option<ByteRange>,
+    /// The bytes that are shown.
+    pub range: ByteRange,
+}
+
 /// What a command line asks for.
 #[derive(Drop)]
 pub enum Request<'a> {
@@ -39,4 +67,6 @@ pub enum Request<'a> {
     Record(RecordRequest<'a>),
     /// The report of a replay.
     Replay(ReplayRequest<'a>),
+    /// A view of a replay that stops.
+    View(ViewRequest<'a>),
 }

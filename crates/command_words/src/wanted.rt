@@ -1,15 +1,18 @@
 //! What the values of a command ask for.
 
-ghost use Rattle.std.specs.Prelude.{◌≡◌, ℕ, codes, Some, None, IfOk, OnErr, IfSome, IfNone, option_map};
+ghost use Rattle.std.specs.Prelude.{◌≡◌, ℕ, Option, codes, Some, None, IfOk, OnErr, IfSome, IfNone, option_map};
 ghost use Rattle.clap.specs.Words.{Row, rows_of, first_of};
 ghost use Rattle.clap.specs.Matches.{found_of};
-ghost use Rattle.command_words.specs.Asked.{IsAsked, IsRecordAsked, IsReplayAsked, IsBlockOf, order_of, is_text, number_of};
+ghost use Rattle.command_words.specs.Asked.{IsAsked, IsRecordAsked, IsReplayAsked, IsViewAsked, IsCountAsked, IsRangeAsked, IsBlockOf, order_of, is_text, number_of, pair_of_option};
 ghost use Rattle.command_words.specs.declared.requests.Request.{Request};
 ghost use Rattle.command_words.specs.declared.requests.RecordRequest.{RecordRequest};
 ghost use Rattle.command_words.specs.declared.requests.ReplayRequest.{ReplayRequest};
+ghost use Rattle.command_words.specs.declared.requests.ThreadCount.{ThreadCount};
+ghost use Rattle.command_words.specs.declared.requests.ByteRange.{ByteRange};
+ghost use Rattle.command_words.specs.declared.requests.ViewRequest.{ViewRequest};
 
-use crate::numbers::{number_up_to, order_in, small_number_up_to};
-use crate::requests::{RecordRequest, ReplayRequest, Request};
+use crate::numbers::{number_up_to, order_in, pair_in, small_number_up_to};
+use crate::requests::{ByteRange, RecordRequest, ReplayRequest, Request, ThreadCount, ViewRequest};
 use clap::ArgMatches;
 use std::alloc::Global;
 use wasm_types::{Block, NoMemory};
@@ -33,6 +36,16 @@ const BAD_TIMEOUTS: &str = "error: '--timeouts <WHEN>' takes never or now\n";
 
 const BAD_ORDER: &str =
     "error: '--order <LIST>' takes 1 to 1000000 thread numbers, joined by commas\n";
+
+const BAD_PLACE: &str = "error: '--place <T.P>' takes a thread and a place, as 1.0\n";
+
+const BAD_STEP: &str = "error: '--step <T.N>' takes a thread and a number of steps, as 1.20\n";
+
+const BAD_WRITE: &str = "error: '--write <FROM+LEN>' takes an address and a length, as 0+4\n";
+
+const BAD_FROM: &str = "error: '--from <N>' takes a number from 0 to 4294967295\n";
+
+const BAD_LEN: &str = "error: '--len <N>' takes a number from 0 to 4294967295\n";
 
 const NO_COMMAND: &str = "error: there is no such command\n";
 
@@ -140,6 +153,67 @@ fn replay_of<'a>(matches: &ArgMatches<'a>, order: Option<Vec<u32>>) -> Wanted<Re
     })
 }
 
+/// The two numbers that an option has, if it is there.
+fn pair(matches: &ArgMatches<'_>, id: &str, separator: u8) -> Option<Option<(u32, u32)>>
+    ensures { result ≡ pair_of_option separator (first_of id.now (rows_of (found_of matches.now))) }
+{
+    match value(matches, id) {
+        None => Some(None),
+        Some(text) => match pair_in(text.as_bytes(), separator) {
+            None => None,
+            Some(pair) => Some(Some(pair)),
+        },
+    }
+}
+
+/// The count of a thread that an option has, if it is there.
+fn thread_count(matches: &ArgMatches<'_>, id: &str) -> Option<Option<ThreadCount>>
+    ensures asked { IfSome result (IsCountAsked (first_of id.now (rows_of (found_of matches.now)))) }
+    ensures none { IfNone result ((count : Option ThreadCount) → IsCountAsked (first_of id.now (rows_of (found_of matches.now))) count → ⊥) }
+{
+    match pair(matches, id, b'.')? {
+        None => Some(None),
+        Some((thread, count)) => Some(Some(ThreadCount { thread, count })),
+    }
+}
+
+/// The range of bytes that an option has, if it is there.
+fn byte_range(matches: &ArgMatches<'_>, id: &str) -> Option<Option<ByteRange>>
+    ensures asked { IfSome result (IsRangeAsked (first_of id.now (rows_of (found_of matches.now)))) }
+    ensures none { IfNone result ((range : Option ByteRange) → IsRangeAsked (first_of id.now (rows_of (found_of matches.now))) range → ⊥) }
+{
+    match pair(matches, id, b'+')? {
+        None => Some(None),
+        Some((from, len)) => Some(Some(ByteRange { from, len })),
+    }
+}
+
+/// The view of that replay that the values of `view` ask for.
+fn view_of<'a>(
+    matches: &ArgMatches<'a>,
+    replay: Wanted<ReplayRequest<'a>>,
+) -> Wanted<ViewRequest<'a>>
+    requires asked { IfOk replay (IsReplayAsked (rows_of (found_of matches.now))) }
+    requires none { OnErr replay ((r : ReplayRequest) → IsReplayAsked (rows_of (found_of matches.now)) r → ⊥) }
+    ensures asked { IfOk result (IsViewAsked (rows_of (found_of matches.now))) }
+    ensures none { OnErr result ((v : ViewRequest) → IsViewAsked (rows_of (found_of matches.now)) v → ⊥) }
+{
+    let replay = replay?;
+    let place = thread_count(matches, "place").ok_or(BAD_PLACE)?;
+    let step = thread_count(matches, "step").ok_or(BAD_STEP)?;
+    let write = byte_range(matches, "write").ok_or(BAD_WRITE)?;
+    let from = small_number(matches, "from", u32::MAX).ok_or(BAD_FROM)?;
+    let len = small_number(matches, "len", u32::MAX).ok_or(BAD_LEN)?;
+    let range = ByteRange { from, len };
+    Ok(ViewRequest {
+        replay,
+        place,
+        step,
+        write,
+        range,
+    })
+}
+
 /// What a command of that name with these values asks for.
 pub(crate) fn request_of<'a>(
     alloc: Global,
@@ -161,6 +235,10 @@ pub(crate) fn request_of<'a>(
         },
         "replay" => match replay_of(matches, order_of(alloc, matches)?) {
             Ok(replay) => Ok(Ok(Request::Replay(replay))),
+            Err(wrong) => Ok(Err(wrong)),
+        },
+        "view" => match view_of(matches, replay_of(matches, order_of(alloc, matches)?)) {
+            Ok(view) => Ok(Ok(Request::View(view))),
             Err(wrong) => Ok(Err(wrong)),
         },
         _ => Ok(Err(NO_COMMAND)),

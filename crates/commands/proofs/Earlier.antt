@@ -7,7 +7,7 @@ use Rattle.replica.specs.declared.log.Log.{Log}
 use Rattle.commands.specs.declared.files.FileFault.{FileFault}
 use Rattle.commands.specs.declared.files.FileFault.TheVariants as file
 use Rattle.commands.specs.declared.fault.Fault.{Fault}
-use Rattle.commands.specs.declared.fault.Fault.TheVariants.{File, Decode, Valid, Plan, Schedule, Size, Gather, Replay, NoMemory, SinkFailed}
+use Rattle.commands.specs.declared.fault.Fault.TheVariants.{File, Decode, Valid, Plan, Schedule, Size, Gather, Replay, View, NoMemory, SinkFailed}
 use Rattle.commands.specs.Checks.{IsFileFault}
 use Rattle.commands.specs.Inputs.{IsPlanFile, IsPlanRefused, IsLogFile, IsLinesRefused}
 use Rattle.commands.specs.Records.{IsScheduleFile, IsScheduleRefused}
@@ -36,6 +36,7 @@ module _ {holds later : List ℕ → Type 0} {fails breaks : Type 0} (held : (by
   plan_refused_earlier m (Size fault) h = h
   plan_refused_earlier m (Gather fault) h = h
   plan_refused_earlier m (Replay fault) h = h
+  plan_refused_earlier m (View fault) h = h
   plan_refused_earlier m NoMemory h = h
   plan_refused_earlier m SinkFailed h = h
 
@@ -48,6 +49,7 @@ module _ {holds later : List ℕ → Type 0} {fails breaks : Type 0} (held : (by
   lines_refused_earlier (Size fault) h = h
   lines_refused_earlier (Gather fault) h = (h.0, held h.0 h.1, h.2)
   lines_refused_earlier (Replay fault) h = h
+  lines_refused_earlier (View fault) h = h
   lines_refused_earlier NoMemory h = h
   lines_refused_earlier SinkFailed h = h
 
@@ -60,5 +62,6 @@ module _ {holds later : List ℕ → Type 0} {fails breaks : Type 0} (held : (by
   schedule_refused_earlier (Size fault) h = h
   schedule_refused_earlier (Gather fault) h = h
   schedule_refused_earlier (Replay fault) h = h
+  schedule_refused_earlier (View fault) h = h
   schedule_refused_earlier NoMemory h = h
   schedule_refused_earlier SinkFailed h = h

@@ -1,3 +1,4 @@
 pub mod Earlier
 pub mod Came
 pub mod Ends
+pub mod Viewed

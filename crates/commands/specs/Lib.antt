@@ -3,3 +3,4 @@ pub mod Checks
 pub mod Inputs
 pub mod Records
 pub mod Replays
+pub mod Views

@@ -17,6 +17,12 @@ pub record IsReplayEnd (m : Module) (plan : PlanValue) (log : Log) (order : List
   pub ordered : IsOrderedAnswer m plan log order end
   pub recorded : EndsAsRecorded m plan log end
 
+-- the report of that end
+pub record IsReplayReport (m : Module) (plan : PlanValue) (log : Log) (order : List ℕ) (text : List ℕ) : Type 0 where
+  pub end : RunEnd
+  pub ends : IsReplayEnd m plan log order end
+  pub is : text ≡ report_text end
+
 -- the log is refused by the replay, or there is no memory for a text
 abbrev pub IsReplayRefusal : Module → PlanValue → Log → List ℕ → Fault → Type 0
 IsReplayRefusal m plan log order (Replay fault) = IsRefusal m plan log order fault
@@ -24,26 +30,26 @@ IsReplayRefusal m plan log order NoMemory = Unit {0}
 IsReplayRefusal m plan log order _ = ⊥
 
 module _ (holds : List ℕ → List ℕ → Type 0) where
-  -- the report of the replay's end
+  -- the module, the plan and the log in the files
+  pub record IsReplayInput (request : ReplayRequest) (m : Module) (plan : PlanValue) (log : Log) : Type 0 where
+    pub has_module : IsValidFile (holds request.«module».now) m
+    pub has_plan : IsPlanFile (holds request.plan.now) m plan
+    pub has_log : IsLogFile (holds request.pieces.now) m plan log
+
+  -- the first refusal: of the module, else of the plan, else of the piece lines
+  abbrev pub IsInputRefused : (List ℕ → Type 0) → ReplayRequest → Fault → Type 0
+  IsInputRefused fails request fault = IsModuleRefused (holds request.«module».now) (fails request.«module».now) fault
+      ⊎ ((m : Module) × IsValidFile (holds request.«module».now) m × (IsPlanRefused (holds request.plan.now) (fails request.plan.now) m fault
+      ⊎ ((plan : PlanValue) × IsPlanFile (holds request.plan.now) m plan × IsLinesRefused (holds request.pieces.now) (fails request.pieces.now) fault)))
+
   pub record IsReplayedText (request : ReplayRequest) (text : List ℕ) : Type 0 where
     pub m : Module
     pub plan : PlanValue
     pub log : Log
-    pub end : RunEnd
-    pub has_module : IsValidFile (holds request.«module».now) m
-    pub has_plan : IsPlanFile (holds request.plan.now) m plan
-    pub has_log : IsLogFile (holds request.pieces.now) m plan log
-    pub ends : IsReplayEnd m plan log request.order.items end
-    pub is : text ≡ report_text end
+    pub input : IsReplayInput request m plan log
+    pub report : IsReplayReport m plan log request.order.items text
 
-  module _ (fails : List ℕ → Type 0) (request : ReplayRequest) where
-    -- the first refusal: of the module, else of the plan, else of the piece lines, else of their replay
-    abbrev pub IsPiecesRefused : Module → PlanValue → Fault → Type 0
-    IsPiecesRefused m plan fault = IsLinesRefused (holds request.pieces.now) (fails request.pieces.now) fault
-        ⊎ ((log : Log) × IsLogFile (holds request.pieces.now) m plan log × IsReplayRefusal m plan log request.order.items fault)
-        ⊎ (fault ≡ NoMemory)
-
-    abbrev pub IsReplayRefused : Fault → Type 0
-    IsReplayRefused fault = IsModuleRefused (holds request.«module».now) (fails request.«module».now) fault
-        ⊎ ((m : Module) × IsValidFile (holds request.«module».now) m × (IsPlanRefused (holds request.plan.now) (fails request.plan.now) m fault
-        ⊎ ((plan : PlanValue) × IsPlanFile (holds request.plan.now) m plan × IsPiecesRefused m plan fault)))
+  -- the files are refused, else the replay
+  abbrev pub IsReplayRefused : (List ℕ → Type 0) → ReplayRequest → Fault → Type 0
+  IsReplayRefused fails request fault = IsInputRefused fails request fault
+      ⊎ ((m : Module) × (plan : PlanValue) × (log : Log) × IsReplayInput request m plan log × IsReplayRefusal m plan log request.order.items fault)

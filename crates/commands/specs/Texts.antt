@@ -15,12 +15,14 @@ use Rattle.replay_gate.specs.declared.answers.ReplayFault.{ReplayFault}
 use Rattle.replay_gate.specs.declared.answers.ReplayFault.TheVariants as replaying
 use Rattle.wasm_replay.specs.declared.replaying.WasmReplayFault.{WasmReplayFault}
 use Rattle.wasm_replay.specs.declared.replaying.WasmReplayFault.TheVariants as refusal
+use Rattle.debug_views.specs.declared.fault.ViewFault.{ViewFault}
+use Rattle.debug_views.specs.declared.fault.ViewFault.TheVariants as viewing
 use Rattle.commands.specs.declared.files.FileFault.{FileFault}
 use Rattle.commands.specs.declared.files.FileFault.TheVariants as file
 use Rattle.commands.specs.declared.fault.SizeFault.{SizeFault}
 use Rattle.commands.specs.declared.fault.SizeFault.TheVariants as size
 use Rattle.commands.specs.declared.fault.Fault.{Fault}
-use Rattle.commands.specs.declared.fault.Fault.TheVariants.{File, Decode, Valid, Plan, Schedule, Size, Gather, Replay, NoMemory, SinkFailed}
+use Rattle.commands.specs.declared.fault.Fault.TheVariants.{File, Decode, Valid, Plan, Schedule, Size, Gather, Replay, View, NoMemory, SinkFailed}
 
 -- a name, and two numbers behind it
 abbrev pub placed : List ℕ → ℕ → ℕ → List ℕ
@@ -76,6 +78,10 @@ refusal_text refusal.OtherRun = codes "refused 51 OtherRun"
 refusal_text refusal.OldProfile = codes "refused 58 OldProfile"
 refusal_text (refusal.Replay fault) = replay_text fault
 
+abbrev pub view_text : ViewFault → List ℕ
+view_text viewing.OutOfView = codes "refused 61 OutOfView"
+view_text viewing.NoMemory = codes "refused 62 NoMemory"
+
 abbrev pub fault_text : Fault → List ℕ
 fault_text (File fault) = file_text fault
 fault_text (Decode fault) = decode_text fault
@@ -85,5 +91,6 @@ fault_text (Schedule fault) = schedule_text fault
 fault_text (Size fault) = size_text fault
 fault_text (Gather fault) = gather_text fault
 fault_text (Replay fault) = refusal_text fault
+fault_text (View fault) = view_text fault
 fault_text NoMemory = codes "refused 23 NoMemory"
 fault_text SinkFailed = codes "refused 45 SinkFailed"

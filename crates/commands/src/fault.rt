@@ -4,6 +4,7 @@ ghost use Rattle.std.specs.Prelude.{◌≡◌};
 
 use crate::files::FileFault;
 use byte_reader::DecodeFault;
+use debug_views::ViewFault;
 use pick_schedule::ScheduleFault;
 use replica::GatherFault;
 use thread_plan::PlanFault;
@@ -37,8 +38,10 @@ pub enum Fault {
     Size(SizeFault),
     /// The piece lines give no log.
     Gather(GatherFault),
-    /// The log is not replayed to its end.
+    /// The log is not replayed to its end, or to where it stops.
     Replay(WasmReplayFault),
+    /// The bytes of the view can't be shown.
+    View(ViewFault),
     /// Refusal 23: memory for the command line or for a text could not be had.
     NoMemory,
     /// Refusal 45: writing failed, after a beginning was written.

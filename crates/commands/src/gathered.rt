@@ -1,13 +1,17 @@
-//! The logs in files.
+//! The logs in files, with the modules and plans that they are of.
 
 ghost use Rattle.std.specs.Prelude.{◌≡◌, ◌⊎◌, ℕ, List, [], IfOk, IfErr, Ok, Some, None};
 ghost use Rattle.replica.specs.Log.{log_of};
 ghost use Rattle.commands.specs.Inputs.{IsLogOfLines, IsEmptyLog, IsLogFile, IsLinesFault, IsLinesRefused};
+ghost use Rattle.thread_plan.specs.Plans.{IsPlanOf};
+ghost use Rattle.commands.specs.Replays.{IsReplayInput, IsInputRefused};
 ghost use Rattle.commands.specs.declared.fault.Fault.TheVariants as faults;
 ghost use Rattle.replica.specs.declared.replica.Replica.{Replica};
 
 use crate::fault::Fault;
 use crate::files::Files;
+use crate::program::{read_module, read_plan};
+use command_words::ReplayRequest;
 use replica::{GatherFault, MemorySource, Replica, collect};
 use std::alloc::Global;
 use thread_plan::Plan;
@@ -42,7 +46,7 @@ fn empty_log(alloc: Global, valid: &Valid, plan: &Plan) -> Replica
 }
 
 /// The log that the piece lines in a file give for a module and a plan.
-pub(crate) fn read_log<F: Files>(
+fn read_log<F: Files>(
     alloc: Global,
     files: &mut F,
     path: &str,
@@ -60,5 +64,42 @@ pub(crate) fn read_log<F: Files>(
         Ok(Some(replica)) => Ok(replica),
         Ok(None) => Ok(empty_log(alloc, valid, plan)),
         Err(fault) => Err(Fault::Gather(fault)),
+    }
+}
+
+/// What a replay is made of: a module, a plan for it, and a log.
+#[derive(Drop)]
+pub(crate) struct ReplayInput {
+    pub(crate) valid: Valid,
+    pub(crate) plan: Plan,
+    pub(crate) replica: Replica,
+}
+
+/// The module, the plan and the log in the files of a replay. The module is read and judged, then the plan, then the piece
+/// lines.
+pub(crate) fn read_input<F: Files>(
+    alloc: Global,
+    files: &mut F,
+    request: &ReplayRequest<'_>,
+) -> Result<ReplayInput, Fault>
+    ensures found { IfOk result (λ input. IsReplayInput (F.holds files.old) request.now input.valid input.plan (log_of input.replica)) }
+    ensures suits { IfOk result (λ input. IsPlanOf input.valid input.plan) }
+    ensures refused { IfErr result (λ fault. IsInputRefused (F.holds files.old) (F.fails files.old) request.now fault) }
+{
+    let valid = match read_module(alloc, files, request.module) {
+        Ok(valid) => valid,
+        Err(fault) => return Err(fault),
+    };
+    let plan = match read_plan(alloc, files, request.plan, &valid) {
+        Ok(plan) => plan,
+        Err(fault) => return Err(fault),
+    };
+    match read_log(alloc, files, request.pieces, &valid, &plan) {
+        Ok(replica) => Ok(ReplayInput {
+            valid,
+            plan,
+            replica,
+        }),
+        Err(fault) => Err(fault),
     }
 }

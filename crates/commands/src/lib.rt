@@ -1,4 +1,5 @@
-//! What the program's commands make of the files that they name: the summary of a module, the report of a recording or a replay.
+//! What the program's commands make of the files that they name: the summary of a module, the report of a recording or a replay,
+//! the view of a replay that stops.
 #![tactic(auto)]
 
 mod checking;
@@ -10,9 +11,11 @@ mod recording;
 mod replaying;
 mod schedules;
 mod texts;
+mod viewing;
 
 pub use checking::check;
 pub use fault::{Fault, SizeFault};
 pub use files::{FileFault, Files};
 pub use recording::record;
 pub use replaying::replay;
+pub use viewing::view;

@@ -1,12 +1,13 @@
 //! Replays of the logs in files.
 
 ghost use Rattle.std.specs.Prelude.{IfOk, IfErr, string_bytes};
-ghost use Rattle.commands.specs.Replays.{IsReplayedText, IsReplayRefused};
+ghost use Rattle.thread_plan.specs.Plans.{IsPlanOf};
+ghost use Rattle.replica.specs.Log.{log_of};
+ghost use Rattle.commands.specs.Replays.{IsReplayedText, IsReplayRefused, IsReplayReport, IsReplayRefusal};
 
 use crate::fault::Fault;
 use crate::files::Files;
-use crate::gathered::read_log;
-use crate::program::{read_module, read_plan};
+use crate::gathered::{ReplayInput, read_input};
 use command_words::ReplayRequest;
 use run_report::report;
 use std::alloc::Global;
@@ -21,19 +22,21 @@ pub fn replay<F: Files>(
     ensures replayed { IfOk result (λ text. IsReplayedText (F.holds files.old) request.now (string_bytes text)) }
     ensures refused { IfErr result (λ fault. IsReplayRefused (F.holds files.old) (F.fails files.old) request.now fault) }
 {
-    let valid = match read_module(alloc, files, request.module) {
-        Ok(valid) => valid,
+    let input = match read_input(alloc, files, request) {
+        Ok(input) => input,
         Err(fault) => return Err(fault),
     };
-    let plan = match read_plan(alloc, files, request.plan, &valid) {
-        Ok(plan) => plan,
-        Err(fault) => return Err(fault),
-    };
-    let replica = match read_log(alloc, files, request.pieces, &valid, &plan) {
-        Ok(replica) => replica,
-        Err(fault) => return Err(fault),
-    };
-    match replay_gathered(alloc, &valid, &plan, replica.log(), &request.order) {
+    replay_input(alloc, &input, &request.order)
+}
+
+/// The report of the end of the replay of a log.
+fn replay_input(alloc: Global, input: &ReplayInput, order: &[u32]) -> Result<String, Fault>
+    requires { IsPlanOf input.now.valid input.now.plan }
+    ensures replayed { IfOk result (λ text. IsReplayReport input.now.valid input.now.plan (log_of input.now.replica) order.now (string_bytes text)) }
+    ensures refused { IfErr result (λ fault. IsReplayRefusal input.now.valid input.now.plan (log_of input.now.replica) order.now fault) }
+{
+    let log = input.replica.log();
+    match replay_gathered(alloc, &input.valid, &input.plan, log, order) {
         Ok(ended) => Ok(report(alloc, &ended)?),
         Err(fault) => Err(Fault::Replay(fault)),
     }

@@ -3,12 +3,13 @@
 ghost use Rattle.std.specs.Prelude.{◌≡◌, ◌≤◌, ◌+◌, ◌++◌, ◌∷◌, length};
 ghost use Rattle.std.specs.Fmt.{decimal};
 ghost use Rattle.arrayvec.specs.ArrayString.{array_string_len};
-ghost use Rattle.commands.specs.Texts.{fault_text, file_text, decode_text, valid_text, plan_text, schedule_text, size_text, gather_text, replay_text, refusal_text};
+ghost use Rattle.commands.specs.Texts.{fault_text, file_text, decode_text, valid_text, plan_text, schedule_text, size_text, gather_text, replay_text, refusal_text, view_text};
 
 use crate::fault::{Fault, SizeFault};
 use crate::files::FileFault;
 use arrayvec::ArrayString;
 use byte_reader::DecodeFault;
+use debug_views::ViewFault;
 use itoa::Buffer;
 use pick_schedule::ScheduleFault;
 use replay_gate::ReplayFault;
@@ -171,6 +172,16 @@ fn text_of_refusal(fault: &WasmReplayFault) -> ArrayString<64>
     }
 }
 
+fn text_of_view(fault: &ViewFault) -> ArrayString<64>
+    ensures text { result.bytes ≡ view_text fault.now }
+    ensures short { array_string_len result ≤ 63 }
+{
+    match *fault {
+        ViewFault::OutOfView => plain("refused 61 OutOfView"),
+        ViewFault::NoMemory => plain("refused 62 NoMemory"),
+    }
+}
+
 impl Fault {
     /// The line that tells the fault, without its end: `refused`, the number, the name, and perhaps numbers.
     pub fn text(&self) -> ArrayString<64>
@@ -186,6 +197,7 @@ impl Fault {
             Fault::Size(fault) => text_of_size(fault),
             Fault::Gather(fault) => text_of_gather(fault),
             Fault::Replay(fault) => text_of_refusal(fault),
+            Fault::View(fault) => text_of_view(fault),
             Fault::NoMemory => plain("refused 23 NoMemory"),
             Fault::SinkFailed => plain("refused 45 SinkFailed"),
         }

@@ -11,6 +11,7 @@ use Rattle.command_words.specs.declared.requests.Request.TheVariants as request
 use Rattle.commands.specs.Checks.{IsChecked, IsCheckRefused}
 use Rattle.commands.specs.Records.{IsRecordedText, IsRecordRefused}
 use Rattle.commands.specs.Replays.{IsReplayedText, IsReplayRefused}
+use Rattle.commands.specs.Views.{IsViewedText, IsViewRefused}
 use Rattle.commands.specs.declared.fault.Fault.{Fault}
 use Rattle.commands.specs.declared.fault.Fault.TheVariants.{Gather, NoMemory, SinkFailed}
 
@@ -58,6 +59,7 @@ module _ (holds : List ℕ → List ℕ → Type 0) (fails : List ℕ → Type 0
   IsDone (request.Check path) text = IsChecked (holds path.now) text
   IsDone (request.Record r) text = IsRecordedText holds r text
   IsDone (request.Replay r) text = IsReplayedText holds r text
+  IsDone (request.View r) text = IsViewedText holds r text
 
   -- when each fault is answered
   abbrev pub IsRefused : Request → Fault → Type 0
@@ -65,6 +67,7 @@ module _ (holds : List ℕ → List ℕ → Type 0) (fails : List ℕ → Type 0
   IsRefused (request.Check path) fault = IsCheckRefused (holds path.now) (fails path.now) fault
   IsRefused (request.Record r) fault = IsRecordRefused holds fails r fault
   IsRefused (request.Replay r) fault = IsReplayRefused holds fails r fault
+  IsRefused (request.View r) fault = IsViewRefused holds fails r fault
 
   -- Which texts the output took from first to last, and whether it took nothing, or failed.
   module _ (took : List ℕ → Type 0) (unwritten unwritable : Type 0) where

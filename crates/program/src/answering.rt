@@ -7,7 +7,7 @@ ghost use Rattle.commands.specs.declared.fault.Fault.TheVariants as faults;
 ghost use Rattle.program.specs.Answers.{WritesSome, IsShown, IsDone, IsStopped, IsAnswered, fault_of};
 
 use command_words::{Asked, Request, requested};
-use commands::{Fault, Files, check, record, replay};
+use commands::{Fault, Files, check, record, replay, view};
 use replica::{Failed, GatherFault, Sink, Source, gather, write_all};
 use std::alloc::Global;
 use std::convert::AsStr;
@@ -92,6 +92,10 @@ fn perform<F: Files, R: Source, W: Sink>(
             Err(fault) => Err(fault),
         },
         Request::Replay(request) => match replay(alloc, files, request) {
+            Ok(text) => show(output, text.as_str().as_bytes()),
+            Err(fault) => Err(fault),
+        },
+        Request::View(request) => match view(alloc, files, request) {
             Ok(text) => show(output, text.as_str().as_bytes()),
             Err(fault) => Err(fault),
         },

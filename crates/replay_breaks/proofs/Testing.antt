@@ -1,7 +1,7 @@
 -- The test of a break, and what it tells.
-use Rattle.std.proofs.Common.{◌≡◌, ℕ, ◌<◌, ◌≤◌, ◌==◌, ◌&&◌, true, false, cond, nat_le, nat_lt, List, [], ◌∷◌, map, Option, Some, None, slice_get, option_map, refl, sym, ap, ◌∙◌, subst, inl, inr}
+use Rattle.std.proofs.Common.{◌≡◌, ℕ, ◌==◌, ◌&&◌, true, false, cond, List, [], ◌∷◌, map, Option, Some, None, slice_get, option_map, refl, sym, ap, ◌∙◌, subst, inl, inr}
 use Rattle.std.specs.Prelude.{◌||◌}
-use Rattle.std.proofs.lemmas.Bool.{eqb-true, eqb-false, eq-eqb, ne_eqb, ltb-true, lt-ltb, leb-true, le-leb, and_parts, and_from, or_cases, or_parts, not-true, not_from_false, both_ways, cases_eq}
+use Rattle.std.proofs.lemmas.Bool.{eqb-true, eqb-false, eq-eqb, ne_eqb, and_parts, and_from, or_cases, or_parts, not-true, not_from_false, both_ways, cases_eq}
 use Rattle.rw_objects.specs.declared.count.Count.{Count}
 use Rattle.rw_objects.specs.declared.touch.Touch.{Touch}
 use Rattle.rw_objects.specs.Space.{Space, mode_at}
@@ -23,7 +23,8 @@ use Rattle.replay_breaks.specs.declared.breaks.Break.TheVariants as break
 use Rattle.replay_breaks.specs.declared.marks.Marks.{Marks}
 use Rattle.replay_breaks.specs.Marks.{mark_of, is_rewritten, is_any_rewritten, marks_of_step, AreMarks}
 use Rattle.replay_breaks.specs.Tests.{is_answer, is_number, holds_by}
-use Rattle.replay_breaks.specs.Breaks.{is_event, IsWritten, Holds}
+use Rattle.replay_breaks.specs.declared.breaks.ObjectRange.{ObjectRange}
+use Rattle.replay_breaks.specs.Breaks.{is_event, is_among, IsWritten, Holds}
 
 same_answer : (x : Turn) (d : Turned) → answer_of_turn x ≡ Some d → is_answer d ≡ is_event x
 same_answer turn.Done turned.Done h = refl
@@ -47,71 +48,67 @@ to_number f o n a is e = ap (λ x. is_number (option_map f x) n) is ∙ eq-eqb (
 
 -- ---- writes
 
-module _ (from until : ℕ) (old new : ℕ → Count) where
-  -- an object of the range that has another version
+module _ (objects : ObjectRange) (old new : ℕ → Count) where
+  -- one of the objects that has another version
   pub record IsChanged : Type 0 where
     pub object : ℕ
-    pub past : from ≤ object
-    pub before : object < until
+    pub among : is_among objects object ≡ true
     pub changed : (new object).version ≡ (old object).version → ⊥
 
-  changed_in : (ts : List Touch) → is_any_rewritten from until new (map (mark_of old) ts) ≡ true → IsChanged
+  changed_in : (ts : List Touch) → is_any_rewritten objects new (map (mark_of old) ts) ≡ true → IsChanged
   changed_in [] h = absurd cc
   changed_in (t ∷ ts) h =
-      elim (or_cases (is_rewritten from until new (mark_of old t)) (is_any_rewritten from until new (map (mark_of old) ts)) h) [
+      elim (or_cases (is_rewritten objects new (mark_of old t)) (is_any_rewritten objects new (map (mark_of old) ts)) h) [
         | inl p ↦
-            let q = and_parts (nat_le from t.object && nat_lt t.object until) _ p in
-            let r = and_parts (nat_le from t.object) _ q.0 in
-            record { object = t.object; past = leb-true from t.object r.0; before = ltb-true t.object until r.1; changed = eqb-false _ _ (not-true _ q.1) }
+            let q = and_parts (is_among objects t.object) _ p in
+            record { object = t.object; among = q.0; changed = eqb-false _ _ (not-true _ q.1) }
         | inr p ↦ changed_in ts p
       ]
 
-  rewritten : (t : Touch) → from ≤ t.object → t.object < until → ((new t.object).version ≡ (old t.object).version → ⊥) → is_rewritten from until new (mark_of old t) ≡ true
-  rewritten t past before changed =
-      and_from (nat_le from t.object && nat_lt t.object until) _
-      (and_from (nat_le from t.object) _ (le-leb from t.object past) (lt-ltb t.object until before)) (not_from_false _ (ne_eqb _ _ changed))
+  rewritten : (t : Touch) → is_among objects t.object ≡ true → ((new t.object).version ≡ (old t.object).version → ⊥) → is_rewritten objects new (mark_of old t) ≡ true
+  rewritten t among changed = and_from (is_among objects t.object) _ among (not_from_false _ (ne_eqb _ _ changed))
 
-  untouched : (ts : List Touch) (o : ℕ) → is_any_rewritten from until new (map (mark_of old) ts) ≡ false → from ≤ o → o < until → ((new o).version ≡ (old o).version → ⊥) → mode_at ts o ≡ None
-  untouched [] o h past before changed = refl
-  untouched (t ∷ ts) o h past before changed =
-      let p = or_parts (is_rewritten from until new (mark_of old t)) (is_any_rewritten from until new (map (mark_of old) ts)) h in
+  untouched : (ts : List Touch) (o : ℕ) → is_any_rewritten objects new (map (mark_of old) ts) ≡ false → is_among objects o ≡ true → ((new o).version ≡ (old o).version → ⊥) → mode_at ts o ≡ None
+  untouched [] o h among changed = refl
+  untouched (t ∷ ts) o h among changed =
+      let p = or_parts (is_rewritten objects new (mark_of old t)) (is_any_rewritten objects new (map (mark_of old) ts)) h in
       elim (cases_eq t.object o) [
-        | inl e ↦ absurd (both_ways _ p.0 (rewritten t (subst (λ k. from ≤ k) (sym e) past) (subst (λ k. k < until) (sym e) before)
+        | inl e ↦ absurd (both_ways _ p.0 (rewritten t (subst (λ k. is_among objects k ≡ true) (sym e) among)
             (subst (λ k. (new k).version ≡ (old k).version → ⊥) (sym e) changed)))
-        | inr n ↦ ap (λ b. cond b (Some t.mode) (mode_at ts o)) (ne_eqb t.object o n) ∙ untouched ts o p.1 past before changed
+        | inr n ↦ ap (λ b. cond b (Some t.mode) (mode_at ts o)) (ne_eqb t.object o n) ∙ untouched ts o p.1 among changed
       ]
 
 module _ {State Op Reply Value Fixed : Type 0} (space : Space Op Reply Value Fixed) (code : Code State Op Reply Fixed) (w : WorldAt State Value Fixed) (t : ℕ) where
-  by_step : (from until : ℕ) (s : PickStep Op) (v : WorldAt State Value Fixed) → is_any_rewritten from until v.memory.counts (marks_of_step space w.memory.counts s) ≡ true → IsWritten w v from until
-  by_step from until (step.Refused f) v h = absurd cc
-  by_step from until step.Local v h = absurd cc
-  by_step from until (step.Event op) v h =
-      let c = changed_in from until w.memory.counts v.memory.counts (space.touches op) h in
-      record { object = c.object; past = c.past; before = c.before; changed = c.changed }
+  by_step : (objects : ObjectRange) (s : PickStep Op) (v : WorldAt State Value Fixed) → is_any_rewritten objects v.memory.counts (marks_of_step space w.memory.counts s) ≡ true → IsWritten w v objects
+  by_step objects (step.Refused f) v h = absurd cc
+  by_step objects step.Local v h = absurd cc
+  by_step objects (step.Event op) v h =
+      let c = changed_in objects w.memory.counts v.memory.counts (space.touches op) h in
+      record { object = c.object; among = c.among; changed = c.changed }
 
-  not_by_step : (from until : ℕ) (s : PickStep Op) (v : WorldAt State Value Fixed) → v ≡ world_after_step space code w t s → is_any_rewritten from until v.memory.counts (marks_of_step space w.memory.counts s) ≡ false
-      → IsWritten w v from until → ⊥
-  not_by_step from until (step.Refused f) v is h x = x.changed (ap (λ (u : WorldAt State Value Fixed). (u.memory.counts x.object).version) is)
-  not_by_step from until step.Local v is h x = x.changed (ap (λ (u : WorldAt State Value Fixed). (u.memory.counts x.object).version) is)
-  not_by_step from until (step.Event op) v is h x =
-      let none = untouched from until w.memory.counts v.memory.counts (space.touches op) x.object h x.past x.before x.changed in
+  not_by_step : (objects : ObjectRange) (s : PickStep Op) (v : WorldAt State Value Fixed) → v ≡ world_after_step space code w t s → is_any_rewritten objects v.memory.counts (marks_of_step space w.memory.counts s) ≡ false
+      → IsWritten w v objects → ⊥
+  not_by_step objects (step.Refused f) v is h x = x.changed (ap (λ (u : WorldAt State Value Fixed). (u.memory.counts x.object).version) is)
+  not_by_step objects step.Local v is h x = x.changed (ap (λ (u : WorldAt State Value Fixed). (u.memory.counts x.object).version) is)
+  not_by_step objects (step.Event op) v is h x =
+      let none = untouched objects w.memory.counts v.memory.counts (space.touches op) x.object h x.among x.changed in
       x.changed (ap (λ (u : WorldAt State Value Fixed). (u.memory.counts x.object).version) is ∙ ap (λ o. (count_after_if o (w.memory.counts x.object)).version) none)
 
-  by_input : (from until : ℕ) (i : Input) (marks : Marks) (v : WorldAt State Value Fixed) → AreMarks space code w t marks → v ≡ world_after space code w (pick_of t i)
-      → (is_any_rewritten from until v.memory.counts marks.goes || is_any_rewritten from until v.memory.counts marks.times_out) ≡ false → IsWritten w v from until → ⊥
-  by_input from until Go marks v m is h =
-      let p = or_parts (is_any_rewritten from until v.memory.counts marks.goes) _ h in
-      not_by_step from until (step_of_pick space code w (pick_of t Go)) v is (subst (λ ms. is_any_rewritten from until v.memory.counts ms ≡ false) m.goes p.0)
-  by_input from until TimeOut marks v m is h =
-      let p = or_parts (is_any_rewritten from until v.memory.counts marks.goes) _ h in
-      not_by_step from until (step_of_pick space code w (pick_of t TimeOut)) v is (subst (λ ms. is_any_rewritten from until v.memory.counts ms ≡ false) m.times_out p.1)
+  by_input : (objects : ObjectRange) (i : Input) (marks : Marks) (v : WorldAt State Value Fixed) → AreMarks space code w t marks → v ≡ world_after space code w (pick_of t i)
+      → (is_any_rewritten objects v.memory.counts marks.goes || is_any_rewritten objects v.memory.counts marks.times_out) ≡ false → IsWritten w v objects → ⊥
+  by_input objects Go marks v m is h =
+      let p = or_parts (is_any_rewritten objects v.memory.counts marks.goes) _ h in
+      not_by_step objects (step_of_pick space code w (pick_of t Go)) v is (subst (λ ms. is_any_rewritten objects v.memory.counts ms ≡ false) m.goes p.0)
+  by_input objects TimeOut marks v m is h =
+      let p = or_parts (is_any_rewritten objects v.memory.counts marks.goes) _ h in
+      not_by_step objects (step_of_pick space code w (pick_of t TimeOut)) v is (subst (λ ms. is_any_rewritten objects v.memory.counts ms ≡ false) m.times_out p.1)
 
-  not_by_turn : (from until : ℕ) (x : Turn) (marks : Marks) (v : WorldAt State Value Fixed) → AreMarks space code w t marks → v ≡ world_after_turn space code w t x
-      → (is_any_rewritten from until v.memory.counts marks.goes || is_any_rewritten from until v.memory.counts marks.times_out) ≡ false → IsWritten w v from until → ⊥
-  not_by_turn from until turn.Done marks v m is h y = y.changed (ap (λ (u : WorldAt State Value Fixed). (u.memory.counts y.object).version) is)
-  not_by_turn from until turn.Local marks v m is h y = by_input from until Go marks v m is h y
-  not_by_turn from until (turn.Event input) marks v m is h y = by_input from until input marks v m is h y
-  not_by_turn from until (turn.Refused r) marks v m is h y = y.changed (ap (λ (u : WorldAt State Value Fixed). (u.memory.counts y.object).version) is)
+  not_by_turn : (objects : ObjectRange) (x : Turn) (marks : Marks) (v : WorldAt State Value Fixed) → AreMarks space code w t marks → v ≡ world_after_turn space code w t x
+      → (is_any_rewritten objects v.memory.counts marks.goes || is_any_rewritten objects v.memory.counts marks.times_out) ≡ false → IsWritten w v objects → ⊥
+  not_by_turn objects turn.Done marks v m is h y = y.changed (ap (λ (u : WorldAt State Value Fixed). (u.memory.counts y.object).version) is)
+  not_by_turn objects turn.Local marks v m is h y = by_input objects Go marks v m is h y
+  not_by_turn objects (turn.Event input) marks v m is h y = by_input objects input marks v m is h y
+  not_by_turn objects (turn.Refused r) marks v m is h y = y.changed (ap (λ (u : WorldAt State Value Fixed). (u.memory.counts y.object).version) is)
 
   -- ---- any break
 
@@ -126,10 +123,10 @@ module _ {State Op Reply Value Fixed : Type 0} (space : Space Op Reply Value Fix
       let p = and_parts (t == thread) _ h in
       let a = of_thread (λ th. code.steps th.state) (slice_get v.threads t) steps p.1 in
       record { same = eqb-true t thread p.0; at = a.0; exists = a.1; steps_made = a.2 }
-  passes_holds x d marks v m is (break.Write from until) h =
-      elim (or_cases (is_any_rewritten from until v.memory.counts marks.goes) _ h) [
-        | inl p ↦ by_step from until (step_of_pick space code w (pick_of t Go)) v (subst (λ ms. is_any_rewritten from until v.memory.counts ms ≡ true) m.goes p)
-        | inr p ↦ by_step from until (step_of_pick space code w (pick_of t TimeOut)) v (subst (λ ms. is_any_rewritten from until v.memory.counts ms ≡ true) m.times_out p)
+  passes_holds x d marks v m is (break.Write objects) h =
+      elim (or_cases (is_any_rewritten objects v.memory.counts marks.goes) _ h) [
+        | inl p ↦ by_step objects (step_of_pick space code w (pick_of t Go)) v (subst (λ ms. is_any_rewritten objects v.memory.counts ms ≡ true) m.goes p)
+        | inr p ↦ by_step objects (step_of_pick space code w (pick_of t TimeOut)) v (subst (λ ms. is_any_rewritten objects v.memory.counts ms ≡ true) m.times_out p)
       ]
 
   pub fails_holds : (x : Turn) (d : Turned) (marks : Marks) (v : WorldAt State Value Fixed) → AreMarks space code w t marks → answer_of_turn x ≡ Some d → v ≡ world_after_turn space code w t x
@@ -138,4 +135,4 @@ module _ {State Op Reply Value Fixed : Type 0} (space : Space Op Reply Value Fix
       both_ways _ h (and_from ((t == thread) && is_answer d) _ (and_from (t == thread) _ (eq-eqb t thread y.same) (same_answer x d is ∙ y.event)) (to_number (λ th. th.places) (slice_get v.threads t) place y.at y.exists y.places))
   fails_holds x d marks v m is after (break.Step thread steps) h y =
       both_ways _ h (and_from (t == thread) _ (eq-eqb t thread y.same) (to_number (λ th. code.steps th.state) (slice_get v.threads t) steps y.at y.exists y.steps_made))
-  fails_holds x d marks v m is after (break.Write from until) h y = not_by_turn from until x marks v m after h y
+  fails_holds x d marks v m is after (break.Write objects) h y = not_by_turn objects x marks v m after h y

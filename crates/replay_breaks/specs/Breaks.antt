@@ -1,5 +1,5 @@
 -- Breaks: points behind turns of a replay.
-use Rattle.std.specs.Prelude.{◌≡◌, ℕ, ◌<◌, ◌≤◌, Bool, true, false, List, Some, slice_get}
+use Rattle.std.specs.Prelude.{◌≡◌, ℕ, ◌-◌, ◌%◌, ◌<◌, ◌==◌, ◌&&◌, Bool, true, false, nat_le, nat_lt, List, Some, slice_get}
 use Rattle.rw_objects.specs.Space.{Space}
 use Rattle.rw_objects.specs.Code.{Code}
 use Rattle.event_core.specs.Threads.{ThreadAt}
@@ -11,6 +11,9 @@ use Rattle.replay_laws.specs.Turns.{turn_of, world_after_turn}
 use Rattle.replay_gate.specs.Answers.{makes_step}
 use Rattle.replay_breaks.specs.declared.breaks.Break.{Break}
 use Rattle.replay_breaks.specs.declared.breaks.Break.TheVariants as break
+use Rattle.replay_breaks.specs.declared.breaks.Every.{Every}
+use Rattle.replay_breaks.specs.declared.breaks.Every.TheVariants as every
+use Rattle.replay_breaks.specs.declared.breaks.ObjectRange.{ObjectRange}
 
 abbrev pub is_event : Turn → Bool
 is_event turn.Done = false
@@ -18,11 +21,18 @@ is_event turn.Local = false
 is_event (turn.Event input) = true
 is_event (turn.Refused r) = false
 
--- some object of the range has another version, which counts its writes
-pub record IsWritten {State Value Fixed : Type 0} (w v : WorldAt State Value Fixed) (from until : ℕ) : Type 0 where
+-- the object is meant that so many others of the range stand before
+abbrev pub is_meant : Every → ℕ → Bool
+is_meant every.Object before = true
+is_meant every.Second before = before % 2 == 0
+
+abbrev pub is_among : ObjectRange → ℕ → Bool
+is_among objects o = nat_le objects.from o && nat_lt o objects.until && is_meant objects.every (o - objects.from)
+
+-- one of these objects has another version, which counts its writes
+pub record IsWritten {State Value Fixed : Type 0} (w v : WorldAt State Value Fixed) (objects : ObjectRange) : Type 0 where
   pub object : ℕ
-  pub past : from ≤ object
-  pub before : object < until
+  pub among : is_among objects object ≡ true
   pub changed : (v.memory.counts object).version ≡ (w.memory.counts object).version → ⊥
 
 module _ {State Op Reply Value Fixed : Type 0} (space : Space Op Reply Value Fixed) (code : Code State Op Reply Fixed) where
@@ -43,7 +53,7 @@ module _ {State Op Reply Value Fixed : Type 0} (space : Space Op Reply Value Fix
   abbrev pub Holds : WorldAt State Value Fixed → WorldAt State Value Fixed → ℕ → Turn → Break → Type 0
   Holds w v t x (break.Place thread place) = IsPlace v t x thread place
   Holds w v t x (break.Step thread steps) = IsStep v t thread steps
-  Holds w v t x (break.Write from until) = IsWritten w v from until
+  Holds w v t x (break.Write objects) = IsWritten w v objects
 
   -- the turn of thread t from world w on makes a step, and behind it the break holds
   pub record Hits (log : Log) (w : WorldAt State Value Fixed) (t : ℕ) (b : Break) : Type 0 where

@@ -1,5 +1,5 @@
 -- The objects that a step touches, with their versions before it, and which of them have another version behind it.
-use Rattle.std.specs.Prelude.{◌≡◌, ℕ, Bool, false, ◌==◌, ◌&&◌, ◌||◌, not, nat_le, nat_lt, List, [], ◌∷◌, map}
+use Rattle.std.specs.Prelude.{◌≡◌, ℕ, Bool, false, ◌==◌, ◌&&◌, ◌||◌, not, List, [], ◌∷◌, map}
 use Rattle.rw_objects.specs.Space.{Space}
 use Rattle.rw_objects.specs.Code.{Code}
 use Rattle.rw_objects.specs.declared.count.Count.{Count}
@@ -9,6 +9,8 @@ use Rattle.event_core.specs.declared.step.PickStep.{PickStep}
 use Rattle.event_core.specs.declared.step.PickStep.TheVariants as step
 use Rattle.event_core.specs.World.{WorldAt, step_of_pick}
 use Rattle.replay_laws.specs.Turns.{pick_of}
+use Rattle.replay_breaks.specs.declared.breaks.ObjectRange.{ObjectRange}
+use Rattle.replay_breaks.specs.Breaks.{is_among}
 use Rattle.replay_breaks.specs.declared.marks.Mark.{Mark}
 use Rattle.replay_breaks.specs.declared.marks.Marks.{Marks}
 
@@ -16,12 +18,12 @@ abbrev pub mark_of : (ℕ → Count) → Touch → Mark
 mark_of counts t = record { object = t.object; version = (counts t.object).version }
 
 -- an object of the range, at another version than was marked
-abbrev pub is_rewritten : ℕ → ℕ → (ℕ → Count) → Mark → Bool
-is_rewritten from until counts m = nat_le from m.object && nat_lt m.object until && not ((counts m.object).version == m.version)
+abbrev pub is_rewritten : ObjectRange → (ℕ → Count) → Mark → Bool
+is_rewritten objects counts m = is_among objects m.object && not ((counts m.object).version == m.version)
 
-abbrev pub is_any_rewritten : ℕ → ℕ → (ℕ → Count) → List Mark → Bool
-is_any_rewritten from until counts [] = false
-is_any_rewritten from until counts (m ∷ ms) = is_rewritten from until counts m || is_any_rewritten from until counts ms
+abbrev pub is_any_rewritten : ObjectRange → (ℕ → Count) → List Mark → Bool
+is_any_rewritten objects counts [] = false
+is_any_rewritten objects counts (m ∷ ms) = is_rewritten objects counts m || is_any_rewritten objects counts ms
 
 module _ {Op Reply Value Fixed : Type 0} (space : Space Op Reply Value Fixed) where
   abbrev pub marks_of_step : (ℕ → Count) → PickStep Op → List Mark

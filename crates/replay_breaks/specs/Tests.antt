@@ -22,7 +22,7 @@ module _ {State Op Reply Value Fixed : Type 0} (code : Code State Op Reply Fixed
   abbrev pub holds_by : Break → ℕ → Turned → Marks → WorldAt State Value Fixed → Bool
   holds_by (break.Place thread place) t x marks v = (t == thread) && is_answer x && is_number (option_map (λ th. th.places) (slice_get v.threads t)) place
   holds_by (break.Step thread steps) t x marks v = (t == thread) && is_number (option_map (λ th. code.steps th.state) (slice_get v.threads t)) steps
-  holds_by (break.Write from until) t x marks v = is_any_rewritten from until v.memory.counts marks.goes || is_any_rewritten from until v.memory.counts marks.times_out
+  holds_by (break.Write objects) t x marks v = is_any_rewritten objects v.memory.counts marks.goes || is_any_rewritten objects v.memory.counts marks.times_out
 
   -- the first break of the list that passes the test
   pub record IsFirst (breaks : List Break) (t : ℕ) (x : Turned) (marks : Marks) (v : WorldAt State Value Fixed) (index : ℕ) : Type 0 where

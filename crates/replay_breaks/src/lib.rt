@@ -5,5 +5,5 @@ mod breaks;
 mod marks;
 mod running;
 
-pub use breaks::{Break, Stopped};
+pub use breaks::{Break, Every, ObjectRange, Stopped};
 pub use running::run_to;

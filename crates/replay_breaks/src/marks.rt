@@ -5,6 +5,7 @@ ghost use Rattle.rw_objects.specs.Counts.{count_at};
 ghost use Rattle.event_core.specs.World.{world_of, step_of_pick};
 ghost use Rattle.replay_breaks.specs.Marks.{marks_of_step, is_any_rewritten, AreMarks};
 
+use crate::breaks::ObjectRange;
 use event_core::{Input, Pick, PickStep, World};
 use rw_objects::{Few, Machine, ObjectSpace, Versions};
 use std::alloc::Global;
@@ -71,26 +72,24 @@ pub(crate) fn marks_of<M: Machine<S>, S: ObjectSpace>(
 }
 
 /// Whether a marked object of the range has another version.
-fn is_any_rewritten(marks: &[Mark], versions: &Versions, from: u32, until: u32) -> bool
-    ensures { result ≡ is_any_rewritten from until (count_at versions.now) marks.now }
+fn is_any_rewritten(marks: &[Mark], versions: &Versions, objects: &ObjectRange) -> bool
+    ensures { result ≡ is_any_rewritten objects.now (count_at versions.now) marks.now }
 {
     match marks {
         [] => false,
         [mark, rest @ ..] => {
-            (from <= mark.object
-                && mark.object < until
-                && versions.at(mark.object).version != mark.version)
-                || is_any_rewritten(rest, versions, from, until)
+            (objects.has(mark.object) && versions.at(mark.object).version != mark.version)
+                || is_any_rewritten(rest, versions, objects)
         }
     }
 }
 
 impl Marks {
     /// Whether a marked object of the range has another version.
-    pub(crate) fn are_rewritten(&self, versions: &Versions, from: u32, until: u32) -> bool
-        ensures { result ≡ (is_any_rewritten from until (count_at versions.now) self.now.goes || is_any_rewritten from until (count_at versions.now) self.now.times_out) }
+    pub(crate) fn are_rewritten(&self, versions: &Versions, objects: &ObjectRange) -> bool
+        ensures { result ≡ (is_any_rewritten objects.now (count_at versions.now) self.now.goes || is_any_rewritten objects.now (count_at versions.now) self.now.times_out) }
     {
-        is_any_rewritten(self.goes.as_slice(), versions, from, until)
-            || is_any_rewritten(self.times_out.as_slice(), versions, from, until)
+        is_any_rewritten(self.goes.as_slice(), versions, objects)
+            || is_any_rewritten(self.times_out.as_slice(), versions, objects)
     }
 }

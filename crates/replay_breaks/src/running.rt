@@ -86,7 +86,7 @@ fn holds<M: Machine<S>, S: ObjectSpace>(
             thread == of && turned == Turned::Event && world.places(thread) == Some(place)
         }
         Break::Step { thread: of, steps } => { thread == of && world.steps(thread) == Some(steps) }
-        Break::Write { from, until } => marks.are_rewritten(world.versions(), from, until),
+        Break::Write(objects) => marks.are_rewritten(world.versions(), &objects),
     }
 }
 

@@ -47,13 +47,17 @@ fn event_of<M: Machine<S>, S: ObjectSpace>(
     }
 }
 
-/// Makes the event that the log has next for a thread, where the log lets it pass, and answers whether it did.
+/// Makes the event that the log has next for a thread, where the log lets it pass, and answers whether it did. The reader
+/// goes forward to its item, and holds it where the event is not let pass yet.
 pub(crate) fn pass_event<M: Machine<S>, S: ObjectSpace, L: ReadLog>(
     alloc: Global,
     world: &mut World<M, S>,
     log: &L,
+    reader: &mut L::Reader,
     thread: u32,
 ) -> Result<bool, NoMemory>
+    requires { L.reads log.now reader.old }
+    ensures reads { L.reads log.now reader.new }
     ensures passes { OnOk result (Leads S.meaning M.code (L.log log.now) (world_of world.old) (world_of world.new)) }
     ensures err { OnErr result (world_of world.new ≡ world_of world.old) }
 {
@@ -69,12 +73,13 @@ pub(crate) fn pass_event<M: Machine<S>, S: ObjectSpace, L: ReadLog>(
     if steps >= end.steps || place >= end.places {
         return Ok(false);
     }
-    let Some(Flat::Known(item)) = log.entry(thread, place) else {
+    log.read(reader, thread, place);
+    let Some(Flat::Known(item)) = L::held(reader, thread) else {
         return Ok(false);
     };
     let input = input_for(item.kind);
     let pick = Pick { thread, input };
-    match event_of(alloc, world, pick, &item) {
+    match event_of(alloc, world, pick, item) {
         None => Ok(false),
         Some(op) => match world.event(pick, op) {
             Ok(_) => Ok(true),

@@ -20,8 +20,11 @@ fn advance<M: Machine<S>, S: ObjectSpace, L: ReadLog>(
     alloc: Global,
     world: &mut World<M, S>,
     log: &L,
+    reader: &mut L::Reader,
     thread: u32,
 ) -> Result<bool, NoMemory>
+    requires { L.reads log.now reader.old }
+    ensures reads { L.reads log.now reader.new }
     ensures ok { OnOk result (Leads S.meaning M.code (L.log log.now) (world_of world.old) (world_of world.new)) }
     ensures err { OnErr result (Leads S.meaning M.code (L.log log.now) (world_of world.old) (world_of world.new)) }
 {
@@ -36,7 +39,7 @@ fn advance<M: Machine<S>, S: ObjectSpace, L: ReadLog>(
     }
     match world.local_run(thread, end.steps - steps) {
         Err(error) => Err(error),
-        Ok(ran) => match pass_event(alloc, world, log, thread) {
+        Ok(ran) => match pass_event(alloc, world, log, reader, thread) {
             Ok(passed) => Ok(passed || ran > 0),
             Err(error) => Err(error),
         },
@@ -48,13 +51,16 @@ fn run_thread<M: Machine<S>, S: ObjectSpace, L: ReadLog>(
     alloc: Global,
     world: &mut World<M, S>,
     log: &L,
+    reader: &mut L::Reader,
     thread: u32,
 ) -> Result<bool, NoMemory>
+    requires { L.reads log.now reader.old }
+    ensures reads { L.reads log.now reader.new }
     ensures ok { OnOk result (Leads S.meaning M.code (L.log log.now) (world_of world.old) (world_of world.new)) }
     ensures err { OnErr result (Leads S.meaning M.code (L.log log.now) (world_of world.old) (world_of world.new)) }
 {
     for times in 0..1_000_000_000u32 {
-        match advance(alloc, world, log, thread) {
+        match advance(alloc, world, log, reader, thread) {
             Ok(true) => {}
             Ok(false) => return Ok(times > 0),
             Err(error) => return Err(error),
@@ -68,13 +74,16 @@ fn round<M: Machine<S>, S: ObjectSpace, L: ReadLog>(
     alloc: Global,
     world: &mut World<M, S>,
     log: &L,
+    reader: &mut L::Reader,
 ) -> Result<bool, NoMemory>
+    requires { L.reads log.now reader.old }
+    ensures reads { L.reads log.now reader.new }
     ensures ok { OnOk result (Leads S.meaning M.code (L.log log.now) (world_of world.old) (world_of world.new)) }
     ensures err { OnErr result (Leads S.meaning M.code (L.log log.now) (world_of world.old) (world_of world.new)) }
 {
     let mut made = false;
     for thread in 0..16u32 {
-        match run_thread(alloc, world, log, thread) {
+        match run_thread(alloc, world, log, reader, thread) {
             Ok(one) => made = made || one,
             Err(error) => return Err(error),
         }
@@ -130,7 +139,7 @@ pub(crate) fn is_finished<M: Machine<S>, S: ObjectSpace, L: ReadLog>(
 
 /// Makes steps that the log lets pass, as many as come: each thread for as long as its steps do, then the next, until
 /// none makes one. Answers whether every thread then stands at its logged end. Where memory is wanted, the steps before
-/// are made.
+/// are made. One reader goes forward through the log, so that no event is searched for.
 pub fn run_freely<M: Machine<S>, S: ObjectSpace, L: ReadLog>(
     alloc: Global,
     world: &mut World<M, S>,
@@ -140,8 +149,9 @@ pub fn run_freely<M: Machine<S>, S: ObjectSpace, L: ReadLog>(
     ensures err { OnErr result (Leads S.meaning M.code (L.log log.now) (world_of world.old) (world_of world.new)) }
     ensures finished { IfOk result (λ all. all ≡ true → IsFinished M.code (L.log log.now) (world_of world.new)) }
 {
+    let mut reader = log.reader();
     for _ in 0..u64::MAX {
-        match round(alloc, world, log) {
+        match round(alloc, world, log, &mut reader) {
             Ok(true) => {}
             Ok(false) => return Ok(is_finished(world, log)),
             Err(error) => return Err(error),

@@ -1,4 +1,4 @@
-//! One turn of a replay.
+//! One turn of a replay. It looks the item up by its place, whatever turns went before.
 
 ghost use Rattle.std.specs.Prelude.{◌≡◌, ◌⊎◌, Some, IfOk, IfErr, OnOk, OnErr};
 ghost use Rattle.event_core.specs.World.{world_of};

@@ -2,7 +2,7 @@
 
 use crate::logs::{Accesses, ClaimedLog, SCRIPTS, Scripts};
 use event_core::World;
-use replay_breaks::{Break, Stopped, run_to};
+use replay_breaks::{Break, Every, ObjectRange, Stopped, run_to};
 use replay_gate::{OpenWorld, Replay, ReplayFault};
 use rw_objects::Found;
 use scripted::{Cells, Script};
@@ -81,13 +81,21 @@ static ROWS: [Row; 8] = [
     },
     Row {
         order: &[],
-        breaks: &[Break::Write { from: 1, until: 2 }],
+        breaks: &[Break::Write(ObjectRange {
+            from: 1,
+            until: 2,
+            every: Every::Object,
+        })],
         stopped: Stopped::Break(0),
         places: [Some(2), Some(1), Some(1)],
     },
     Row {
         order: &[],
-        breaks: &[Break::Write { from: 2, until: 3 }],
+        breaks: &[Break::Write(ObjectRange {
+            from: 2,
+            until: 3,
+            every: Every::Object,
+        })],
         stopped: Stopped::Finished,
         places: [Some(2), Some(2), Some(2)],
     },
@@ -102,7 +110,11 @@ static ROWS: [Row; 8] = [
                 thread: 1,
                 steps: 2,
             },
-            Break::Write { from: 0, until: 1 },
+            Break::Write(ObjectRange {
+                from: 0,
+                until: 1,
+                every: Every::Object,
+            }),
         ],
         stopped: Stopped::Break(2),
         places: [Some(1), Some(1), Some(0)],
@@ -114,7 +126,11 @@ static ROWS: [Row; 8] = [
                 thread: 0,
                 steps: 5,
             },
-            Break::Write { from: 0, until: 2 },
+            Break::Write(ObjectRange {
+                from: 0,
+                until: 2,
+                every: Every::Object,
+            }),
             Break::Place {
                 thread: 1,
                 place: 1,

@@ -1,6 +1,6 @@
 //! Logs and worlds that tests of replays write down.
 
-ghost use Rattle.std.specs.Prelude.{◌≡◌, ◌≤◌, length, map};
+ghost use Rattle.std.specs.Prelude.{◌≡◌, ◌≤◌, ⊤, length, map};
 ghost use Rattle.replay_tests.specs.Claimed.{claimed, few, scripts_world, scripts_open};
 
 use event_core::World;
@@ -25,7 +25,14 @@ pub(crate) struct ClaimedLog {
 }
 
 impl ReadLog for ClaimedLog {
+    /// The item that was read last.
+    type Reader = Option<Flat<Entry>>;
+
     ghost log = { λ c. claimed c.accesses c.sums };
+
+    ghost reads = { λ c r. ⊤ };
+
+    ghost holds = { λ r thread. r };
 
     fn entry(&self, thread: u32, place: u32) -> Option<Flat<Entry>> {
         let Some(row) = self.accesses.get(thread as usize) else {
@@ -39,6 +46,18 @@ impl ReadLog for ClaimedLog {
                 found: Few::one(self.alloc, *found),
             })),
         }
+    }
+
+    fn reader(&self) -> Option<Flat<Entry>> {
+        None
+    }
+
+    fn read(&self, reader: &mut Option<Flat<Entry>>, thread: u32, place: u32) {
+        *reader = self.entry(thread, place);
+    }
+
+    fn held(reader: &Option<Flat<Entry>>, _thread: u32) -> Option<&Flat<Entry>> {
+        reader.as_ref()
     }
 
     fn end(&self, thread: u32) -> Option<Flat<End>> {

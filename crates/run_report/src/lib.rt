@@ -4,4 +4,4 @@
 mod row;
 mod text;
 
-pub use text::report;
+pub use text::{put_row, report};

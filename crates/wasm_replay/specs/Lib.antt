@@ -1,2 +1,3 @@
 pub mod Replays
 pub mod Opens
+pub mod Reads

@@ -1,5 +1,5 @@
 -- What a module and a plan open is an opening world.
-use Rattle.std.specs.Prelude.{◌≡◌, ◌≤◌, ℕ, Option, Some, None}
+use Rattle.std.specs.Prelude.{◌≡◌, Option, Some, None}
 use Rattle.std.proofs.Common.{refl, arith}
 use Rattle.wasm_types.specs.declared.key.Profile.{Profile}
 use Rattle.wasm_types.specs.declared.modules.Module.{Module}

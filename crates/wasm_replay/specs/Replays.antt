@@ -17,12 +17,12 @@ use Rattle.replica.specs.declared.log.Log.{Log as GatheredLog}
 use Rattle.replica.specs.Log.{key_of}
 use Rattle.replay_laws.specs.Log.{IsBelowLog}
 use Rattle.replay_laws.specs.RunLog.{run_log}
-use Rattle.replay_laws.specs.Laws.{IsVouched}
-use Rattle.replay_laws.specs.Finishing.{IsFinishedRun, OrderedEnds}
-use Rattle.replay_gate.specs.Answers.{IsOrderedFault, IsVouchedEnd, IsEndOfRuns, IsWantOfMemory}
+use Rattle.replay_laws.specs.Finishing.{OrderedEnds}
+use Rattle.replay_gate.specs.Answers.{IsOrderedFault, IsVouchedEnd, IsWantOfMemory}
 use Rattle.replay_gate.specs.declared.answers.ReplayFault.{ReplayFault}
 use Rattle.replay_gate.specs.declared.answers.ReplayFault.TheVariants as fault
 pub use Rattle.run_pieces.specs.Joined.{gathered_log}
+use Rattle.wasm_replay.specs.declared.opener.Opener.{Opener}
 use Rattle.wasm_replay.specs.declared.replaying.WasmReplayFault.{WasmReplayFault}
 use Rattle.wasm_replay.specs.declared.replaying.WasmReplayFault.TheVariants as refusal
 use Rattle.wasm_world.specs.Opening.{WasmWorld, opening_memory, opening_world_of}
@@ -46,6 +46,30 @@ abbrev pub is_of : Module → PlanValue → RunKey → Bool
 is_of m plan key = bytes_eq (sha256 (m.source ++ plan.bytes)) key.digest
 
 module _ (m : Module) (plan : PlanValue) (log : GatheredLog) where
+  -- the log can be of a run of this module and plan
+  pub record IsOfRun : Type 0 where
+    pub is_of : is_of m plan (key_of log) ≡ true
+    pub fits : fits_profile m (key_of log).profile ≡ true
+
+  -- it can't: another run goes before an old profile
+  abbrev pub IsOfNoRun : WasmReplayFault → Type 0
+  IsOfNoRun refusal.OtherRun = is_of m plan (key_of log) ≡ false
+  IsOfNoRun refusal.OldProfile = (is_of m plan (key_of log) ≡ true) × (fits_profile m (key_of log).profile ≡ false)
+  IsOfNoRun (refusal.Replay f) = ⊥
+
+  -- or there is no memory for the opening world
+  abbrev pub IsNotOpened : WasmReplayFault → Type 0
+  IsNotOpened refusal.OtherRun = IsOfNoRun refusal.OtherRun
+  IsNotOpened refusal.OldProfile = IsOfNoRun refusal.OldProfile
+  IsNotOpened (refusal.Replay f) = IsOfRun × (f ≡ fault.NoMemory)
+
+  -- what opens the world of the log's runs
+  pub record IsOpenerOf (o : Opener) : Type 0 where
+    pub «module» : o.valid.now ≡ m
+    pub plan_is : o.plan.now ≡ plan
+    pub profile : o.profile ≡ (key_of log).profile
+    pub suits : Suits m plan (key_of log).profile
+
   -- the world from which the log's run began
   abbrev pub Opens : WasmWorld → Type 0
   Opens w = opening_world_of m plan (key_of log).profile ≡ Some w
@@ -66,8 +90,8 @@ module _ (m : Module) (plan : PlanValue) (log : GatheredLog) where
     pub ordered : (w : WasmWorld) → Opens w → (f ≡ fault.NoMemory) ⊎ IsOrderedFault shared_memory thread_code (gathered_log log) w order f
     pub wanting : (w : WasmWorld) → Opens w → IsWantOfMemory shared_memory thread_code (gathered_log log) w f
 
-  -- another run goes before an old profile, and that before a fault of the replay
+  -- the log is of no run of this module and plan, or its replay is refused
   abbrev pub IsRefusal : List ℕ → WasmReplayFault → Type 0
-  IsRefusal order refusal.OtherRun = is_of m plan (key_of log) ≡ false
-  IsRefusal order refusal.OldProfile = (is_of m plan (key_of log) ≡ true) × (fits_profile m (key_of log).profile ≡ false)
-  IsRefusal order (refusal.Replay f) = (is_of m plan (key_of log) ≡ true) × (fits_profile m (key_of log).profile ≡ true) × IsReplayFault order f
+  IsRefusal order refusal.OtherRun = IsOfNoRun refusal.OtherRun
+  IsRefusal order refusal.OldProfile = IsOfNoRun refusal.OldProfile
+  IsRefusal order (refusal.Replay f) = IsOfRun × IsReplayFault order f

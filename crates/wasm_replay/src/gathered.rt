@@ -1,25 +1,53 @@
 //! A gathered log, as a replay reads it.
 
+use crate::reader::{LogReader, ThreadReader};
 use join_laws::Flat;
 use log_pieces::End;
 use replay_gate::ReadLog;
 use replica::Log;
 use rw_objects::Entry;
+use std::array;
 
 /// A log that was gathered from pieces.
 #[derive(Drop)]
-pub(crate) struct Gathered<'a> {
+pub struct Gathered<'a> {
     pub(crate) log: &'a Log,
 }
 
 impl<'a> ReadLog for Gathered<'a> {
+    type Reader = LogReader<'a>;
+
     ghost use Rattle.replica.specs.Claims.{has_limits};
     ghost use Rattle.wasm_replay.specs.Replays.{gathered_log};
+    ghost use Rattle.wasm_replay.specs.Reads.{ReadsLog, log_holds};
 
     ghost log = { λ g. gathered_log g.log.now };
 
+    ghost reads = { λ g r. ReadsLog g.log.now r };
+
+    ghost holds = { λ r t. log_holds r t };
+
     fn entry(&self, thread: u32, place: u32) -> Option<Flat<Entry>> {
         self.log.entry(thread, place)
+    }
+
+    fn reader(&self) -> LogReader<'a> {
+        let log = self.log;
+        array::from_fn(|_| ThreadReader::unread(log))
+    }
+
+    fn read(&self, reader: &mut LogReader<'a>, thread: u32, place: u32) {
+        let index = thread as usize;
+        let one = reader[index].take();
+        reader[index] = ThreadReader::read_on(one, self.log, thread, place);
+    }
+
+    fn held<'r>(reader: &'r LogReader<'a>, thread: u32) -> Option<&'r Flat<Entry>> {
+        let readers = &reader[..];
+        match readers.get(thread as usize) {
+            Some(Some(one)) => one.held(),
+            _ => None,
+        }
     }
 
     fn end(&self, thread: u32) -> Option<Flat<End>> {

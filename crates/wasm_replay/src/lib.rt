@@ -3,6 +3,11 @@
 
 mod gathered;
 mod opener;
+mod opening;
+mod reader;
 mod replaying;
 
+pub use gathered::Gathered;
+pub use opener::Opener;
+pub use opening::{WasmReplay, open_replay};
 pub use replaying::{WasmReplayFault, replay_gathered};

@@ -12,7 +12,7 @@ use wasm_world::open_world;
 
 /// A module, a plan of it, and the profile of their runs.
 #[derive(Drop)]
-pub(crate) struct Opener<'a> {
+pub struct Opener<'a> {
     pub(crate) valid: &'a Valid,
     pub(crate) plan: &'a Plan,
     pub(crate) profile: Profile,

@@ -13,4 +13,5 @@ returns c =
     let one = c.in_ok-command.ensures ∙ ap₂ with_subcommand bare (top c.in_ok-check.ensures.app) in
     let two = c.in_ok-command-2.ensures ∙ ap₂ with_subcommand one (top c.in_ok-record.ensures.app) in
     let three = c.in_ok-command-3.ensures ∙ ap₂ with_subcommand two (top c.in_ok-replay.ensures.app) in
-    IfOk-weaker c.with_command-4.result _ _ (λ command h. h ∙ ap₂ with_subcommand three (top c.gather_command.ensures.app)) c.with_command-4.ensures
+    let four = c.in_ok-command-4.ensures ∙ ap₂ with_subcommand three (top c.in_ok-view.ensures.app) in
+    IfOk-weaker c.with_command-5.result _ _ (λ command h. h ∙ ap₂ with_subcommand four (top c.gather_command.ensures.app)) c.with_command-5.ensures

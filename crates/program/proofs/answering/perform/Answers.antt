@@ -23,3 +23,7 @@ returns-in-Ok-record-clause-stopped g c =
 pub returns-in-Ok-replay-clause-stopped : goal.returns-in-Ok-replay-clause-stopped
 returns-in-Ok-replay-clause-stopped g c =
     shown_stops _ _ _ _ _ _ _ _ c.args.request.now _ c.as_bytes.result.now _ c.show-in-Ok-replay.result c.in-Replay.is (search rules) c.in-Ok-replay.ensures.replayed c.show-in-Ok-replay.ensures.error c.show-in-Ok-replay.ensures.one_failed c.show-in-Ok-replay.ensures.begun
+
+pub returns-in-Ok-view-clause-stopped : goal.returns-in-Ok-view-clause-stopped
+returns-in-Ok-view-clause-stopped g c =
+    shown_stops _ _ _ _ _ _ _ _ c.args.request.now _ c.as_bytes-in-Ok-view.result.now _ c.show-in-Ok-view.result c.in-View.is (search rules) c.in-Ok-view.ensures.viewed c.show-in-Ok-view.ensures.error c.show-in-Ok-view.ensures.one_failed c.show-in-Ok-view.ensures.begun

@@ -1,4 +1,4 @@
-use Rattle.std.proofs.Common.{arith, inr, refl}
+use Rattle.std.proofs.Common.{arith, rules, inl, inr, refl}
 use Rattle.commands.specs.declared.fault.Fault.TheVariants.{NoMemory}
 use Rattle.program.proofs.answering.run.Goals as goal
 
@@ -9,3 +9,13 @@ returns-clause-answered g c = record {
   unknown = λ z. absurd (omega (arith, z, c.refuse-in-Err.ensures.status));
   statuses = omega (arith, c.refuse-in-Err.ensures.status);
 }
+
+pub returns-in-Ok-Text-clause-answered : goal.returns-in-Ok-Text-clause-answered
+returns-in-Ok-Text-clause-answered g c =
+    let b = c.in-Err-show.ensures.begun in
+    record {
+      done = λ z. absurd (omega (arith, z, c.refuse-in-Err-show.ensures.status));
+      refused = λ z. (c.in-Err-show.fault, c.refuse-in-Err-show.ensures.tells, inr (inl (search rules, (refl, refl), c.in-Err-show.ensures.error, c.in-Err-show.ensures.one_failed, (_, b.0, b.1, tt, b.2, b.3))));
+      unknown = λ z. absurd (omega (arith, z, c.refuse-in-Err-show.ensures.status));
+      statuses = omega (arith, c.refuse-in-Err-show.ensures.status);
+    }

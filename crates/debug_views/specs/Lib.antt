@@ -1,0 +1,5 @@
+pub mod Values
+pub mod Threads
+pub mod Blocks
+pub mod Text
+pub mod Writes

@@ -1,0 +1,17 @@
+//! Views of a stopped replay: the bytes of its memory, the versions of its objects, how its threads stand, and all of them
+//! as a text.
+#![tactic(auto)]
+
+mod blocks;
+mod breaks;
+mod fault;
+mod text;
+mod threads;
+mod values;
+
+pub use blocks::{BlockRange, blocks_of_range};
+pub use breaks::write_break;
+pub use fault::ViewFault;
+pub use text::view;
+pub use threads::{ThreadView, thread_view};
+pub use values::{bytes, versions};

@@ -1,0 +1,61 @@
+-- Where the replay of a gathered log stops, of the log and the opening world that it was handed.
+use Rattle.std.proofs.Common.{◌≡◌, ℕ, ◌+◌, ◌<◌, List, length, refl, subst}
+use Rattle.std.proofs.lemmas.Option.{slice_get_within}
+use Rattle.block_objects.specs.SharedMemory.{shared_memory}
+use Rattle.thread_code.specs.ThreadCode.{thread_code}
+use Rattle.wasm_types.specs.declared.modules.Module.{Module}
+use Rattle.thread_plan.specs.Plans.{PlanValue}
+use Rattle.replica.specs.declared.log.Log.{Log as GatheredLog}
+use Rattle.wasm_world.specs.Opening.{WasmWorld}
+use Rattle.replay_gate.specs.declared.answers.ReplayFault.{ReplayFault}
+use Rattle.replay_breaks.specs.declared.breaks.Break.{Break}
+use Rattle.replay_breaks.specs.declared.breaks.Stopped.{Stopped}
+use Rattle.replay_breaks.specs.declared.breaks.Stopped.TheVariants as stopped
+use Rattle.replay_breaks.specs.Stops.{StopsAt}
+use Rattle.thread_step.specs.Opening.{block_power}
+use Rattle.replica.specs.Log.{key_of}
+use Rattle.debug_views.specs.Text.{IsShown, IsView}
+use Rattle.debug_views.specs.Values.{memory_bytes, IsFault}
+use Rattle.debug_views.specs.declared.fault.ViewFault.{ViewFault}
+use Rattle.debug_views.specs.declared.fault.ViewFault.TheVariants as showing
+use Rattle.wasm_replay.specs.Replays.{Opens, IsOfRun, gathered_log}
+use Rattle.wasm_view.specs.declared.viewing.WasmViewFault.TheVariants.{View}
+use Rattle.wasm_view.specs.Views.{Stops, IsViewOfLog, IsNotViewed}
+
+module _ (m : Module) (plan : PlanValue) (log handed : GatheredLog) (order : List ℕ) (breaks : List Break) (opened v : WasmWorld) where
+  -- a stop at a break is at one of the list
+  pub shown : (s : Stopped) → StopsAt shared_memory thread_code (gathered_log handed) opened order breaks v s → ((f : ReplayFault) → s ≡ stopped.Fault f → ⊥) → IsShown s breaks
+  shown (stopped.Break index) h no_fault = slice_get_within breaks index h.stops.0.one h.stops.0.is
+  shown stopped.Finished h no_fault = tt
+  shown stopped.Stuck h no_fault = tt
+  shown (stopped.Fault f) h no_fault = absurd (no_fault f refl)
+
+  pub stops_of : (s : Stopped) → StopsAt shared_memory thread_code (gathered_log handed) opened order breaks v s → handed ≡ log → ((w : WasmWorld) → Opens m plan log w → opened ≡ w) → Stops m plan log order breaks v s
+  stops_of s h same_log same_world w opens =
+      subst (λ (l : GatheredLog). StopsAt shared_memory thread_code (gathered_log l) w order breaks v s) same_log
+      (subst (λ (x : WasmWorld). StopsAt shared_memory thread_code (gathered_log handed) x order breaks v s) (same_world w opens) h)
+
+  -- the view of the world at which it stopped
+  pub view_of : (shown_at : WasmWorld) (s : Stopped) (power from len : ℕ) (text : List ℕ) → StopsAt shared_memory thread_code (gathered_log handed) opened order breaks v s → handed ≡ log → ((w : WasmWorld) → Opens m plan log w → opened ≡ w)
+      → shown_at ≡ v → power ≡ block_power (key_of log).profile → IsView shared_memory thread_code shown_at power s breaks from len text → IsViewOfLog m plan log order breaks from len text
+  view_of shown_at s power from len text h same_log same_world same_end same_power shows = record {
+    world = v;
+    stopped = s;
+    stops = stops_of s h same_log same_world;
+    view = subst (λ (x : WasmWorld). IsView shared_memory thread_code x (block_power (key_of log).profile) s breaks from len text) same_end
+        (subst (λ (p : ℕ). IsView shared_memory thread_code shown_at p s breaks from len text) same_power shows);
+  }
+
+  -- the range passes that world's memory, or there was no memory for the view
+  pub fault_of : (shown_at : WasmWorld) (s : Stopped) (from len : ℕ) (f : ViewFault) → StopsAt shared_memory thread_code (gathered_log handed) opened order breaks v s → handed ≡ log → ((w : WasmWorld) → Opens m plan log w → opened ≡ w)
+      → shown_at ≡ v → IsOfRun m plan log → IsFault (memory_bytes shared_memory shown_at) from len f → IsNotViewed m plan log order breaks from len (View f)
+  fault_of shown_at s from len showing.OutOfView h same_log same_world same_end of_run past = (
+    of_run,
+    record {
+      world = v;
+      stopped = s;
+      stops = stops_of s h same_log same_world;
+      past = subst (λ (x : WasmWorld). length (memory_bytes shared_memory x) < from + len) same_end past;
+    },
+  )
+  fault_of shown_at s from len showing.NoMemory h same_log same_world same_end of_run past = of_run

@@ -1,0 +1,29 @@
+use Rattle.std.proofs.Common.{ap, ◌∙◌}
+use Rattle.thread_step.specs.Opening.{block_power}
+use Rattle.event_core.specs.World.{world_of}
+use Rattle.wasm_view.proofs.Stopping.{shown, view_of, fault_of}
+use Rattle.wasm_view.proofs.viewing.view_log.Goals as goal
+
+pub view-requires : goal.view-requires
+view-requires c = shown c.args.valid.now c.args.plan.now c.args.log.now c.in-Ok.replay.log.log.now c.args.order.now c.args.breaks.now (world_of c.in-Ok.replay.world) (world_of c.run_to-stopped.new.replay.world)
+    c.run_to-stopped.result c.run_to-stopped.ensures.stops c.in_default.not-Fault
+
+pub returns-in-Ok-view : goal.returns-in-Ok-view
+returns-in-Ok-view c = record {
+  of_run = c.in-Ok.ensures.of_run;
+  shown = view_of c.args.valid.now c.args.plan.now c.args.log.now c.in-Ok.replay.log.log.now c.args.order.now c.args.breaks.now (world_of c.in-Ok.replay.world) (world_of c.run_to-stopped.new.replay.world)
+      (world_of c.world.result.now) c.run_to-stopped.result c.memory_limits-block.result.block c.args.from c.args.len _
+      c.run_to-stopped.ensures.stops c.in-Ok.ensures.log c.in-Ok.ensures.world (ap (λ x. world_of x) c.world.ensures)
+      (ap (λ l. l.block) c.memory_limits-block.ensures ∙ ap (λ k. block_power k.profile) c.key.ensures) c.in-Ok-view.ensures.view;
+  refused = tt;
+}
+
+pub returns : goal.returns
+returns c = record {
+  of_run = tt;
+  shown = tt;
+  refused = fault_of c.args.valid.now c.args.plan.now c.args.log.now c.in-Ok.replay.log.log.now c.args.order.now c.args.breaks.now (world_of c.in-Ok.replay.world) (world_of c.run_to-stopped.new.replay.world)
+      (world_of c.world.result.now) c.run_to-stopped.result c.args.from c.args.len c.in-Err-view.fault
+      c.run_to-stopped.ensures.stops c.in-Ok.ensures.log c.in-Ok.ensures.world (ap (λ x. world_of x) c.world.ensures)
+      c.in-Ok.ensures.of_run c.in-Err-view.ensures.fault;
+}

@@ -1,0 +1,6 @@
+//! Views of the logs of WebAssembly runs, where their replay stops.
+#![tactic(auto)]
+
+mod viewing;
+
+pub use viewing::{WasmViewFault, view_log};
