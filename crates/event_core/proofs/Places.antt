@@ -18,7 +18,7 @@ use Rattle.event_core.proofs.SoundSteps.{length_change}
 use Rattle.event_core.specs.Run.{world_run, entries_of_step, entries, PlacesCountEntries}
 
 -- the events of a thread, none where there is no thread
-abbrev places_at : {State : Type 0} → Option (ThreadAt State) → ℕ
+abbrev pub places_at : {State : Type 0} → Option (ThreadAt State) → ℕ
 places_at None = 0
 places_at (Some t) = t.places
 
@@ -63,11 +63,12 @@ module _ {State Op Reply Value Fixed : Type 0} (space : Space Op Reply Value Fix
       let e = there w.memory (slice_get w.threads p.thread) p.input op q in
       of_event w.threads p.thread t e.0 _ (entry_of space w.memory op) e.1
 
-  of_run : (w : WorldAt State Value Fixed) (ps : List Pick) (t : ℕ) → places_at (slice_get (world_run space code w ps).threads t) ≡ places_at (slice_get w.threads t) + length (entries space code w ps t)
-  of_run w [] t = omega arith
-  of_run w (p ∷ ps) t =
+  -- a run adds as many places as entries
+  pub places_of_run : (w : WorldAt State Value Fixed) (ps : List Pick) (t : ℕ) → places_at (slice_get (world_run space code w ps).threads t) ≡ places_at (slice_get w.threads t) + length (entries space code w ps t)
+  places_of_run w [] t = omega arith
+  places_of_run w (p ∷ ps) t =
       let here = of_step w p t (step_of_pick space code w p) refl in
-      let rest = of_run (world_after space code w p) ps t in
+      let rest = places_of_run (world_after space code w p) ps t in
       let all = length-append (entries_of_step space w.memory p.thread t (step_of_pick space code w p)) (entries space code (world_after space code w p) ps t) in
       omega (arith, here, rest, all)
 
@@ -77,7 +78,7 @@ module _ {State Op Reply Value Fixed : Type 0} (space : Space Op Reply Value Fix
 
   pub places_count_entries : PlacesCountEntries space code
   places_count_entries w opening ps t thread e =
-      let all = of_run w ps t in
+      let all = places_of_run w ps t in
       let none = none_at w t opening (slice_get w.threads t) refl in
       let here : thread.places ≡ places_at (slice_get (world_run space code w ps).threads t) = sym (ap places_at e) in
       here ∙ (all ∙ omega (arith, none))

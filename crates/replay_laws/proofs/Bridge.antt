@@ -12,6 +12,7 @@ use Rattle.rw_objects.specs.declared.next.Next.TheVariants as nexts
 use Rattle.rw_objects.specs.declared.entry.Kind.{Kind}
 use Rattle.rw_objects.specs.declared.entry.Kind.TheVariants.{Access, Woken, TimedOut}
 use Rattle.event_core.proofs.Threads.{step_some}
+use Rattle.event_core.proofs.LocalRuns.{get_same, get_other}
 use Rattle.rw_objects.specs.Space.{Space, SpaceLaws, RisesFrom, mode_at, is_written}
 use Rattle.rw_objects.specs.Counts.{count_after_if, all_found}
 use Rattle.rw_objects.specs.Code.{Code, CodeLaws, NextKinds}
@@ -95,19 +96,6 @@ found_as Write o ts counts e = ap (λ l. found.Write o (counts o).version (count
 pub found_is : (ts : List Touched) (counts : ℕ → Count) → all_found ts counts ≡ found_by (λ x. (counts x).version) (λ x. (counts x).reads) (map met_by ts)
 found_is [] counts = refl
 found_is (t ∷ ts) counts = found_as t.mode t.object ts counts (found_is ts counts)
-
--- a list with one element changed
-pub get_same : {A : Type 0} (f : A → A) (xs : List A) (i : ℕ) (a : A) → slice_get xs i ≡ Some a → slice_get (change_at xs i f) i ≡ Some (f a)
-get_same f [] i a e = absurd (cc)
-get_same f (y ∷ ys) zero a e = let same : y ≡ a = cc in ap (λ z. Some (f z)) same
-get_same f (y ∷ ys) (suc i) a e = get_same f ys i a e
-
-pub get_other : {A : Type 0} (f : A → A) (xs : List A) (i x : ℕ) → x ≢ i → slice_get (change_at xs i f) x ≡ slice_get xs x
-get_other f [] i x d = refl
-get_other f (y ∷ ys) zero zero d = absurd (d refl)
-get_other f (y ∷ ys) zero (suc x) d = refl
-get_other f (y ∷ ys) (suc i) zero d = refl
-get_other f (y ∷ ys) (suc i) (suc x) d = get_other f ys i x (λ e. d (ap suc e))
 
 observe : {A B : Type 0} (g : Option A → B) (f : A → A) (xs : List A) (t x : ℕ) (a : A) → slice_get xs t ≡ Some a → g (slice_get (change_at xs t f) x) ≡ cond (x == t) (g (Some (f a))) (g (slice_get xs x))
 observe g f xs t x a is =

@@ -1,7 +1,8 @@
 -- A legal history, with each thread's own steps, is a run.
-use Rattle.std.proofs.Common.{◌≡◌, ◌≢◌, ℕ, zero, suc, ◌<◌, ◌≤◌, ◌==◌, Bool, true, cond, List, [], ◌∷◌, ◌++◌, length, Option, Some, None, slice_get, refl, sym, ap, ◌∙◌, subst, arith, inl, inr, append_assoc}
+use Rattle.std.proofs.Common.{◌≡◌, ◌≢◌, ℕ, zero, suc, ◌+◌, ◌<◌, ◌≤◌, ◌==◌, Bool, true, false, cond, List, [], ◌∷◌, ◌++◌, length, Option, Some, None, slice_get, refl, sym, ap, ◌∙◌, subst, arith, inl, inr, append_assoc}
 use Rattle.std.proofs.lemmas.Bool.Decides.{eqb_tells}
 use Rattle.std.proofs.lemmas.Option.{slice_get_within, slice_get_cases}
+use Rattle.rw_objects.specs.declared.entry.Entry.{Entry}
 use Rattle.rw_objects.specs.declared.next.Next.{Next}
 use Rattle.rw_objects.specs.declared.next.Next.TheVariants as next
 use Rattle.rw_objects.specs.Space.{Space, is_ready, reply_of}
@@ -17,10 +18,10 @@ use Rattle.event_core.specs.PickStep.{step_of_next, is_enabled}
 use Rattle.event_core.specs.World.{WorldAt, step_of_pick, world_after, world_after_step}
 use Rattle.event_core.specs.Run.{world_run, IsRun, entries, entries_of_step}
 use Rattle.event_core.proofs.Threads.{step_some}
-use Rattle.event_core.proofs.Places.{length_run, length_after}
+use Rattle.event_core.proofs.Places.{places_at, places_of_run, length_run, length_after}
 use Rattle.replay_laws.specs.Turns.{pick_of}
-use Rattle.replay_laws.specs.History.{Call, part, IsLegalHistory, memory_after_calls, entries_of_calls, OwnStep, OwnLocal, OwnCall, calls_in, op_at, Leads, IsExecution, IsRunOf, HistoriesAreRuns}
-use Rattle.replay_laws.proofs.Bridge.{get_same, get_other}
+use Rattle.replay_laws.specs.History.{Call, part, IsLegalHistory, memory_after_calls, entries_of_calls, calls_of_step, calls_of_run, OwnStep, OwnLocal, OwnCall, calls_in, op_at, Leads, IsExecution, IsRunOf, HistoriesAreRuns}
+use Rattle.event_core.proofs.LocalRuns.{get_same, get_other}
 use Rattle.replay_laws.proofs.Orders.{world_joined}
 
 -- no step is left, or the next is a call
@@ -87,11 +88,36 @@ module _ {State Op Reply Value Fixed : Type 0} (space : Space Op Reply Value Fix
       let here = entries_of_step space w.memory p.thread x (step_of_pick space code w p) in
       ap (λ l. here ++ l) (entries_joined (world_after space code w p) ps qs x) ∙ sym (append_assoc here (entries space code (world_after space code w p) ps x) _)
 
+  calls_joined : (w : WorldAt State Value Fixed) (ps qs : List Pick) → calls_of_run space code w (ps ++ qs) ≡ calls_of_run space code w ps ++ calls_of_run space code (world_run space code w ps) qs
+  calls_joined w [] qs = refl
+  calls_joined w (p ∷ ps) qs =
+      let here = calls_of_step space w.memory p.thread (step_of_pick space code w p) in
+      ap (λ l. here ++ l) (calls_joined (world_after space code w p) ps qs) ∙ sym (append_assoc here (calls_of_run space code (world_after space code w p) ps) _)
+
+  -- a thread has an entry for each of its calls
+  entry_more : (b : Bool) (e : Entry) (c : Call Op Reply) (es : List Entry) (cs : List (Call Op Reply)) → length es ≡ length cs → length (cond b (e ∷ []) [] ++ es) ≡ length (cond b (c ∷ cs) cs)
+  entry_more true e c es cs h = ap suc h
+  entry_more false e c es cs h = h
+
+  entries_count : (m : Memory Value Fixed) (calls : List (Call Op Reply)) (t : ℕ) → length (entries_of_calls space m calls t) ≡ length (part t calls)
+  entries_count m [] t = refl
+  entries_count m (c ∷ cs) t = entry_more (c.thread == t) (entry_of space m c.op) c _ (part t cs) (entries_count (memory_after space m c.op) cs t)
+
+  places_of : (w : WorldAt State Value Fixed) (ps : List Pick) (calls : List (Call Op Reply)) → ((t : ℕ) → entries space code w ps t ≡ entries_of_calls space w.memory calls t)
+      → (t : ℕ) (before after : ThreadAt State) → slice_get w.threads t ≡ Some before → slice_get (world_run space code w ps).threads t ≡ Some after → after.places ≡ before.places + length (part t calls)
+  places_of w ps calls same t before after is be =
+      let all = places_of_run space code w ps t in
+      let first : places_at (slice_get w.threads t) ≡ before.places = ap places_at is in
+      let last : places_at (slice_get (world_run space code w ps).threads t) ≡ after.places = ap places_at be in
+      let count : length (entries space code w ps t) ≡ length (part t calls) = ap length (same t) ∙ entries_count w.memory calls t in
+      omega (arith, all, first, last, count)
+
   -- thread t's local steps up to its next call
   record Led (w : WorldAt State Value Fixed) (t : ℕ) (ds : List (OwnStep Op Reply)) (u : State) : Type 0 where
     picks : List Pick
     run : IsRun space code w picks
     silent : (x : ℕ) → entries space code w picks x ≡ []
+    quiet : calls_of_run space code w picks ≡ []
     memory : (world_run space code w picks).memory ≡ w.memory
     others : (x : ℕ) → x ≢ t → slice_get (world_run space code w picks).threads x ≡ slice_get w.threads x
     thread : ThreadAt State
@@ -102,8 +128,8 @@ module _ {State Op Reply Value Fixed : Type 0} (space : Space Op Reply Value Fix
     starts : Starts rest
 
   lead : (t : ℕ) (ds : List (OwnStep Op Reply)) (w : WorldAt State Value Fixed) (th : ThreadAt State) (u : State) → slice_get w.threads t ≡ Some th → Leads code th.state ds u → Led w t ds u
-  lead t [] w th u is l = record { picks = []; run = tt; silent = λ x. refl; memory = refl; others = λ x d. refl; thread = th; at = is; rest = []; leads = l; calls = refl; starts = tt }
-  lead t (OwnCall input op reply ∷ ds) w th u is l = record { picks = []; run = tt; silent = λ x. refl; memory = refl; others = λ x d. refl; thread = th; at = is; rest = OwnCall input op reply ∷ ds; leads = l; calls = refl; starts = tt }
+  lead t [] w th u is l = record { picks = []; run = tt; silent = λ x. refl; quiet = refl; memory = refl; others = λ x d. refl; thread = th; at = is; rest = []; leads = l; calls = refl; starts = tt }
+  lead t (OwnCall input op reply ∷ ds) w th u is l = record { picks = []; run = tt; silent = λ x. refl; quiet = refl; memory = refl; others = λ x d. refl; thread = th; at = is; rest = OwnCall input op reply ∷ ds; leads = l; calls = refl; starts = tt }
   lead t (OwnLocal ∷ ds) w th u is l =
       let p = pick_of t Go in
       let q : step_of_pick space code w p ≡ step.Local = step_some space code w p th is l.1 ∙ ap (λ n. step_of_next space w.memory n Go) l.0 in
@@ -115,6 +141,7 @@ module _ {State Op Reply Value Fixed : Type 0} (space : Space Op Reply Value Fix
         picks = p ∷ r.picks;
         run = (ap is_enabled q, r.run);
         silent = λ x. ap (λ j. entries_of_step space w.memory t x j ++ entries space code v r.picks x) q ∙ r.silent x;
+        quiet = ap (λ j. calls_of_step space w.memory t j ++ calls_of_run space code v r.picks) q ∙ r.quiet;
         memory = r.memory ∙ ap (λ z. z.memory) v_is;
         others = λ x d. r.others x d ∙ (ap (λ z. slice_get z.threads x) v_is ∙ get_other (thread_after_local code) w.threads t x d);
         thread = r.thread;
@@ -130,6 +157,7 @@ module _ {State Op Reply Value Fixed : Type 0} (space : Space Op Reply Value Fix
     picks : List Pick
     run : IsRun space code w picks
     silent : (x : ℕ) → entries space code w picks x ≡ []
+    quiet : calls_of_run space code w picks ≡ []
     memory : (world_run space code w picks).memory ≡ w.memory
     later : (x : ℕ) → k ≤ x → slice_get (world_run space code w picks).threads x ≡ slice_get w.threads x
     states : (x : ℕ) (th : ThreadAt State) → x < k → slice_get (world_run space code w picks).threads x ≡ Some th → th.state ≡ ends x
@@ -141,6 +169,7 @@ module _ {State Op Reply Value Fixed : Type 0} (space : Space Op Reply Value Fix
       picks = r.picks;
       run = r.run;
       silent = r.silent;
+      quiet = r.quiet;
       memory = r.memory;
       later = λ x l. r.later x (omega arith);
       states = λ x th l is. elim (eqb_tells x k) [
@@ -160,6 +189,7 @@ module _ {State Op Reply Value Fixed : Type 0} (space : Space Op Reply Value Fix
           picks = r.picks ++ d.picks;
           run = run_joined w r.picks d.picks r.run d.run;
           silent = λ x. entries_joined w r.picks d.picks x ∙ (ap (λ l. l ++ entries space code v d.picks x) (r.silent x) ∙ d.silent x);
+          quiet = calls_joined w r.picks d.picks ∙ (ap (λ l. l ++ calls_of_run space code v d.picks) r.quiet ∙ d.quiet);
           memory = ap (λ z. z.memory) all ∙ (d.memory ∙ r.memory);
           later = λ x l. ap (λ z. slice_get z.threads x) all ∙ (d.others x (λ (z : x ≡ k). absurd (omega arith)) ∙ r.later x (omega arith));
           states = λ x u l is. elim (eqb_tells x k) [
@@ -176,7 +206,7 @@ module _ {State Op Reply Value Fixed : Type 0} (space : Space Op Reply Value Fix
     one_step k r (Some th) e = one_more k r th e
 
     finish : (k : ℕ) → Finished w k ends
-    finish zero = record { picks = []; run = tt; silent = λ x. refl; memory = refl; later = λ x l. refl; states = λ x th l is. absurd (omega arith) }
+    finish zero = record { picks = []; run = tt; silent = λ x. refl; quiet = refl; memory = refl; later = λ x l. refl; states = λ x th l is. absurd (omega arith) }
     finish (suc k) = one_step k (finish k) (slice_get w.threads k) refl
 
   no_more : (w : WorldAt State Value Fixed) (own : ℕ → List (OwnStep Op Reply)) (ends : ℕ → State) → IsExecution space code w [] own ends → IsRunOf space code w [] ends
@@ -185,8 +215,10 @@ module _ {State Op Reply Value Fixed : Type 0} (space : Space Op Reply Value Fix
       record {
         picks = r.picks;
         run = r.run;
+        order = r.quiet;
         entries = r.silent;
         memory = r.memory;
+        places = places_of w r.picks [] r.silent;
         states = λ t th is. r.states t th (let l = slice_get_within (world_run space code w r.picks).threads t th is in omega (arith, l, length_run space code w r.picks)) is;
       }
 
@@ -268,18 +300,36 @@ module _ {State Op Reply Value Fixed : Type 0} (space : Space Op Reply Value Fix
       no_others = λ t l. sym (part_other c cs t (λ (e : c.thread ≡ t). absurd (omega (arith, e, l, size_left, within)))) ∙ x.no_others t (omega (arith, l, size_left));
     }
 
+    first_call : calls_of_step space mid.memory c.thread (step_of_pick space code mid pick) ≡ c ∷ []
+    first_call =
+        ap (calls_of_step space mid.memory c.thread) event
+        ∙ ap (λ y. called y ∷ []) (ap (λ m. reply_of space m.fixed m.values c.op) d.memory ∙ sym x.legal.1)
+      where
+        called : Reply → Call Op Reply
+        called y = record { thread = c.thread; op = c.op; reply = y }
+
+    in_order : (r : IsRunOf space code left cs ends) → calls_of_run space code w (d.picks ++ pick ∷ r.picks) ≡ c ∷ cs
+    in_order r =
+        calls_joined w d.picks (pick ∷ r.picks)
+        ∙ ap (λ l. l ++ (calls_of_step space mid.memory c.thread (step_of_pick space code mid pick) ++ calls_of_run space code left r.picks)) d.quiet
+        ∙ ap (λ l. l ++ calls_of_run space code left r.picks) first_call
+        ∙ ap (λ l. c ∷ l) r.order
+
     with_call : IsRunOf space code left cs ends → IsRunOf space code w (c ∷ cs) ends
     with_call r =
         let all = world_joined space code w d.picks (pick ∷ r.picks) in
+        let es : (t : ℕ) → entries space code w (d.picks ++ pick ∷ r.picks) t ≡ entries_of_calls space w.memory (c ∷ cs) t = λ t. (
+        entries_joined w d.picks (pick ∷ r.picks) t
+        ∙ ap (λ l. l ++ (entries_of_step space mid.memory c.thread t (step_of_pick space code mid pick) ++ entries space code left r.picks t)) (d.silent t)
+        ∙ ap (λ j. entries_of_step space mid.memory c.thread t j ++ entries space code left r.picks t) event
+        ∙ ap (λ m. cond (c.thread == t) (entry_of space m c.op ∷ []) [] ++ entries space code left r.picks t) d.memory
+        ∙ ap (λ l. cond (c.thread == t) (entry_of space w.memory c.op ∷ []) [] ++ l) (r.entries t ∙ ap (λ m. entries_of_calls space m cs t) memory_left)) in
         record {
           picks = d.picks ++ pick ∷ r.picks;
           run = run_joined w d.picks (pick ∷ r.picks) d.run (ap is_enabled event, r.run);
-          entries = λ t.
-              entries_joined w d.picks (pick ∷ r.picks) t
-              ∙ ap (λ l. l ++ (entries_of_step space mid.memory c.thread t (step_of_pick space code mid pick) ++ entries space code left r.picks t)) (d.silent t)
-              ∙ ap (λ j. entries_of_step space mid.memory c.thread t j ++ entries space code left r.picks t) event
-              ∙ ap (λ m. cond (c.thread == t) (entry_of space m c.op ∷ []) [] ++ entries space code left r.picks t) d.memory
-              ∙ ap (λ l. cond (c.thread == t) (entry_of space w.memory c.op ∷ []) [] ++ l) (r.entries t ∙ ap (λ m. entries_of_calls space m cs t) memory_left);
+          order = in_order r;
+          entries = es;
+          places = places_of w (d.picks ++ pick ∷ r.picks) (c ∷ cs) es;
           memory = ap (λ z. z.memory) all ∙ (r.memory ∙ ap (λ m. memory_after_calls space m cs) memory_left);
           states = λ t th is. r.states t th (ap (λ z. slice_get z.threads t) (sym all) ∙ is);
         }

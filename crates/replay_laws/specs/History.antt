@@ -1,5 +1,5 @@
 -- Legal histories: calls of many threads in one order, and what each thread does on its own between its calls.
-use Rattle.std.specs.Prelude.{◌≡◌, ℕ, ◌<◌, ◌≤◌, ◌==◌, true, cond, List, [], ◌∷◌, ◌++◌, length, Option, Some, None, slice_get}
+use Rattle.std.specs.Prelude.{◌≡◌, ℕ, ◌<◌, ◌≤◌, ◌+◌, ◌==◌, true, cond, List, [], ◌∷◌, ◌++◌, length, Option, Some, None, slice_get}
 use Rattle.rw_objects.specs.declared.entry.Entry.{Entry}
 use Rattle.rw_objects.specs.declared.next.Next.{Next}
 use Rattle.rw_objects.specs.declared.next.Next.TheVariants as next
@@ -9,8 +9,10 @@ use Rattle.rw_objects.specs.Memory.{Memory, entry_of, memory_after}
 use Rattle.event_core.specs.declared.pick.Pick.{Pick}
 use Rattle.event_core.specs.declared.pick.Input.{Input}
 use Rattle.event_core.specs.declared.pick.Input.TheVariants.{Go, TimeOut}
+use Rattle.event_core.specs.declared.step.PickStep.{PickStep}
+use Rattle.event_core.specs.declared.step.PickStep.TheVariants as step
 use Rattle.event_core.specs.Threads.{ThreadAt}
-use Rattle.event_core.specs.World.{WorldAt}
+use Rattle.event_core.specs.World.{WorldAt, step_of_pick, world_after}
 use Rattle.event_core.specs.Run.{world_run, IsRun, entries}
 
 -- an operation that a thread made, and what it answered
@@ -39,6 +41,12 @@ module _ {Op Reply Value Fixed : Type 0} (space : Space Op Reply Value Fixed) wh
   abbrev pub entries_of_calls : Memory Value Fixed → List (Call Op Reply) → ℕ → List Entry
   entries_of_calls m [] t = []
   entries_of_calls m (c ∷ cs) t = cond (c.thread == t) (entry_of space m c.op ∷ []) [] ++ entries_of_calls (memory_after space m c.op) cs t
+
+  -- the call that a step of thread t makes
+  abbrev pub calls_of_step : Memory Value Fixed → ℕ → PickStep Op → List (Call Op Reply)
+  calls_of_step m t (step.Refused f) = []
+  calls_of_step m t step.Local = []
+  calls_of_step m t (step.Event op) = record { thread = t; op = op; reply = reply_of space m.fixed m.values op } ∷ []
 
 -- one step of a thread as it sees it: a local one, or a call by an input
 pub data OwnStep (Op Reply : Type 0) : Type 0 where
@@ -75,13 +83,20 @@ module _ {State Op Reply Value Fixed : Type 0} (space : Space Op Reply Value Fix
     pub parts : (t : ℕ) → t < length w.threads → calls_in t (own t) ≡ part t calls
     pub no_others : (t : ℕ) → length w.threads ≤ t → part t calls ≡ []
 
-  -- picks that are the run of an execution
+  -- the calls of a run, in its order
+  abbrev pub calls_of_run : WorldAt State Value Fixed → List Pick → List (Call Op Reply)
+  calls_of_run w [] = []
+  calls_of_run w (p ∷ ps) = calls_of_step space w.memory p.thread (step_of_pick space code w p) ++ calls_of_run (world_after space code w p) ps
+
+  -- picks that are the run of an execution: its events are the calls, in their order
   pub record IsRunOf (w : WorldAt State Value Fixed) (calls : List (Call Op Reply)) (ends : ℕ → State) : Type 0 where
     pub picks : List Pick
     pub run : IsRun space code w picks
+    pub order : calls_of_run w picks ≡ calls
     pub entries : (t : ℕ) → entries space code w picks t ≡ entries_of_calls space w.memory calls t
     pub memory : (world_run space code w picks).memory ≡ memory_after_calls space w.memory calls
     pub states : (t : ℕ) (thread : ThreadAt State) → slice_get (world_run space code w picks).threads t ≡ Some thread → thread.state ≡ ends t
+    pub places : (t : ℕ) (before after : ThreadAt State) → slice_get w.threads t ≡ Some before → slice_get (world_run space code w picks).threads t ≡ Some after → after.places ≡ before.places + length (part t calls)
 
   -- a legal history, with each thread's own steps, is a run
   abbrev pub HistoriesAreRuns : Type 0

@@ -1,5 +1,5 @@
 -- What a log has at each place of each thread, and as each thread's end.
-use Rattle.std.specs.Prelude.{ℕ, Option, Some, None, slice_get}
+use Rattle.std.specs.Prelude.{ℕ, List, [], Option, Some, None, slice_get}
 use Rattle.std.specs.Ordering.{nat_cmp}
 use Rattle.wasm_types.specs.declared.key.RunKey.{RunKey}
 use Rattle.rw_objects.specs.declared.entry.Entry.{Entry}
@@ -29,6 +29,14 @@ entry_at log thread place = entry_of (slice_get log.threads thread) place
 -- the thread's end that is claimed, or a clash
 abbrev pub end_at : Log → ℕ → Option (Flat End)
 end_at log thread = end_of (slice_get log.threads thread)
+
+-- the items that are claimed of a thread's entries, with their places, by rising place
+abbrev pub items_of : Option ThreadLog → List (ℕ × Flat Entry)
+items_of None = []
+items_of (Some thread) = thread.entries
+
+abbrev pub items_at : Log → ℕ → List (ℕ × Flat Entry)
+items_at log thread = items_of (slice_get log.threads thread)
 
 -- the log of a replica
 abbrev pub log_of : Replica → Log

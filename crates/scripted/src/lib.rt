@@ -9,7 +9,7 @@ mod script;
 mod striped;
 
 pub use cells::Cells;
-pub use laws::scripts_replay;
+pub use laws::{scripts_finish, scripts_replay, scripts_run};
 pub use op::{Cell, CellOp, ScriptStep};
 pub use open::open_scripts;
 pub use script::Script;

@@ -1,0 +1,3 @@
+pub mod DoubleSteps
+pub mod FirstWrites
+pub mod Steps
