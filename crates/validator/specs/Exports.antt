@@ -1,7 +1,11 @@
 -- Exported functions by name. WebAssembly Core 1.0, structure and validation, exports.
-use Rattle.std.specs.Prelude.{ℕ, ◌&&◌, Bool, true, false, List, [], ◌∷◌, Option, Some, None, map, is_none, Vec}
+use Rattle.std.specs.Prelude.{◌≡◌, ℕ, ◌&&◌, Bool, true, false, List, [], ◌∷◌, Option, Some, None, is_none, Vec}
 use Rattle.std.specs.Global.{Global}
 use Rattle.std.specs.Str.{bytes_eq}
+use Rattle.std.specs.Map.{lookup}
+use Rattle.std.specs.BTreeMap.{is_at}
+use Rattle.std.specs.Cmp.Lexicographic.{slice_cmp}
+use Rattle.std.specs.Ordering.{nat_cmp}
 use Rattle.wasm_types.specs.declared.modules.Export.{Export}
 use Rattle.wasm_types.specs.declared.modules.ExportKind.{ExportKind}
 use Rattle.wasm_types.specs.declared.modules.ExportKind.TheVariants as export
@@ -35,9 +39,10 @@ only_some (Some found) = found
 abbrev pub exported_function : List Export → List ℕ → Option ℕ
 exported_function exports name = only_some (find_export name exports)
 
--- entries of a map by name, and the exports that they show
-abbrev pub shown : List (Vec ℕ Global × Option ℕ) → List (List ℕ × Option ℕ)
-shown entries = map (λ p. (p.0.items, p.1)) entries
+-- what a map by name has at a name
+abbrev pub value_of : List (Vec ℕ Global × Option ℕ) → List ℕ → Option (Option ℕ)
+value_of names name = lookup (is_at (λ (k : Vec ℕ Global). slice_cmp nat_cmp name k.items)) names
 
-abbrev pub named : List Export → List (List ℕ × Option ℕ)
-named exports = map (λ e. (e.name, function_index e.kind e.index)) exports
+-- a map by name has at each name what the exports have
+abbrev pub AreNames : List (Vec ℕ Global × Option ℕ) → List Export → Type 0
+AreNames names exports = (name : List ℕ) → value_of names name ≡ find_export name exports

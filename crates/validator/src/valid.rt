@@ -4,7 +4,7 @@ ghost use Rattle.std.specs.Prelude.{◌≡◌, ℕ, ◌&&◌, ◌<◌, ◌^◌, 
 ghost use Rattle.wasm_types.specs.Limits.{Within};
 ghost use Rattle.control_flow.specs.Targets.{targets_from};
 ghost use Rattle.validator.specs.Module.{rules};
-ghost use Rattle.validator.specs.Exports.{distinct, shown, named, exported_function};
+ghost use Rattle.validator.specs.Exports.{distinct, AreNames, exported_function};
 ghost use Rattle.validator.specs.Valid.{WellTyped, TypedAt, Refuses, FaultAt, IsOfFunction, all_targets, fault_in};
 
 use crate::exports::names_of;
@@ -15,8 +15,8 @@ use crate::rules::keeps_rules;
 use crate::stacks::Stacks;
 use crate::table::type_of_function;
 use control_flow::{TargetFinder, Targets};
-use indexmap::IndexMap;
 use std::alloc::Global;
+use std::collections::BTreeMap;
 use std::marker::Model;
 use wasm_types::Module;
 
@@ -26,7 +26,7 @@ use wasm_types::Module;
 pub struct Valid {
     module: Module,
     // The names of the exports, each with the index of the function that it names, if it names one.
-    names: IndexMap<Vec<u8>, Option<u32>>,
+    names: BTreeMap<Vec<u8>, Option<u32>>,
     // The targets of each function.
     targets: Vec<Targets>,
 }
@@ -34,14 +34,14 @@ pub struct Valid {
 impl Model for Valid {
     ghost use Rattle.wasm_types.specs.declared.modules.Module.{Module};
     ghost use Rattle.validator.specs.Valid.{WellTyped, all_targets};
-    ghost use Rattle.validator.specs.Exports.{shown, named};
+    ghost use Rattle.validator.specs.Exports.{AreNames};
     ghost use Rattle.std.specs.Prelude.{◌≡◌};
 
     ghost Value = { Module };
 
     ghost view = { λ v. v.module };
 
-    ghost invariant = { λ v. WellTyped v.module × (shown v.names.entries ≡ named v.module.exports) × (v.targets.items ≡ all_targets v.module.bodies) };
+    ghost invariant = { λ v. WellTyped v.module × AreNames v.names.entries v.module.exports × (v.targets.items ≡ all_targets v.module.bodies) };
 }
 
 /// Validates a module, which is given up on a refusal. A module that passes a limit (1,048,576 bytes, 256 pages and 4,096

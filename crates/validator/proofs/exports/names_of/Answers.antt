@@ -1,5 +1,4 @@
 use Rattle.std.proofs.Common.{◌∙◌, sym, ap, ◌++◌}
-use Rattle.indexmap.proofs.CallerLemmas.{insert_entry-new}
 use Rattle.validator.proofs.Names.{note_next, noted_twice}
 use Rattle.validator.proofs.exports.names_of.Goals as goal
 
@@ -10,7 +9,7 @@ loop-export-preserved c =
     c.loop-export-test.true c.loop-export.invariant (sym c.export-item.is)
     (c.in_ok-extend_from_slice.ensures.items ∙ ap (λ x. x ++ c.as_slice.result.now) c.new-name.ensures.items ∙ c.as_slice.ensures)
     c.index_of_function.ensures none
-    (c.in_ok-insert.ensures.entries ∙ insert_entry-new _ c.loop-export.names c.extend_from_slice.new.self c.index_of_function.result none)
+    c.in_ok-insert.ensures.entries
 
 pub returns-in-Some-clause-twice : goal.returns-in-Some-clause-twice
 returns-in-Some-clause-twice c =
