@@ -1,5 +1,5 @@
 -- What is left of a recording.
-use Rattle.std.proofs.Common.{◌≡◌, ◌≢◌, ℕ, zero, suc, ◌+◌, ◌<◌, ◌≤◌, ◌==◌, ◌&&◌, Bool, true, false, cond, List, [], ◌∷◌, ◌++◌, length, Option, Some, None, slice_get, replicate, get_or, drop, drop-cons, add-one, sym, ap, ◌∙◌, refl, arith, inl, inr, append_assoc}
+use Rattle.std.proofs.Common.{◌≡◌, ◌≢◌, ℕ, zero, suc, ◌+◌, ◌<◌, ◌==◌, ◌&&◌, Bool, true, false, cond, List, [], ◌∷◌, ◌++◌, length, Option, Some, None, slice_get, replicate, get_or, drop, drop-cons, add-one, sym, ap, ◌∙◌, refl, arith, inl, inr}
 use Rattle.std.proofs.lemmas.List.{append-nil}
 use Rattle.std.proofs.lemmas.Bool.Decides.{eqb_tells}
 use Rattle.rw_objects.specs.Code.{Code}
@@ -10,9 +10,8 @@ use Rattle.event_core.specs.declared.step.PickStep.{PickStep}
 use Rattle.event_core.specs.declared.step.PickStep.TheVariants as step
 use Rattle.event_core.specs.declared.step.Stepped.{Stepped}
 use Rattle.event_core.specs.declared.step.Stepped.TheVariants as stepped
-use Rattle.event_core.specs.Threads.{ThreadAt, change_at, thread_after_local}
-use Rattle.event_core.specs.World.{WorldAt, step_of_pick, world_after, answer_of_step, world_after_step}
-use Rattle.event_core.proofs.SoundSteps.{length_change}
+use Rattle.event_core.specs.Threads.{ThreadAt, change_at}
+use Rattle.event_core.specs.World.{WorldAt, step_of_pick, world_after, answer_of_step}
 use Rattle.std.proofs.lemmas.Option.{slice_get_within}
 use Rattle.recorder.specs.Picks.{is_taken, picks_taken, picks_passed}
 use Rattle.event_core.specs.Run.{entries, entries_of_step, world_run, IsRun}
@@ -65,15 +64,6 @@ module _ {State Op Reply Value Fixed : Type 0} (space : Space Op Reply Value Fix
   passed_step steps w v p ps true e is = let k : count_passed (if_ok (answer_of_step space code w (step_of_pick space code w p))) ≡ 0 = taken_counts_none w (step_of_pick space code w p) (second (has_steps_left code steps (slice_get w.threads p.thread)) (is_enabled (step_of_pick space code w p)) e) in rw (e, is) (omega (arith, k))
   passed_step steps w v p ps false e is = rw (e, is) refl
 
-  moved_length : (w : WorldAt State Value Fixed) (t : ℕ) (j : PickStep Op) → length (world_after_step space code w t j).threads ≡ length w.threads
-  moved_length w t (step.Refused f) = refl
-  moved_length w t step.Local = length_change (thread_after_local code) w.threads t
-  moved_length w t (step.Event op) = length_change _ w.threads t
-
-  pub length_step : (w v : WorldAt State Value Fixed) (p : Pick) (b : Bool) → v ≡ cond b (world_after space code w p) w → length v.threads ≡ length w.threads
-  length_step w v p true is = rw is (moved_length w p.thread (step_of_pick space code w p))
-  length_step w v p false is = rw is
-
   below_within : (steps : ℕ) (ts : List (ThreadAt State)) (t : ℕ) (o : Option (ThreadAt State)) → slice_get ts t ≡ o → has_steps_left code steps o ≡ true → t < length ts
   below_within steps ts t None e h = absurd (cc)
   below_within steps ts t (Some th) e h = slice_get_within ts t th e
@@ -115,10 +105,6 @@ list_none zero t = refl
 list_none (suc n) zero = refl
 list_none (suc n) (suc t) = list_none n t
 
--- the logs of a loop, by what a step adds
-pub logs_step : (lists news : List (List Entry)) (by t : ℕ) (o : Option Stepped) (rest old all : List Entry) → list_at news t ≡ list_at lists t ++ entries_added by t o → old ≡ entries_added by t o ++ rest → list_at lists t ++ old ≡ all → list_at news t ++ rest ≡ all
-logs_step lists news by t o rest old all e f h = rw e (append_assoc (list_at lists t) (entries_added by t o) rest ∙ (ap (λ x. list_at lists t ++ x) (sym f) ∙ h))
-
 list_length : (f : List Entry → List Entry) (lists : List (List Entry)) (by : ℕ) → length (change_at lists by f) ≡ length lists
 list_length f [] by = refl
 list_length f (x ∷ xs) zero = refl
@@ -136,19 +122,3 @@ noted_event lists news passed by e is = record { logs = λ t h. rw is (list_push
 -- the picks that are left, from one that is read on
 pub picks_here : (ps : List Pick) (i : ℕ) (d : Pick) → i < length ps → drop i ps ≡ get_or ps i d ∷ drop (i + 1) ps
 picks_here ps i d h = rw add-one (drop-cons ps i d h)
-
-pub passed_sum : (new old left before all o : ℕ) → new ≡ old + o → before ≡ left + o → old + before ≡ all → new + left ≡ all
-passed_sum new old left before all o e f h = omega arith
-
-over_most : (o : Option Stepped) → count_passed o ≤ 1
-over_most None = omega arith
-over_most (Some s) = omega arith
-
-pub few_step : (new old i : ℕ) (o : Option Stepped) → new ≡ old + count_passed o → old ≤ i → new ≤ i + 1
-few_step new old i o e h = omega (arith, over_most o)
-
-pub drop_past : {A : Type 0} (xs : List A) (i : ℕ) → length xs ≤ i → drop i xs ≡ []
-drop_past [] zero h = refl
-drop_past [] (suc i) h = refl
-drop_past (x ∷ xs) zero h = absurd (omega arith)
-drop_past (x ∷ xs) (suc i) h = drop_past xs i (omega arith)

@@ -1,8 +1,16 @@
--- What a recording notes of one pick.
-use Rattle.std.specs.Prelude.{◌≡◌, ◌+◌, ◌<◌, ◌==◌, ◌++◌, length, ℕ, cond, List, [], ◌∷◌, Option, Some, None, slice_index_or}
+-- What a recording notes of picks.
+use Rattle.std.specs.Prelude.{◌≡◌, ◌⊎◌, ◌+◌, ◌<◌, ◌≤◌, ◌==◌, ◌++◌, length, ℕ, cond, List, [], ◌∷◌, Option, Some, None, slice_get, slice_index_or}
+use Rattle.rw_objects.specs.Code.{Code}
+use Rattle.rw_objects.specs.Space.{Space}
 use Rattle.rw_objects.specs.declared.entry.Entry.{Entry}
+use Rattle.event_core.specs.declared.pick.Pick.{Pick}
 use Rattle.event_core.specs.declared.step.Stepped.{Stepped}
 use Rattle.event_core.specs.declared.step.Stepped.TheVariants as stepped
+use Rattle.event_core.specs.LocalRun.{go_of, IsLocalRun}
+use Rattle.event_core.specs.Run.{entries, world_run}
+use Rattle.event_core.specs.Threads.{ThreadAt}
+use Rattle.event_core.specs.World.{WorldAt}
+use Rattle.recorder.specs.Picks.{picks_taken, picks_passed}
 
 -- the list of a thread
 abbrev pub list_at : List (List Entry) → ℕ → List Entry
@@ -30,3 +38,23 @@ pub record IsNoted (lists news : List (List Entry)) (before after by : ℕ) (o :
   pub logs : (t : ℕ) → t < length lists → list_at news t ≡ list_at lists t ++ entries_added by t o
   pub passed : after ≡ before + count_passed o
   pub len : length news ≡ length lists
+
+module _ {State Op Reply Value Fixed : Type 0} (space : Space Op Reply Value Fixed) (code : Code State Op Reply Fixed) (steps : ℕ) where
+  -- n times a pick: each time its thread goes on by a local step, and has then made no more than so many steps
+  pub record IsBatchOf (p : Pick) (n : ℕ) (w : WorldAt State Value Fixed) : Type 0 where
+    pub goes : p ≡ go_of p.thread
+    pub thread : ThreadAt State
+    pub exists : slice_get w.threads p.thread ≡ Some thread
+    pub within : code.steps thread.state + n ≤ steps
+
+  pub record IsBatch (p : Pick) (n : ℕ) (w v : WorldAt State Value Fixed) : Type 0 where
+    pub run : IsLocalRun space code p.thread n w v
+    pub taken : (n ≡ 0) ⊎ IsBatchOf p n w
+
+  -- picks were tried in turn: those that are taken lead from one world to the other, their entries stand behind those of each
+  -- thread, and the others were counted
+  pub record AreRecorded (ps : List Pick) (w v : WorldAt State Value Fixed) (lists news : List (List Entry)) (before after : ℕ) : Type 0 where
+    pub world : v ≡ world_run space code w (picks_taken space code steps w ps)
+    pub logs : (t : ℕ) → t < length lists → list_at news t ≡ list_at lists t ++ entries space code w (picks_taken space code steps w ps) t
+    pub passed : after ≡ before + picks_passed space code steps w ps
+    pub len : length news ≡ length lists

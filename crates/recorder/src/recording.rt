@@ -1,16 +1,16 @@
 //! Recording by a list of picks.
 
-ghost use Rattle.std.specs.Prelude.{◌≡◌, ◌+◌, ◌^◌, ◌<◌, IfOk, OnOk, length, map, cond, slice_get, option_map};
+ghost use Rattle.std.specs.Prelude.{◌≡◌, ◌+◌, ◌++◌, ◌^◌, ◌<◌, ◌≤◌, IfOk, OnOk, drop, length, map, cond, replicate, slice_get, option_map};
 ghost use Rattle.event_core.specs.World.{world_of, world_after};
 ghost use Rattle.event_core.specs.Run.{run_end, IsRun};
 ghost use Rattle.replay_laws.specs.RunLog.{run_log, end_of_thread};
 ghost use Rattle.recorder.specs.Picks.{is_taken, step_taken, picks_taken, picks_passed};
-ghost use Rattle.recorder.specs.Recorded.{IsNoted, IsThread};
+ghost use Rattle.recorder.specs.Recorded.{IsNoted, IsThread, IsBatch, AreRecorded};
 ghost use Rattle.recorder.specs.ThreadLogAt.{log_of};
 
 use crate::logs::Logs;
 use crate::recorded::{Recorded, ThreadLog};
-use event_core::{Pick, StepFault, Stepped, World};
+use event_core::{Input, Pick, StepFault, Stepped, World};
 use log_pieces::End;
 use rw_objects::{Entry, Machine, ObjectSpace};
 use std::alloc::Global;
@@ -94,6 +94,82 @@ fn thread_logs<M: Machine<S>, S: ObjectSpace>(
     Ok(logs)
 }
 
+/// A pick that comes several times in a row.
+#[derive(Clone, Copy)]
+struct Stretch {
+    pick: Pick,
+    times: usize,
+}
+
+/// The pick at this place, with how often it comes from there on.
+fn stretch_at(picks: &[Pick], at: usize) -> Stretch
+    requires { at < length picks.now }
+    ensures same { drop at picks.now ≡ replicate result.times result.pick ++ drop (at + result.times) picks.now }
+    ensures some { 0 < result.times }
+    ensures within { at + result.times ≤ length picks.now }
+    ensures fits { at + result.times < 2 ^ 64 }
+{
+    let pick = picks[at];
+    let mut end = at + 1;
+    while end < picks.len() && picks[end] == pick {
+        end += 1;
+    }
+    Stretch {
+        pick,
+        times: end - at,
+    }
+}
+
+/// Makes local steps by a pick that comes so many times, as many as come one behind the other and as the thread has left.
+/// Answers how many.
+fn local_steps<M: Machine<S>, S: ObjectSpace>(
+    world: &mut World<M, S>,
+    stretch: Stretch,
+    steps: u32,
+) -> Result<usize, NoMemory>
+    ensures batch { IfOk result (λ made. IsBatch S.meaning M.code steps stretch.pick made (world_of world.old) (world_of world.new)) }
+    ensures few { IfOk result (λ made. made ≤ stretch.times) }
+{
+    let thread = stretch.pick.thread;
+    let Input::Go = stretch.pick.input else {
+        return Ok(0);
+    };
+    let Some(made) = world.steps(thread) else {
+        return Ok(0);
+    };
+    if steps <= made {
+        return Ok(0);
+    }
+    let most = stretch.times.min((steps - made) as usize);
+    Ok(world.local_run(thread, most as u32)? as usize)
+}
+
+/// Tries a pick so many times in a row.
+fn record_stretch<M: Machine<S>, S: ObjectSpace>(
+    world: &mut World<M, S>,
+    logs: &mut Logs,
+    passed: &mut u64,
+    stretch: Stretch,
+    steps: u32,
+) -> Result<(), NoMemory>
+    requires threads { length logs.old ≡ length (world_of world.old).threads }
+    requires room { passed.old + stretch.times < 2 ^ 64 }
+    ensures { OnOk result (AreRecorded S.meaning M.code steps (replicate stretch.times stretch.pick) (world_of world.old) (world_of world.new) logs.old logs.new passed.old passed.new) }
+{
+    let pick = stretch.pick;
+    let mut times = stretch.times;
+    while times > 0 {
+        let made = local_steps(world, Stretch { pick, times }, steps)?;
+        times -= made;
+        if times > 0 {
+            let stepped = try_pick(world, pick, steps)?;
+            note(logs, passed, pick.thread, stepped)?;
+            times -= 1;
+        }
+    }
+    Ok(())
+}
+
 /// Records the run of those picks that are enabled in turn and whose thread has made fewer than `steps` steps; the others
 /// are passed over and counted. `steps` is at most 1,000,000,000; a larger number counts as that.
 pub fn record<M: Machine<S> + Drop, S: ObjectSpace + Drop>(
@@ -109,9 +185,11 @@ pub fn record<M: Machine<S> + Drop, S: ObjectSpace + Drop>(
 {
     let mut logs = Logs::new(alloc, world.count())?;
     let mut passed: u64 = 0;
-    for pick in picks {
-        let stepped = try_pick(&mut world, *pick, steps)?;
-        note(&mut logs, &mut passed, pick.thread, stepped)?;
+    let mut at = 0;
+    while at < picks.len() {
+        let stretch = stretch_at(picks, at);
+        record_stretch(&mut world, &mut logs, &mut passed, stretch, steps)?;
+        at += stretch.times;
     }
     let threads = thread_logs(alloc, &world, logs.into_lists())?;
     let end = world.end(alloc)?;

@@ -4,3 +4,4 @@ pub mod QueueModes
 pub mod QueueSeen
 pub mod Applies
 pub mod Counting
+pub mod Making
