@@ -15,3 +15,6 @@ pub use fault::ViewFault;
 pub use text::view;
 pub use threads::{ThreadView, thread_view};
 pub use values::{bytes, versions};
+
+#[cfg(test)]
+mod tests;

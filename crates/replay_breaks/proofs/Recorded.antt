@@ -1,5 +1,5 @@
 -- Where a replay stops whose log is below that of a run, or is that log.
-use Rattle.std.proofs.Common.{◌≡◌, ℕ, false, List, length, Some, sym, ap, ◌∙◌, subst, arith, inl, inr}
+use Rattle.std.proofs.Common.{◌≡◌, ℕ, false, List, length, Some, ap, ◌∙◌, subst, arith, inl, inr}
 use Rattle.std.proofs.Math.Logic.{∥∥₁_elim}
 use Rattle.std.proofs.lemmas.Option.{slice_get_within}
 use Rattle.rw_objects.specs.Space.{Space, SpaceLaws}
@@ -8,19 +8,17 @@ use Rattle.event_core.specs.declared.pick.Input.{Input}
 use Rattle.event_core.specs.declared.pick.Pick.{Pick}
 use Rattle.event_core.specs.World.{WorldAt}
 use Rattle.event_core.specs.Opening.{IsOpeningWorld}
-use Rattle.event_core.specs.Run.{IsRun, world_run}
 use Rattle.replay_laws.specs.declared.turn.Turn.{Turn}
 use Rattle.replay_laws.specs.declared.turn.Turn.TheVariants as turn
-use Rattle.replay_laws.specs.Log.{Log, HasLimits, IsBelowLog}
-use Rattle.replay_laws.specs.RunLog.{run_log}
-use Rattle.replay_laws.specs.Gates.{IsGatedRun, LetsPass}
+use Rattle.replay_laws.specs.Log.{Log, HasLimits}
+use Rattle.replay_laws.specs.Gates.{LetsPass}
 use Rattle.replay_laws.specs.Turns.{turn_of, input_of_turn}
 use Rattle.replay_laws.specs.Ordered.{thread_of_turn}
-use Rattle.replay_laws.specs.Laws.{IsWholeRun, IsRight, IsFree}
-use Rattle.replay_laws.proofs.Replays.{replays_are_right, complete_logs_are_run_logs, turns_are_gated_steps}
-use Rattle.replay_laws.proofs.Freedom.{complete_replays_are_free}
+use Rattle.replay_laws.specs.Laws.{IsWholeRun}
+use Rattle.replay_laws.proofs.Replays.{complete_logs_are_run_logs, turns_are_gated_steps}
 use Rattle.replay_gate.specs.Answers.{makes_step}
 use Rattle.replay_gate.specs.Leads.{Leads}
+use Rattle.replay_gate.proofs.Refusing.{right_at, free_at}
 use Rattle.replay_breaks.specs.declared.breaks.Break.{Break}
 use Rattle.replay_breaks.specs.declared.breaks.Stopped.{Stopped}
 use Rattle.replay_breaks.specs.declared.breaks.Stopped.TheVariants as stopped
@@ -37,16 +35,6 @@ step_by_input (turn.Event input) i h s = cc
 step_by_input (turn.Refused r) i h s = cc
 
 module _ {State Op Reply Value Fixed : Type 0} (space : Space Op Reply Value Fixed) (code : Code State Op Reply Fixed) (laws : SpaceLaws space) (rules : CodeLaws space code) where
-  right_at : (log : Log) (opened v : WorldAt State Value Fixed) (picks : List Pick) → IsOpeningWorld code opened → IsRun space code opened picks → IsBelowLog log (run_log space code opened picks) → Leads space code log opened v
-      → IsRight space code log opened picks v
-  right_at log opened v picks o run below leads =
-      subst (IsRight space code log opened picks) (sym leads.leads) (replays_are_right space code laws rules opened picks (record { opening = o; run = run }) log below leads.picks leads.gated)
-
-  free_at : (log : Log) (opened v : WorldAt State Value Fixed) (picks : List Pick) → IsWholeRun space code opened picks → log ≡ run_log space code opened picks → Leads space code log opened v → IsFree space code log v
-  free_at log opened v picks whole same leads =
-      let free = complete_replays_are_free space code laws rules opened picks whole leads.picks (subst (λ l. IsGatedRun space code l opened leads.picks) same leads.gated) in
-      subst (IsFree space code log) (sym leads.leads) (subst (λ l. IsFree space code l (world_run space code opened leads.picks)) (sym same) free)
-
   module _ (log : Log) (opened start v : WorldAt State Value Fixed) (order : List ℕ) (breaks : List Break) (o : ∥ IsOpeningWorld code opened ∥₁) (leads : ∥ Leads space code log opened v ∥₁) where
     right : (s : Stopped) → StopsAt space code log start order breaks v s → StopsRight space code log opened s
     right (stopped.Break index) h picks run below = tt
@@ -57,7 +45,7 @@ module _ {State Op Reply Value Fixed : Type 0} (space : Space Op Reply Value Fix
         elim h.stops.0 [
           | inl e ↦ e
           | inr d ↦ absurd (∥∥₁_elim o no_prop (λ opening. ∥∥₁_elim leads no_prop (λ l.
-              (right_at log opened v picks opening run below l).no_divergence t (ap (λ u. turn_of space code log u t) h.stops.1 ∙ d.refused))))
+              (right_at space code laws rules log opened v picks opening run below l).no_divergence t (ap (λ u. turn_of space code log u t) h.stops.1 ∙ d.refused))))
         ]
 
     goes_on : HasLimits log → RunsOut space code log start order breaks v → (p : Pick) → LetsPass space code log v p → ⊥
@@ -72,7 +60,7 @@ module _ {State Op Reply Value Fixed : Type 0} (space : Space Op Reply Value Fix
     free limits stopped.Stuck h picks run below complete =
         ∥∥₁_elim o no_prop (λ opening. ∥∥₁_elim leads no_prop (λ l.
         let whole : IsWholeRun space code opened picks = record { opening = opening; run = run } in
-        let at = free_at log opened v picks whole (complete_logs_are_run_logs space code laws rules opened picks whole log below complete) l in
+        let at = free_at space code laws rules log opened v picks whole (complete_logs_are_run_logs space code laws rules opened picks whole log below complete) l in
         elim at.goes_on [
           | inl f ↦ h.1 f
           | inr x ↦ goes_on limits h.0 x.0 x.1

@@ -1,7 +1,7 @@
 -- What refusals of turns tell of the log, and where turns lead.
 use Rattle.std.proofs.Common.{◌≡◌, ℕ, ◌⊎◌, true, false, List, [], ◌∷◌, Option, Some, None, slice_get, inl, inr, refl, sym, ap, ◌∙◌, subst}
 use Rattle.std.specs.Prelude.{Result, Ok, Err, OnOk, OnErr}
-use Rattle.std.proofs.Math.Logic.{∥∥₁_elim, ∥∥₁_map}
+use Rattle.std.proofs.Math.Logic.{∥∥₁_elim, ∥∥₁_map, ∥∥₁_prop}
 use Rattle.rw_objects.specs.Space.{Space, SpaceLaws}
 use Rattle.rw_objects.specs.Code.{Code, CodeLaws}
 use Rattle.event_core.specs.declared.pick.Pick.{Pick}
@@ -10,12 +10,12 @@ use Rattle.event_core.specs.declared.pick.Input.TheVariants.{Go}
 use Rattle.event_core.specs.Threads.{ThreadAt}
 use Rattle.event_core.specs.World.{WorldAt, world_after}
 use Rattle.event_core.specs.Opening.{IsOpeningWorld}
-use Rattle.event_core.specs.Run.{world_run}
+use Rattle.event_core.specs.Run.{world_run, IsRun}
 use Rattle.replay_laws.specs.declared.turn.Turn.{Turn}
 use Rattle.replay_laws.specs.declared.turn.Turn.TheVariants as turn
 use Rattle.replay_laws.specs.declared.turn.Refusal.{Refusal}
 use Rattle.replay_laws.specs.declared.turn.Refusal.TheVariants.{Missing, Clash, Shut, Diverged}
-use Rattle.replay_laws.specs.Log.{Log, HasLimits}
+use Rattle.replay_laws.specs.Log.{Log, HasLimits, IsBelowLog}
 use Rattle.replay_laws.specs.RunLog.{run_log}
 use Rattle.replay_laws.specs.Gates.{IsGatedRun}
 use Rattle.replay_laws.specs.Laws.{IsWholeRun, IsRight, IsFree}
@@ -30,6 +30,7 @@ use Rattle.replay_gate.specs.declared.answers.Turned.TheVariants as turned
 use Rattle.replay_gate.specs.Answers.{fault_of, makes_step, IsThreadsFault, TurnStops}
 use Rattle.replay_gate.specs.Leads.{Leads}
 use Rattle.replay_gate.specs.Turned.{answer_of_turn, TurnRefused, IsOfLessLog, IsShutOrWanting, IsRightRefusal, IsFreeRefusal}
+use Rattle.replay_gate.specs.Shows.{ShowsRecorded}
 use Rattle.replay_gate.proofs.Going.{nowhere, leads_on}
 
 -- what follows from what holds on Ok, and from what holds on Err
@@ -77,13 +78,14 @@ not_shut Shut t place f n e h = n e
 not_shut Diverged t place f n e h = h
 
 module _ {State Op Reply Value Fixed : Type 0} (space : Space Op Reply Value Fixed) (code : Code State Op Reply Fixed) (log : Log) (w : WorldAt State Value Fixed) (t : ℕ) where
-  there : (r : Refusal) (o : Option (ThreadAt State)) → slice_get w.threads t ≡ o → turn_by_thread space code log w t o ≡ turn.Refused r → (th : ThreadAt State) × (slice_get w.threads t ≡ Some th)
-  there r None is h = absurd cc
-  there r (Some th) is h = (th, is)
+  -- a turn is refused of a thread that is there
+  refused_there : (r : Refusal) (o : Option (ThreadAt State)) → slice_get w.threads t ≡ o → turn_by_thread space code log w t o ≡ turn.Refused r → (th : ThreadAt State) × (slice_get w.threads t ≡ Some th)
+  refused_there r None is h = absurd cc
+  refused_there r (Some th) is h = (th, is)
 
   pub refused_so : (r : Refusal) (f : ReplayFault) → turn_of space code log w t ≡ turn.Refused r → IsThreadsFault w t r f → TurnRefused space code log w t f
   refused_so r f q is =
-      let th = there r (slice_get w.threads t) refl q in
+      let th = refused_there r (slice_get w.threads t) refl q in
       record { refusal = r; refused = q; thread = th.0; exists = th.1; is = is th.0 th.1 }
 
   -- a turn is refused by a shut gate where its fault is that
@@ -105,12 +107,16 @@ module _ {State Op Reply Value Fixed : Type 0} (space : Space Op Reply Value Fix
   right_by log opened w picks t place Clash ok is = ok.no_clash t is
   right_by log opened w picks t place Diverged ok is = ok.no_divergence t is
 
+  pub right_at : (log : Log) (opened w : WorldAt State Value Fixed) (picks : List Pick) → IsOpeningWorld code opened → IsRun space code opened picks → IsBelowLog log (run_log space code opened picks) → Leads space code log opened w
+      → IsRight space code log opened picks w
+  right_at log opened w picks o run below leads =
+      subst (IsRight space code log opened picks) (sym leads.leads) (replays_are_right space code laws rules opened picks (record { opening = o; run = run }) log below leads.picks leads.gated)
+
   pub right_refusal : (log : Log) (opened w : WorldAt State Value Fixed) (t : ℕ) (f : ReplayFault) → IsOpeningWorld code opened → Leads space code log opened w
       → (f ≡ fault.NoMemory) ⊎ TurnRefused space code log w t f → IsRightRefusal space code log opened f
   right_refusal log opened w t f o leads (inl e) picks run below = subst IsOfLessLog (sym e) tt
   right_refusal log opened w t f o leads (inr x) picks run below =
-      let ok = replays_are_right space code laws rules opened picks (record { opening = o; run = run }) log below leads.picks leads.gated in
-      subst IsOfLessLog (sym x.is) (right_by log opened w picks t x.thread.places x.refusal (subst (IsRight space code log opened picks) (sym leads.leads) ok) x.refused)
+      subst IsOfLessLog (sym x.is) (right_by log opened w picks t x.thread.places x.refusal (right_at log opened w picks o run below leads) x.refused)
 
   free_by : (log : Log) (w : WorldAt State Value Fixed) (t place : ℕ) (r : Refusal) → IsFree space code log w → turn_of space code log w t ≡ turn.Refused r → IsShutOrWanting (fault_of r t place)
   free_by log w t place Missing ok is = absurd (ok.no_missing t is)
@@ -118,7 +124,7 @@ module _ {State Op Reply Value Fixed : Type 0} (space : Space Op Reply Value Fix
   free_by log w t place Clash ok is = absurd (ok.no_clash t is)
   free_by log w t place Diverged ok is = absurd (ok.no_divergence t is)
 
-  free_at : (log : Log) (opened w : WorldAt State Value Fixed) (picks : List Pick) → IsWholeRun space code opened picks → log ≡ run_log space code opened picks → Leads space code log opened w → IsFree space code log w
+  pub free_at : (log : Log) (opened w : WorldAt State Value Fixed) (picks : List Pick) → IsWholeRun space code opened picks → log ≡ run_log space code opened picks → Leads space code log opened w → IsFree space code log w
   free_at log opened w picks whole same leads =
       let free = complete_replays_are_free space code laws rules opened picks whole leads.picks (subst (λ l. IsGatedRun space code l opened leads.picks) same leads.gated) in
       subst (IsFree space code log) (sym leads.leads) (subst (λ l. IsFree space code l (world_run space code opened leads.picks)) (sym same) free)
@@ -171,6 +177,10 @@ module _ {State Op Reply Value Fixed : Type 0} (space : Space Op Reply Value Fix
       → (f ≡ fault.NoMemory) ⊎ TurnRefused space code log w t f → IsRightRefusal space code log opened f
   right_merely log opened w t f o leads r picks run below =
       ∥∥₁_elim o (less_prop f) (λ opening. ∥∥₁_elim leads (less_prop f) (λ l. right_refusal log opened w t f opening l r picks run below))
+
+  pub shows_merely : (log : Log) (opened w : WorldAt State Value Fixed) → ∥ IsOpeningWorld code opened ∥₁ → ∥ Leads space code log opened w ∥₁ → ShowsRecorded space code log opened w
+  shows_merely log opened w o leads picks run below =
+      ∥∥₁_elim o ∥∥₁_prop (λ opening. ∥∥₁_map leads (λ l. right_at log opened w picks opening run below l))
 
   pub free_merely : (log : Log) (opened w : WorldAt State Value Fixed) (t : ℕ) (f : ReplayFault) → ∥ IsOpeningWorld code opened ∥₁ → ∥ Leads space code log opened w ∥₁
       → (f ≡ fault.NoMemory) ⊎ TurnRefused space code log w t f → IsFreeRefusal space code log opened f

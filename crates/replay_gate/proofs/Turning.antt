@@ -1,5 +1,5 @@
--- What a turn does, by what the code reads of its thread, and the faults of turns.
-use Rattle.std.proofs.Common.{◌≡◌, ℕ, ◌<◌, ◌≤◌, Bool, true, false, cond, nat_lt, Option, Some, None, slice_get, option_map, refl, sym, ap, ◌∙◌, subst}
+-- What a turn does, by what the code reads of its thread.
+use Rattle.std.proofs.Common.{◌≡◌, ℕ, ◌<◌, ◌≤◌, Bool, true, false, cond, nat_lt, Some, slice_get, option_map, sym, ap, ◌∙◌, subst}
 use Rattle.std.proofs.lemmas.Bool.{lt-ltb, le-ltb}
 use Rattle.wasm_types.specs.declared.outcome.Outcome.{Outcome}
 use Rattle.rw_objects.specs.declared.next.Next.{Next}
@@ -12,15 +12,11 @@ use Rattle.log_pieces.specs.Decides.{end_decides}
 use Rattle.log_pieces.specs.declared.end.End.{End}
 use Rattle.join_laws.specs.declared.flat.Flat.TheVariants.{Known}
 use Rattle.replay_laws.specs.declared.turn.Turn.TheVariants as turn
-use Rattle.replay_laws.specs.declared.turn.Refusal.{Refusal}
 use Rattle.replay_laws.specs.declared.turn.Refusal.TheVariants.{Diverged}
 use Rattle.replay_laws.specs.Log.{Log}
 use Rattle.replay_laws.specs.RunLog.{end_of_thread}
 use Rattle.replay_laws.specs.Turns.{turn_by_next, turn_by_end, turn_by_thread, turn_of, same_end}
-use Rattle.replay_laws.specs.Finishing.{PassesOn}
-use Rattle.replay_gate.specs.declared.answers.ReplayFault.{ReplayFault}
 use Rattle.replay_gate.specs.Leads.{IsAtEnd}
-use Rattle.replay_gate.specs.Answers.{IsThreadsFault, TurnStops}
 use Rattle.replay_gate.proofs.Going.{made_of, some_same}
 
 known_same : (a b : End) → Some (Known a) ≡ Some (Known b) → a ≡ b
@@ -87,13 +83,3 @@ module _ {State Op Reply Value Fixed : Type 0} (space : Space Op Reply Value Fix
       ∙ ap (λ b. cond b (turn_by_next space code log w t th.0.places e.places (code.next th.0.state)) (cond (same_end e (end_of_thread code th.0)) turn.Done (turn.Refused Diverged))) (le-ltb _ _ past')
       ∙ ap (λ b. cond b turn.Done (turn.Refused Diverged)) (ap (same_end e) end ∙ same)
       )
-
-  -- a turn is refused of a thread that is there
-  refused_there : (r : Refusal) (o : Option (ThreadAt State)) → slice_get w.threads t ≡ o → turn_by_thread space code log w t o ≡ turn.Refused r → (th : ThreadAt State) × (slice_get w.threads t ≡ Some th)
-  refused_there r None is h = absurd (cc)
-  refused_there r (Some th) is h = (th, is)
-
-  pub turn_stops : (r : Refusal) (f : ReplayFault) → turn_of space code log w t ≡ turn.Refused r → (PassesOn (turn.Refused r) → ⊥) → IsThreadsFault w t r f → TurnStops space code log w t f
-  turn_stops r f q ends is =
-      let th = refused_there r (slice_get w.threads t) refl q in
-      record { refusal = r; refused = q; ends = ends; thread = th.0; exists = th.1; is = is th.0 th.1 }

@@ -5,6 +5,7 @@ ghost use Rattle.event_core.specs.World.{world_of};
 ghost use Rattle.replay_laws.specs.Turns.{turn_of, world_after_turn};
 ghost use Rattle.event_core.specs.Opening.{IsOpeningWorld};
 ghost use Rattle.replay_gate.specs.Leads.{Leads};
+ghost use Rattle.replay_gate.specs.Shows.{ShowsRecorded};
 ghost use Rattle.replay_gate.specs.Turned.{answer_of_turn, TurnRefused, IsRightRefusal, IsFreeRefusal};
 ghost use Rattle.replay_gate.specs.declared.answers.ReplayFault.TheVariants as ReplayFault;
 
@@ -48,9 +49,10 @@ impl<M: Machine<S>, S: ObjectSpace, L: ReadLog + Drop, O: OpenWorld<M, S> + Drop
 }
 
 impl<M: Machine<S>, S: ObjectSpace, L: ReadLog, O: OpenWorld<M, S>> Replay<M, S, L, O> {
-    /// The world at which it stands.
+    /// The world at which it stands. On a log below that of a run, its values and threads are recorded ones alone.
     pub fn world(&self) -> &World<M, S>
-        ensures { result.now ≡ self.now.world }
+        ensures same { result.now ≡ self.now.world }
+        ensures recorded { ShowsRecorded S.meaning M.code (L.log self.now.log) (O.opened self.now.opens) (world_of result.now) }
     {
         &self.world
     }

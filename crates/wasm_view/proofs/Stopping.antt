@@ -1,5 +1,5 @@
 -- Where the replay of a gathered log stops, of the log and the opening world that it was handed.
-use Rattle.std.proofs.Common.{◌≡◌, ℕ, ◌+◌, ◌<◌, List, length, refl, subst}
+use Rattle.std.proofs.Common.{◌≡◌, ℕ, ◌+◌, ◌<◌, List, length, refl, ap, ◌∙◌, subst}
 use Rattle.std.proofs.lemmas.Option.{slice_get_within}
 use Rattle.block_objects.specs.SharedMemory.{shared_memory}
 use Rattle.thread_code.specs.ThreadCode.{thread_code}
@@ -8,6 +8,7 @@ use Rattle.thread_plan.specs.Plans.{PlanValue}
 use Rattle.replica.specs.declared.log.Log.{Log as GatheredLog}
 use Rattle.wasm_world.specs.Opening.{WasmWorld}
 use Rattle.replay_gate.specs.declared.answers.ReplayFault.{ReplayFault}
+use Rattle.replay_gate.specs.Shows.{ShowsRecorded}
 use Rattle.replay_breaks.specs.declared.breaks.Break.{Break}
 use Rattle.replay_breaks.specs.declared.breaks.Stopped.{Stopped}
 use Rattle.replay_breaks.specs.declared.breaks.Stopped.TheVariants as stopped
@@ -18,7 +19,8 @@ use Rattle.debug_views.specs.Text.{IsShown, IsView}
 use Rattle.debug_views.specs.Values.{memory_bytes, IsFault}
 use Rattle.debug_views.specs.declared.fault.ViewFault.{ViewFault}
 use Rattle.debug_views.specs.declared.fault.ViewFault.TheVariants as showing
-use Rattle.wasm_replay.specs.Replays.{Opens, IsOfRun, gathered_log}
+use Rattle.wasm_replay.specs.Replays.{Opens, IsOfRun, IsOpenerOf, world_or_empty, opened_world, gathered_log}
+use Rattle.wasm_replay.specs.declared.opener.Opener.{Opener}
 use Rattle.wasm_view.specs.declared.viewing.WasmViewFault.TheVariants.{View}
 use Rattle.wasm_view.specs.Views.{Stops, IsViewOfLog, IsNotViewed}
 
@@ -35,15 +37,30 @@ module _ (m : Module) (plan : PlanValue) (log handed : GatheredLog) (order : Lis
       subst (λ (l : GatheredLog). StopsAt shared_memory thread_code (gathered_log l) w order breaks v s) same_log
       (subst (λ (x : WasmWorld). StopsAt shared_memory thread_code (gathered_log handed) x order breaks v s) (same_world w opens) h)
 
+  -- the world at which it stopped is right by each run of the opening world whose log the log is below
+  pub shows : (o : Opener) (shown_at : WasmWorld) → handed ≡ log → IsOpenerOf m plan log o → shown_at ≡ v → ShowsRecorded shared_memory thread_code (gathered_log handed) (opened_world o.valid.now o.plan.now o.profile) shown_at
+      → (w : WasmWorld) → Opens m plan log w → ShowsRecorded shared_memory thread_code (gathered_log log) w v
+  shows o shown_at same_log is same_end h w opens =
+      let same_world : opened_world o.valid.now o.plan.now o.profile ≡ w =
+      ap (λ (x : Module). opened_world x o.plan.now o.profile) is.module
+      ∙ ap (λ (x : PlanValue). opened_world m x o.profile) is.plan_is
+      ∙ ap (opened_world m plan) is.profile
+      ∙ ap (world_or_empty m (key_of log).profile) opens in
+      subst (ShowsRecorded shared_memory thread_code (gathered_log log) w) same_end
+      (subst (λ (x : WasmWorld). ShowsRecorded shared_memory thread_code (gathered_log log) x shown_at) same_world
+      (subst (λ (l : GatheredLog). ShowsRecorded shared_memory thread_code (gathered_log l) (opened_world o.valid.now o.plan.now o.profile) shown_at) same_log h))
+
   -- the view of the world at which it stopped
   pub view_of : (shown_at : WasmWorld) (s : Stopped) (power from len : ℕ) (text : List ℕ) → StopsAt shared_memory thread_code (gathered_log handed) opened order breaks v s → handed ≡ log → ((w : WasmWorld) → Opens m plan log w → opened ≡ w)
-      → shown_at ≡ v → power ≡ block_power (key_of log).profile → IsView shared_memory thread_code shown_at power s breaks from len text → IsViewOfLog m plan log order breaks from len text
-  view_of shown_at s power from len text h same_log same_world same_end same_power shows = record {
+      → shown_at ≡ v → power ≡ block_power (key_of log).profile → IsView shared_memory thread_code shown_at power s breaks from len text
+      → ((w : WasmWorld) → Opens m plan log w → ShowsRecorded shared_memory thread_code (gathered_log log) w v) → IsViewOfLog m plan log order breaks from len text
+  view_of shown_at s power from len text h same_log same_world same_end same_power view recorded = record {
     world = v;
     stopped = s;
     stops = stops_of s h same_log same_world;
     view = subst (λ (x : WasmWorld). IsView shared_memory thread_code x (block_power (key_of log).profile) s breaks from len text) same_end
-        (subst (λ (p : ℕ). IsView shared_memory thread_code shown_at p s breaks from len text) same_power shows);
+        (subst (λ (p : ℕ). IsView shared_memory thread_code shown_at p s breaks from len text) same_power view);
+    recorded = recorded;
   }
 
   -- the range passes that world's memory, or there was no memory for the view

@@ -10,13 +10,13 @@ use Rattle.replica.specs.Log.{key_of}
 use Rattle.wasm_world.specs.Opening.{WasmWorld}
 use Rattle.replay_gate.specs.declared.answers.ReplayFault.{ReplayFault}
 use Rattle.replay_gate.specs.declared.answers.ReplayFault.TheVariants as fault
+use Rattle.replay_gate.specs.Shows.{ShowsRecorded}
 use Rattle.replay_breaks.specs.declared.breaks.Break.{Break}
 use Rattle.replay_breaks.specs.declared.breaks.Stopped.{Stopped}
 use Rattle.replay_breaks.specs.declared.breaks.Stopped.TheVariants as stopped
 use Rattle.replay_breaks.specs.Stops.{StopsAt}
 use Rattle.debug_views.specs.Text.{IsView}
 use Rattle.debug_views.specs.Values.{memory_bytes}
-use Rattle.debug_views.specs.declared.fault.ViewFault.{ViewFault}
 use Rattle.debug_views.specs.declared.fault.ViewFault.TheVariants as showing
 use Rattle.wasm_replay.specs.Replays.{Opens, IsOfRun, IsOfNoRun, gathered_log}
 use Rattle.wasm_replay.specs.declared.replaying.WasmReplayFault.{WasmReplayFault}
@@ -29,12 +29,13 @@ module _ (m : Module) (plan : PlanValue) (log : GatheredLog) (order : List ℕ) 
   abbrev pub Stops : WasmWorld → Stopped → Type 0
   Stops v s = (w : WasmWorld) → Opens m plan log w → StopsAt shared_memory thread_code (gathered_log log) w order breaks v s
 
-  -- the view of the world at which the replay stops
+  -- the view of the world at which the replay stops; on a log below that of a run, that world is right by the run
   pub record IsViewOfLog (from len : ℕ) (text : List ℕ) : Type 0 where
     pub world : WasmWorld
     pub stopped : Stopped
     pub stops : Stops world stopped
     pub view : IsView shared_memory thread_code world (block_power (key_of log).profile) stopped breaks from len text
+    pub recorded : (w : WasmWorld) → Opens m plan log w → ShowsRecorded shared_memory thread_code (gathered_log log) w world
 
   -- the replay stops at a world whose memory the range passes
   pub record IsOutOfView (from len : ℕ) : Type 0 where

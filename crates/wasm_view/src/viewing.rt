@@ -27,7 +27,8 @@ pub enum WasmViewFault {
 }
 
 /// Replays a log that was gathered, in this order, up to the first break that holds, or until no thread goes on, and shows
-/// the world at which it stops. The bytes shown are those from an address on, so many.
+/// the world at which it stops. The bytes shown are those from an address on, so many. On a log below that of a run of the
+/// module and plan, the values and threads of that world are recorded ones alone.
 pub fn view_log(
     alloc: Global,
     valid: &Valid,

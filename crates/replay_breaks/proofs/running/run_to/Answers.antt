@@ -64,7 +64,7 @@ loop-made-init g c =
     let end : c.loop-thread.thread-index ≡ length order = let a = c.loop-thread.auto.thread-index-end in let b = c.loop-thread-test.false in omega (arith, a, b) in
     record {
       round = round_start space code log start order breaks w (subst (λ k. IsBehind space code log start order breaks k w) end inv.behind);
-      count = c.count-count.ensures.count ∙ ap (λ x. length (world_of x).threads) c.world.ensures ∙ at_length space code log start order breaks c.loop-thread.thread-index w inv.behind;
+      count = c.count-count.ensures.count ∙ ap (λ x. length (world_of x).threads) c.world.ensures.same ∙ at_length space code log start order breaks c.loop-thread.thread-index w inv.behind;
       log = inv.log;
       opens = inv.opens;
     }

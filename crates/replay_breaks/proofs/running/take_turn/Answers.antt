@@ -20,8 +20,8 @@ returns-in-Some-clause-stops g c =
     let t = c.args.thread in
     let d = c.in-Ok.turned in
     let marks = c.marks_of-marks.result in
-    let m = subst (λ x. AreMarks space code (world_of x) t marks) c.world.ensures c.marks_of-marks.ensures in
-    let first = subst (λ x. IsFirst code c.args.breaks.now t d marks (world_of x) c.in-Some.index) c.world-else-is_done.ensures c.in-Some.ensures.some in (
+    let m = subst (λ x. AreMarks space code (world_of x) t marks) c.world.ensures.same c.marks_of-marks.ensures in
+    let first = subst (λ x. IsFirst code c.args.breaks.now t d marks (world_of x) c.in-Some.index) c.world-else-is_done.ensures.same c.in-Some.ensures.some in (
       first_hits space code (g.L.ReadLog.log c.args.replay.now.log) w t d marks v m c.in-Ok.ensures.ok c.in-Ok.ensures.world c.args.breaks.now c.in-Some.index (sym c.is_done.ensures ∙ c.if-is_done.false) first,
       c.in-Ok.ensures.world,
     )
@@ -35,6 +35,6 @@ returns-in-None-clause-none g c =
     let t = c.args.thread in
     let d = c.in-Ok.turned in
     let marks = c.marks_of-marks.result in
-    let m = subst (λ x. AreMarks space code (world_of x) t marks) c.world.ensures c.marks_of-marks.ensures in
-    let none = subst (λ x. HoldsNone code c.args.breaks.now t d marks (world_of x)) c.world-else-is_done.ensures (c.first_that_holds.ensures.none c.in-None.is) in
+    let m = subst (λ x. AreMarks space code (world_of x) t marks) c.world.ensures.same c.marks_of-marks.ensures in
+    let none = subst (λ x. HoldsNone code c.args.breaks.now t d marks (world_of x)) c.world-else-is_done.ensures.same (c.first_that_holds.ensures.none c.in-None.is) in
     none_hits space code (g.L.ReadLog.log c.args.replay.now.log) w t d marks v m c.in-Ok.ensures.ok c.in-Ok.ensures.world c.args.breaks.now none

@@ -1,7 +1,9 @@
-use Rattle.std.proofs.Common.{ap, ◌∙◌}
+use Rattle.std.proofs.Common.{sym, ap, ◌∙◌, subst}
 use Rattle.thread_step.specs.Opening.{block_power}
 use Rattle.event_core.specs.World.{world_of}
-use Rattle.wasm_view.proofs.Stopping.{shown, view_of, fault_of}
+use Rattle.wasm_replay.specs.Replays.{IsOpenerOf}
+use Rattle.wasm_replay.specs.declared.gathered.Gathered.{Gathered}
+use Rattle.wasm_view.proofs.Stopping.{shown, shows, view_of, fault_of}
 use Rattle.wasm_view.proofs.viewing.view_log.Goals as goal
 
 pub view-requires : goal.view-requires
@@ -13,8 +15,11 @@ returns-in-Ok-view c = record {
   of_run = c.in-Ok.ensures.of_run;
   shown = view_of c.args.valid.now c.args.plan.now c.args.log.now c.in-Ok.replay.log.log.now c.args.order.now c.args.breaks.now (world_of c.in-Ok.replay.world) (world_of c.run_to-stopped.new.replay.world)
       (world_of c.world.result.now) c.run_to-stopped.result c.memory_limits-block.result.block c.args.from c.args.len _
-      c.run_to-stopped.ensures.stops c.in-Ok.ensures.log c.in-Ok.ensures.world (ap (λ x. world_of x) c.world.ensures)
-      (ap (λ l. l.block) c.memory_limits-block.ensures ∙ ap (λ k. block_power k.profile) c.key.ensures) c.in-Ok-view.ensures.view;
+      c.run_to-stopped.ensures.stops c.in-Ok.ensures.log c.in-Ok.ensures.world (ap (λ x. world_of x) c.world.ensures.same)
+      (ap (λ l. l.block) c.memory_limits-block.ensures ∙ ap (λ k. block_power k.profile) c.key.ensures) c.in-Ok-view.ensures.view
+      (shows c.args.valid.now c.args.plan.now c.args.log.now c.run_to-stopped.new.replay.log.log.now c.args.order.now c.args.breaks.now (world_of c.in-Ok.replay.world) (world_of c.run_to-stopped.new.replay.world)
+      c.run_to-stopped.new.replay.opens (world_of c.world.result.now) (ap (λ (g : Gathered). g.log.now) c.run_to-stopped.ensures.log ∙ c.in-Ok.ensures.log)
+      (subst (IsOpenerOf c.args.valid.now c.args.plan.now c.args.log.now) (sym c.run_to-stopped.ensures.opens) c.in-Ok.ensures.opens) (ap (λ x. world_of x) c.world.ensures.same) c.world.ensures.recorded);
   refused = tt;
 }
 
@@ -24,6 +29,6 @@ returns c = record {
   shown = tt;
   refused = fault_of c.args.valid.now c.args.plan.now c.args.log.now c.in-Ok.replay.log.log.now c.args.order.now c.args.breaks.now (world_of c.in-Ok.replay.world) (world_of c.run_to-stopped.new.replay.world)
       (world_of c.world.result.now) c.run_to-stopped.result c.args.from c.args.len c.in-Err-view.fault
-      c.run_to-stopped.ensures.stops c.in-Ok.ensures.log c.in-Ok.ensures.world (ap (λ x. world_of x) c.world.ensures)
+      c.run_to-stopped.ensures.stops c.in-Ok.ensures.log c.in-Ok.ensures.world (ap (λ x. world_of x) c.world.ensures.same)
       c.in-Ok.ensures.of_run c.in-Err-view.ensures.fault;
 }
