@@ -1,26 +1,13 @@
 -- What a file may hold and whether it may fail, after other files were read, may have been so before.
 use Rattle.std.proofs.Common.{ℕ, List}
 use Rattle.wasm_types.specs.declared.modules.Module.{Module}
-use Rattle.event_core.specs.declared.pick.Pick.{Pick}
-use Rattle.thread_plan.specs.Plans.{PlanValue}
-use Rattle.replica.specs.declared.log.Log.{Log}
 use Rattle.commands.specs.declared.files.FileFault.{FileFault}
 use Rattle.commands.specs.declared.files.FileFault.TheVariants as file
 use Rattle.commands.specs.declared.fault.Fault.{Fault}
-use Rattle.commands.specs.declared.fault.Fault.TheVariants.{File, Decode, Valid, Plan, Schedule, Size, Gather, Replay, View, NoMemory, SinkFailed}
-use Rattle.commands.specs.Checks.{IsFileFault}
-use Rattle.commands.specs.Inputs.{IsPlanFile, IsPlanRefused, IsLogFile, IsLinesRefused}
-use Rattle.commands.specs.Records.{IsScheduleFile, IsScheduleRefused}
-
-module _ {holds later : List ℕ → Type 0} (held : (bytes : List ℕ) → later bytes → holds bytes) where
-  pub plan_earlier : (m : Module) (plan : PlanValue) → IsPlanFile later m plan → IsPlanFile holds m plan
-  plan_earlier m plan h = (h.0, held h.0 h.1, h.2)
-
-  pub log_earlier : (m : Module) (plan : PlanValue) (log : Log) → IsLogFile later m plan log → IsLogFile holds m plan log
-  log_earlier m plan log h = (h.0, held h.0 h.1, h.2)
-
-  pub schedule_earlier : (picks : List Pick) → IsScheduleFile later picks → IsScheduleFile holds picks
-  schedule_earlier picks h = (h.0, held h.0 h.1, h.2)
+use Rattle.commands.specs.declared.fault.Fault.TheVariants.{File, Decode, Valid, Plan, Schedule, Pieces, Gather, Replay, View, NoMemory, SinkFailed}
+use Rattle.commands.specs.Files.{IsFileFault}
+use Rattle.commands.specs.Inputs.{IsPlanRefused, IsLinesRefused}
+use Rattle.commands.specs.Records.{IsScheduleRefused}
 
 module _ {holds later : List ℕ → Type 0} {fails breaks : Type 0} (held : (bytes : List ℕ) → later bytes → holds bytes) (failed : breaks → fails) where
   pub file_earlier : (fault : FileFault) → IsFileFault breaks fault → IsFileFault fails fault
@@ -33,7 +20,7 @@ module _ {holds later : List ℕ → Type 0} {fails breaks : Type 0} (held : (by
   plan_refused_earlier m (Valid fault) h = h
   plan_refused_earlier m (Plan fault) h = (h.0, held h.0 h.1, h.2)
   plan_refused_earlier m (Schedule fault) h = h
-  plan_refused_earlier m (Size fault) h = h
+  plan_refused_earlier m (Pieces fault) h = h
   plan_refused_earlier m (Gather fault) h = h
   plan_refused_earlier m (Replay fault) h = h
   plan_refused_earlier m (View fault) h = h
@@ -46,7 +33,7 @@ module _ {holds later : List ℕ → Type 0} {fails breaks : Type 0} (held : (by
   lines_refused_earlier (Valid fault) h = h
   lines_refused_earlier (Plan fault) h = h
   lines_refused_earlier (Schedule fault) h = h
-  lines_refused_earlier (Size fault) h = h
+  lines_refused_earlier (Pieces fault) h = h
   lines_refused_earlier (Gather fault) h = (h.0, held h.0 h.1, h.2)
   lines_refused_earlier (Replay fault) h = h
   lines_refused_earlier (View fault) h = h
@@ -59,7 +46,7 @@ module _ {holds later : List ℕ → Type 0} {fails breaks : Type 0} (held : (by
   schedule_refused_earlier (Valid fault) h = h
   schedule_refused_earlier (Plan fault) h = h
   schedule_refused_earlier (Schedule fault) h = (h.0, held h.0 h.1, h.2)
-  schedule_refused_earlier (Size fault) h = h
+  schedule_refused_earlier (Pieces fault) h = h
   schedule_refused_earlier (Gather fault) h = h
   schedule_refused_earlier (Replay fault) h = h
   schedule_refused_earlier (View fault) h = h

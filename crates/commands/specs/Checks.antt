@@ -7,8 +7,7 @@ use Rattle.binary_decoder.specs.Grammar.{Spells}
 use Rattle.wasm_types.specs.Limits.{Within}
 use Rattle.binary_decoder.specs.Summary.{summary_text}
 use Rattle.validator.specs.Valid.{WellTyped, Refuses}
-use Rattle.commands.specs.declared.files.FileFault.{FileFault}
-use Rattle.commands.specs.declared.files.FileFault.TheVariants as file
+use Rattle.commands.specs.Files.{IsFileFault}
 use Rattle.commands.specs.declared.fault.Fault.{Fault}
 use Rattle.commands.specs.declared.fault.Fault.TheVariants.{File, Decode, Valid, NoMemory}
 
@@ -22,11 +21,6 @@ abbrev pub IsDecodeFault : List ℕ → DecodeFault → Type 0
 IsDecodeFault bytes (decoding.Refused offset) = (m : Module) → Spells m bytes → ⊥
 IsDecodeFault bytes decoding.TooLarge = (m : Module) → IsModule bytes m → ⊥
 IsDecodeFault bytes decoding.NoMemory = Unit {0}
-
--- why a file is not read, where it fails so
-abbrev pub IsFileFault : Type 0 → FileFault → Type 0
-IsFileFault fails file.NotRead = fails
-IsFileFault fails file.NoMemory = Unit {0}
 
 module _ (holds : List ℕ → Type 0) where
   -- the file's module, which is well typed

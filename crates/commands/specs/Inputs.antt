@@ -11,7 +11,8 @@ use Rattle.replica.specs.Log.{key_of}
 use Rattle.replica.specs.LogOf.{IsLogOf, Among}
 use Rattle.replica.specs.Gathered.{IsText, IsGathered, IsBadLine, IsOtherRun}
 use Rattle.wasm_record.specs.Recordings.{IsKeyOf}
-use Rattle.commands.specs.Checks.{IsFileFault}
+use Rattle.commands.specs.Files.{IsFileFault}
+use Rattle.commands.specs.Checks.{IsValidFile, IsModuleRefused}
 use Rattle.commands.specs.declared.fault.Fault.{Fault}
 use Rattle.commands.specs.declared.fault.Fault.TheVariants.{File, Plan, Gather}
 
@@ -57,3 +58,14 @@ module _ (holds : List ℕ → Type 0) where
   IsLinesRefused fails (File fault) = IsFileFault fails fault
   IsLinesRefused fails (Gather fault) = (bytes : List ℕ) × holds bytes × IsLinesFault bytes fault
   IsLinesRefused fails _ = ⊥
+
+module _ (holds : List ℕ → List ℕ → Type 0) where
+  -- the module in one file, and the plan for it in another
+  pub record IsProgram (module_path plan_path : List ℕ) (m : Module) (plan : PlanValue) : Type 0 where
+    pub has_module : IsValidFile (holds module_path) m
+    pub has_plan : IsPlanFile (holds plan_path) m plan
+
+  -- the first refusal: of the module, else of the plan
+  abbrev pub IsProgramRefused : (List ℕ → Type 0) → List ℕ → List ℕ → Fault → Type 0
+  IsProgramRefused fails module_path plan_path fault = IsModuleRefused (holds module_path) (fails module_path) fault
+      ⊎ ((m : Module) × IsValidFile (holds module_path) m × IsPlanRefused (holds plan_path) (fails plan_path) m fault)

@@ -1,4 +1,5 @@
 pub mod Texts
+pub mod Files
 pub mod Checks
 pub mod Inputs
 pub mod Records

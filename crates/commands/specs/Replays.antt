@@ -6,8 +6,7 @@ use Rattle.thread_plan.specs.Plans.{PlanValue}
 use Rattle.replica.specs.declared.log.Log.{Log}
 use Rattle.wasm_replay.specs.Replays.{IsOrderedAnswer, EndsAsRecorded, IsRefusal}
 use Rattle.run_report.specs.Report.{report_text}
-use Rattle.commands.specs.Checks.{IsValidFile, IsModuleRefused}
-use Rattle.commands.specs.Inputs.{IsPlanFile, IsPlanRefused, IsLogFile, IsLinesRefused}
+use Rattle.commands.specs.Inputs.{IsProgram, IsProgramRefused, IsLogFile, IsLinesRefused}
 use Rattle.commands.specs.declared.fault.Fault.{Fault}
 use Rattle.commands.specs.declared.fault.Fault.TheVariants.{Replay, NoMemory}
 use Rattle.command_words.specs.declared.requests.ReplayRequest.{ReplayRequest}
@@ -32,15 +31,13 @@ IsReplayRefusal m plan log order _ = ⊥
 module _ (holds : List ℕ → List ℕ → Type 0) where
   -- the module, the plan and the log in the files
   pub record IsReplayInput (request : ReplayRequest) (m : Module) (plan : PlanValue) (log : Log) : Type 0 where
-    pub has_module : IsValidFile (holds request.«module».now) m
-    pub has_plan : IsPlanFile (holds request.plan.now) m plan
+    pub has_program : IsProgram holds request.«module».now request.plan.now m plan
     pub has_log : IsLogFile (holds request.pieces.now) m plan log
 
   -- the first refusal: of the module, else of the plan, else of the piece lines
   abbrev pub IsInputRefused : (List ℕ → Type 0) → ReplayRequest → Fault → Type 0
-  IsInputRefused fails request fault = IsModuleRefused (holds request.«module».now) (fails request.«module».now) fault
-      ⊎ ((m : Module) × IsValidFile (holds request.«module».now) m × (IsPlanRefused (holds request.plan.now) (fails request.plan.now) m fault
-      ⊎ ((plan : PlanValue) × IsPlanFile (holds request.plan.now) m plan × IsLinesRefused (holds request.pieces.now) (fails request.pieces.now) fault)))
+  IsInputRefused fails request fault = IsProgramRefused holds fails request.«module».now request.plan.now fault
+      ⊎ ((m : Module) × (plan : PlanValue) × IsProgram holds request.«module».now request.plan.now m plan × IsLinesRefused (holds request.pieces.now) (fails request.pieces.now) fault)
 
   pub record IsReplayedText (request : ReplayRequest) (text : List ℕ) : Type 0 where
     pub m : Module

@@ -19,10 +19,10 @@ use Rattle.debug_views.specs.declared.fault.ViewFault.{ViewFault}
 use Rattle.debug_views.specs.declared.fault.ViewFault.TheVariants as viewing
 use Rattle.commands.specs.declared.files.FileFault.{FileFault}
 use Rattle.commands.specs.declared.files.FileFault.TheVariants as file
-use Rattle.commands.specs.declared.fault.SizeFault.{SizeFault}
-use Rattle.commands.specs.declared.fault.SizeFault.TheVariants as size
+use Rattle.run_pieces.specs.declared.fault.PiecesFault.{PiecesFault}
+use Rattle.run_pieces.specs.declared.fault.PiecesFault.TheVariants as cutting
 use Rattle.commands.specs.declared.fault.Fault.{Fault}
-use Rattle.commands.specs.declared.fault.Fault.TheVariants.{File, Decode, Valid, Plan, Schedule, Size, Gather, Replay, View, NoMemory, SinkFailed}
+use Rattle.commands.specs.declared.fault.Fault.TheVariants.{File, Decode, Valid, Plan, Schedule, Pieces, Gather, Replay, View, NoMemory, SinkFailed}
 
 -- a name, and two numbers behind it
 abbrev pub placed : List ℕ → ℕ → ℕ → List ℕ
@@ -54,9 +54,10 @@ abbrev pub schedule_text : ScheduleFault → List ℕ
 schedule_text (scheduling.BadLine line) = codes "refused 18 BadSchedule " ++ decimal line
 schedule_text scheduling.NoMemory = codes "refused 23 NoMemory"
 
-abbrev pub size_text : SizeFault → List ℕ
-size_text size.Empty = codes "refused 31 Empty"
-size_text size.TooMany = codes "refused 32 TooMany"
+abbrev pub pieces_text : PiecesFault → List ℕ
+pieces_text cutting.Empty = codes "refused 31 Empty"
+pieces_text cutting.TooMany = codes "refused 32 TooMany"
+pieces_text cutting.NoMemory = codes "refused 23 NoMemory"
 
 abbrev pub gather_text : GatherFault → List ℕ
 gather_text (gathering.OtherRun line) = codes "refused 41 OtherRun " ++ decimal line
@@ -88,7 +89,7 @@ fault_text (Decode fault) = decode_text fault
 fault_text (Valid fault) = valid_text fault
 fault_text (Plan fault) = plan_text fault
 fault_text (Schedule fault) = schedule_text fault
-fault_text (Size fault) = size_text fault
+fault_text (Pieces fault) = pieces_text fault
 fault_text (Gather fault) = gather_text fault
 fault_text (Replay fault) = refusal_text fault
 fault_text (View fault) = view_text fault

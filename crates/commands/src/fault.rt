@@ -7,19 +7,11 @@ use byte_reader::DecodeFault;
 use debug_views::ViewFault;
 use pick_schedule::ScheduleFault;
 use replica::GatherFault;
+use run_pieces::PiecesFault;
 use thread_plan::PlanFault;
 use validator::ValidFault;
 use wasm_replay::WasmReplayFault;
 use wasm_types::NoMemory;
-
-/// Why pieces of a size can't be.
-#[derive(Clone, Copy, Debug, PartialEq, Eq)]
-pub enum SizeFault {
-    /// Refusal 31: pieces of no entry.
-    Empty,
-    /// Refusal 32: pieces of more than 4,096 entries.
-    TooMany,
-}
 
 /// Why a command is refused. `text` is the line that the program writes, without its end.
 #[derive(Clone, Copy, Debug, PartialEq, Eq)]
@@ -34,8 +26,8 @@ pub enum Fault {
     Plan(PlanFault),
     /// The text of the schedule spells none.
     Schedule(ScheduleFault),
-    /// Pieces of the size can't be.
-    Size(SizeFault),
+    /// There are no pieces of the size.
+    Pieces(PiecesFault),
     /// The piece lines give no log.
     Gather(GatherFault),
     /// The log is not replayed to its end, or to where it stops.

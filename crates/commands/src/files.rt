@@ -1,7 +1,9 @@
 //! The files that commands name.
 
-ghost use Rattle.std.specs.Prelude.{◌≡◌, ℕ, List, IfOk, Err};
+ghost use Rattle.std.specs.Prelude.{◌≡◌, ℕ, List, IfOk, IfErr, Err};
+ghost use Rattle.commands.specs.Files.{IsRead, IsFileFault};
 
+use log::{Log, info};
 use std::alloc::Global;
 
 /// Why a file was not read.
@@ -24,11 +26,29 @@ pub trait Files {
     /// The file at a path may fail to be read, from now on.
     ghost fails: { Self → List ℕ → Type 0 };
 
-    /// The bytes of the file at that path.
-    fn read(&mut self, alloc: Global, path: &str) -> Result<Vec<u8>, FileFault>
-        ensures bytes { IfOk result (λ bytes. holds self.old path.now bytes.items) }
+    /// The bytes of the file at that path; with `most`, the first of them, at most so many. No more memory is taken than
+    /// these fill.
+    fn read(&mut self, alloc: Global, path: &str, most: Option<usize>) -> Result<Vec<u8>, FileFault>
+        ensures bytes { IfOk result (λ bytes. IsRead (holds self.old path.now) most bytes.items) }
         ensures not_read { result ≡ Err NotRead → fails self.old path.now }
         // What may be read later might have been read before.
         ensures still_holds { (other bytes : List ℕ) → holds self.new other bytes → holds self.old other bytes }
         ensures still_fails { (other : List ℕ) → fails self.new other → fails self.old other };
+}
+
+/// Notes that a file is read, and reads it; with `most`, only its beginning.
+pub(crate) fn read_file<L: Log, F: Files>(
+    rt: &L,
+    alloc: Global,
+    files: &mut F,
+    path: &str,
+    most: Option<usize>,
+) -> Result<Vec<u8>, FileFault>
+    ensures found { IfOk result (λ bytes. IsRead (F.holds files.old path.now) most bytes.items) }
+    ensures refused { IfErr result (IsFileFault (F.fails files.old path.now)) }
+    ensures still_holds { (other bytes : List ℕ) → F.holds files.new other bytes → F.holds files.old other bytes }
+    ensures still_fails { (other : List ℕ) → F.fails files.new other → F.fails files.old other }
+{
+    info!(rt; "reads {path}");
+    files.read(alloc, path, most)
 }

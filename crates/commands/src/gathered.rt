@@ -9,13 +9,12 @@ ghost use Rattle.commands.specs.declared.fault.Fault.TheVariants as faults;
 ghost use Rattle.replica.specs.declared.replica.Replica.{Replica};
 
 use crate::fault::Fault;
-use crate::files::Files;
-use crate::program::{read_module, read_plan};
+use crate::files::{Files, read_file};
+use crate::program::{Program, read_program};
 use command_words::ReplayRequest;
+use log::Log;
 use replica::{GatherFault, MemorySource, Replica, collect};
 use std::alloc::Global;
-use thread_plan::Plan;
-use validator::Valid;
 use wasm_types::{Block, Profile, RunKey};
 
 /// How many bytes are handed over at once.
@@ -37,32 +36,32 @@ fn collect_text(alloc: Global, text: &[u8]) -> Result<Option<Replica>, GatherFau
 }
 
 /// The log of a module and a plan of which no piece is there.
-fn empty_log(alloc: Global, valid: &Valid, plan: &Plan) -> Replica
-    ensures { IsEmptyLog valid.now plan.now (log_of result) }
+fn empty_log(alloc: Global, program: &Program) -> Replica
+    ensures { IsEmptyLog program.now.valid program.now.plan (log_of result) }
 {
-    let source = valid.module().source.as_slice();
+    let source = program.valid.module().source.as_slice();
     let profile = Profile::Two(Block::least());
-    Replica::new(alloc, RunKey::of(source, plan.bytes(), 0, profile))
+    Replica::new(alloc, RunKey::of(source, program.plan.bytes(), 0, profile))
 }
 
 /// The log that the piece lines in a file give for a module and a plan.
-fn read_log<F: Files>(
+fn read_log<L: Log, F: Files>(
+    rt: &L,
     alloc: Global,
     files: &mut F,
     path: &str,
-    valid: &Valid,
-    plan: &Plan,
+    program: &Program,
 ) -> Result<Replica, Fault>
-    ensures found { IfOk result (λ replica. IsLogFile (F.holds files.old path.now) valid.now plan.now (log_of replica)) }
+    ensures found { IfOk result (λ replica. IsLogFile (F.holds files.old path.now) program.now.valid program.now.plan (log_of replica)) }
     ensures refused { IfErr result (λ fault. IsLinesRefused (F.holds files.old path.now) (F.fails files.old path.now) fault) }
 {
-    let bytes = match files.read(alloc, path) {
+    let bytes = match read_file(rt, alloc, files, path, None) {
         Ok(bytes) => bytes,
         Err(fault) => return Err(Fault::File(fault)),
     };
     match collect_text(alloc, &bytes) {
         Ok(Some(replica)) => Ok(replica),
-        Ok(None) => Ok(empty_log(alloc, valid, plan)),
+        Ok(None) => Ok(empty_log(alloc, program)),
         Err(fault) => Err(Fault::Gather(fault)),
     }
 }
@@ -70,36 +69,28 @@ fn read_log<F: Files>(
 /// What a replay is made of: a module, a plan for it, and a log.
 #[derive(Drop)]
 pub(crate) struct ReplayInput {
-    pub(crate) valid: Valid,
-    pub(crate) plan: Plan,
+    pub(crate) program: Program,
     pub(crate) replica: Replica,
 }
 
 /// The module, the plan and the log in the files of a replay. The module is read and judged, then the plan, then the piece
 /// lines.
-pub(crate) fn read_input<F: Files>(
+pub(crate) fn read_replay_input<L: Log, F: Files>(
+    rt: &L,
     alloc: Global,
     files: &mut F,
     request: &ReplayRequest<'_>,
 ) -> Result<ReplayInput, Fault>
-    ensures found { IfOk result (λ input. IsReplayInput (F.holds files.old) request.now input.valid input.plan (log_of input.replica)) }
-    ensures suits { IfOk result (λ input. IsPlanOf input.valid input.plan) }
+    ensures found { IfOk result (λ input. IsReplayInput (F.holds files.old) request.now input.program.valid input.program.plan (log_of input.replica)) }
+    ensures suits { IfOk result (λ input. IsPlanOf input.program.valid input.program.plan) }
     ensures refused { IfErr result (λ fault. IsInputRefused (F.holds files.old) (F.fails files.old) request.now fault) }
 {
-    let valid = match read_module(alloc, files, request.module) {
-        Ok(valid) => valid,
+    let program = match read_program(rt, alloc, files, request.module, request.plan) {
+        Ok(program) => program,
         Err(fault) => return Err(fault),
     };
-    let plan = match read_plan(alloc, files, request.plan, &valid) {
-        Ok(plan) => plan,
-        Err(fault) => return Err(fault),
-    };
-    match read_log(alloc, files, request.pieces, &valid, &plan) {
-        Ok(replica) => Ok(ReplayInput {
-            valid,
-            plan,
-            replica,
-        }),
+    match read_log(rt, alloc, files, request.pieces, &program) {
+        Ok(replica) => Ok(ReplayInput { program, replica }),
         Err(fault) => Err(fault),
     }
 }

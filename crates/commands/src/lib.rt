@@ -14,7 +14,7 @@ mod texts;
 mod viewing;
 
 pub use checking::check;
-pub use fault::{Fault, SizeFault};
+pub use fault::Fault;
 pub use files::{FileFault, Files};
 pub use recording::record;
 pub use replaying::replay;

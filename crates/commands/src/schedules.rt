@@ -4,13 +4,15 @@ ghost use Rattle.std.specs.Prelude.{ℕ, List, IfOk, IfErr};
 ghost use Rattle.commands.specs.Records.{IsScheduleFile, IsScheduleRefused};
 
 use crate::fault::Fault;
-use crate::files::Files;
+use crate::files::{Files, read_file};
 use event_core::Pick;
+use log::Log;
 use pick_schedule::schedule;
 use std::alloc::Global;
 
 /// The picks of the schedule in a file.
-pub(crate) fn read_schedule<F: Files>(
+pub(crate) fn read_schedule<L: Log, F: Files>(
+    rt: &L,
     alloc: Global,
     files: &mut F,
     path: &str,
@@ -18,7 +20,7 @@ pub(crate) fn read_schedule<F: Files>(
     ensures found { IfOk result (λ picks. IsScheduleFile (F.holds files.old path.now) picks.items) }
     ensures refused { IfErr result (λ fault. IsScheduleRefused (F.holds files.old path.now) (F.fails files.old path.now) fault) }
 {
-    let bytes = match files.read(alloc, path) {
+    let bytes = match read_file(rt, alloc, files, path, None) {
         Ok(bytes) => bytes,
         Err(fault) => return Err(Fault::File(fault)),
     };

@@ -3,9 +3,9 @@
 ghost use Rattle.std.specs.Prelude.{◌≡◌, ◌≤◌, ◌+◌, ◌++◌, ◌∷◌, length};
 ghost use Rattle.std.specs.Fmt.{decimal};
 ghost use Rattle.arrayvec.specs.ArrayString.{array_string_len};
-ghost use Rattle.commands.specs.Texts.{fault_text, file_text, decode_text, valid_text, plan_text, schedule_text, size_text, gather_text, replay_text, refusal_text, view_text};
+ghost use Rattle.commands.specs.Texts.{fault_text, file_text, decode_text, valid_text, plan_text, schedule_text, pieces_text, gather_text, replay_text, refusal_text, view_text};
 
-use crate::fault::{Fault, SizeFault};
+use crate::fault::Fault;
 use crate::files::FileFault;
 use arrayvec::ArrayString;
 use byte_reader::DecodeFault;
@@ -14,6 +14,7 @@ use itoa::Buffer;
 use pick_schedule::ScheduleFault;
 use replay_gate::ReplayFault;
 use replica::GatherFault;
+use run_pieces::PiecesFault;
 use std::error::Error;
 use std::fmt;
 use thread_plan::PlanFault;
@@ -124,13 +125,14 @@ fn text_of_schedule(fault: &ScheduleFault) -> ArrayString<64>
     }
 }
 
-fn text_of_size(fault: &SizeFault) -> ArrayString<64>
-    ensures text { result.bytes ≡ size_text fault.now }
+fn text_of_pieces(fault: &PiecesFault) -> ArrayString<64>
+    ensures text { result.bytes ≡ pieces_text fault.now }
     ensures short { array_string_len result ≤ 63 }
 {
     match *fault {
-        SizeFault::Empty => plain("refused 31 Empty"),
-        SizeFault::TooMany => plain("refused 32 TooMany"),
+        PiecesFault::Empty => plain("refused 31 Empty"),
+        PiecesFault::TooMany => plain("refused 32 TooMany"),
+        PiecesFault::NoMemory => plain("refused 23 NoMemory"),
     }
 }
 
@@ -194,7 +196,7 @@ impl Fault {
             Fault::Valid(fault) => text_of_valid(fault),
             Fault::Plan(fault) => text_of_plan(fault),
             Fault::Schedule(fault) => text_of_schedule(fault),
-            Fault::Size(fault) => text_of_size(fault),
+            Fault::Pieces(fault) => text_of_pieces(fault),
             Fault::Gather(fault) => text_of_gather(fault),
             Fault::Replay(fault) => text_of_refusal(fault),
             Fault::View(fault) => text_of_view(fault),

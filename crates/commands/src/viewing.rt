@@ -8,11 +8,12 @@ ghost use Rattle.commands.specs.Views.{AreBreaks, IsViewText, IsViewRefusal, IsV
 
 use crate::fault::Fault;
 use crate::files::Files;
-use crate::gathered::{ReplayInput, read_input};
+use crate::gathered::{ReplayInput, read_replay_input};
 use arrayvec::ArrayVec;
 use command_words::ViewRequest;
 use debug_views::write_break;
 use integer_machine::memory_limits;
+use log::Log;
 use replay_breaks::Break;
 use std::alloc::Global;
 use wasm_types::Block;
@@ -47,19 +48,19 @@ fn view_input(
     input: &ReplayInput,
     request: &ViewRequest<'_>,
 ) -> Result<String, Fault>
-    requires { IsPlanOf input.now.valid input.now.plan }
-    ensures viewed { IfOk result (λ text. IsViewText input.now.valid input.now.plan (log_of input.now.replica) request.now (string_bytes text)) }
-    ensures refused { IfErr result (λ fault. IsViewRefusal input.now.valid input.now.plan (log_of input.now.replica) request.now fault) }
+    requires { IsPlanOf input.now.program.valid input.now.program.plan }
+    ensures viewed { IfOk result (λ text. IsViewText input.now.program.valid input.now.program.plan (log_of input.now.replica) request.now (string_bytes text)) }
+    ensures refused { IfErr result (λ fault. IsViewRefusal input.now.program.valid input.now.program.plan (log_of input.now.replica) request.now fault) }
 {
     let log = input.replica.log();
-    let block = memory_limits(input.valid.module(), log.key().profile).block;
+    let block = memory_limits(input.program.valid.module(), log.key().profile).block;
     let breaks = breaks_of(request, block);
     let order = &request.replay.order;
     let range = request.range;
     match view_log(
         alloc,
-        &input.valid,
-        &input.plan,
+        &input.program.valid,
+        &input.program.plan,
         log,
         order,
         &breaks,
@@ -73,7 +74,8 @@ fn view_input(
 }
 
 /// The view of a replay where it stops. The module is read and judged, then the plan, then the piece lines.
-pub fn view<F: Files>(
+pub fn view<L: Log, F: Files>(
+    rt: &L,
     alloc: Global,
     files: &mut F,
     request: &ViewRequest<'_>,
@@ -81,7 +83,7 @@ pub fn view<F: Files>(
     ensures viewed { IfOk result (λ text. IsViewedText (F.holds files.old) request.now (string_bytes text)) }
     ensures refused { IfErr result (λ fault. IsViewRefused (F.holds files.old) (F.fails files.old) request.now fault) }
 {
-    let input = match read_input(alloc, files, &request.replay) {
+    let input = match read_replay_input(rt, alloc, files, &request.replay) {
         Ok(input) => input,
         Err(fault) => return Err(fault),
     };

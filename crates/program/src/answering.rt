@@ -8,6 +8,7 @@ ghost use Rattle.program.specs.Answers.{WritesSome, IsShown, IsDone, IsStopped, 
 
 use command_words::{Asked, Request, requested};
 use commands::{Fault, Files, check, record, replay, view};
+use log::Log;
 use replica::{Failed, GatherFault, Sink, Source, gather, write_all};
 use std::alloc::Global;
 use std::convert::AsStr;
@@ -64,7 +65,8 @@ fn fault_of(fault: GatherFault) -> Fault
 }
 
 /// Does what is asked for.
-fn perform<F: Files, R: Source, W: Sink>(
+fn perform<L: Log, F: Files, R: Source, W: Sink>(
+    rt: &L,
     alloc: Global,
     request: &Request<'_>,
     files: &mut F,
@@ -83,19 +85,19 @@ fn perform<F: Files, R: Source, W: Sink>(
             Ok(()) => Ok(()),
             Err(fault) => Err(fault_of(fault)),
         },
-        Request::Check(path) => match check(alloc, files, path) {
+        Request::Check(path) => match check(rt, alloc, files, path) {
             Ok(text) => show(output, &text),
             Err(fault) => Err(fault),
         },
-        Request::Record(request) => match record(alloc, files, request) {
+        Request::Record(request) => match record(rt, alloc, files, request) {
             Ok(text) => show(output, &text),
             Err(fault) => Err(fault),
         },
-        Request::Replay(request) => match replay(alloc, files, request) {
+        Request::Replay(request) => match replay(rt, alloc, files, request) {
             Ok(text) => show(output, text.as_str().as_bytes()),
             Err(fault) => Err(fault),
         },
-        Request::View(request) => match view(alloc, files, request) {
+        Request::View(request) => match view(rt, alloc, files, request) {
             Ok(text) => show(output, text.as_str().as_bytes()),
             Err(fault) => Err(fault),
         },
@@ -116,8 +118,10 @@ pub fn refuse_words<E: Sink>(errors: &mut E, error: &io::Error) -> u8
 }
 
 /// Does what the words ask for, the first of which is the program's name, and answers the exit status: 0 where it is
-/// done, 1 where it is refused, and then `errors` took the line that says why, 2 where the words are not understood.
-pub fn run<F: Files, R: Source, W: Sink, E: Sink, S: AsStr>(
+/// done, 1 where it is refused, and then `errors` took the line that says why, 2 where the words are not understood. `rt` logs
+/// the path of each file before it is read.
+pub fn run<L: Log, F: Files, R: Source, W: Sink, E: Sink, S: AsStr>(
+    rt: &L,
     alloc: Global,
     words: &[S],
     files: &mut F,
@@ -140,7 +144,7 @@ pub fn run<F: Files, R: Source, W: Sink, E: Sink, S: AsStr>(
     ensures output_failed { (result ≡ 1 → ⊥) → W.failed output.new ≡ W.failed output.old }
 {
     match requested(alloc, words) {
-        Ok(Asked::Request(request)) => match perform(alloc, &request, files, source, output) {
+        Ok(Asked::Request(request)) => match perform(rt, alloc, &request, files, source, output) {
             Ok(()) => 0,
             Err(fault) => refuse(errors, &fault),
         },

@@ -1,7 +1,11 @@
 //! Runs of the program on files in memory.
 
+ghost use Rattle.std.specs.Prelude.{IfOk};
+ghost use Rattle.commands.specs.Files.{IsRead};
+
 use crate::answering::run;
 use commands::{FileFault, Files};
+use log::sink::{Lines, Memory};
 use replica::{MemorySink, MemorySource};
 use std::alloc::Global;
 use std::test::Fail;
@@ -21,23 +25,40 @@ const PLAN: &str = "wreplay plan 1\nthread w\nthread w\n";
 const OTHER: &str =
     "49525001bbbbbbbbbbbbbbbbbbbbbbbbbbbbbbbbbbbbbbbbbbbbbbbbbbbbbbbbbbbbbbbb01000000000000000300000000000001030000000000000002";
 
-/// The files `m`, `p`, `s` and `l`: a module, a plan, a schedule and piece lines. Their names are noted as they are read.
+/// The files `m`, `p`, `s` and `l`: a module, a plan, a schedule and piece lines.
 #[derive(Drop)]
-struct NotedFiles<'a> {
+struct MemoryFiles<'a> {
     module: &'a [u8],
     plan: &'a str,
     schedule: &'a str,
     lines: &'a str,
-    noted: Vec<u8>,
 }
 
-impl<'a> Files for NotedFiles<'a> {
+/// What is read of a file of these bytes.
+pub(crate) fn copied(alloc: Global, bytes: &[u8], most: Option<usize>) -> Result<Vec<u8>, FileFault>
+    ensures { IfOk result (λ copy. IsRead (λ whole. Unit {0}) most copy.items) }
+{
+    let Ok(mut copy) = Vec::from_slice(alloc, bytes) else {
+        return Err(FileFault::NoMemory);
+    };
+    let Some(most) = most else {
+        return Ok(copy);
+    };
+    copy.truncate(most);
+    Ok(copy)
+}
+
+impl<'a> Files for MemoryFiles<'a> {
     ghost holds = { λ files path bytes. Unit {0} };
 
     ghost fails = { λ files path. Unit {0} };
 
-    fn read(&mut self, alloc: Global, path: &str) -> Result<Vec<u8>, FileFault> {
-        let _ = self.noted.extend_from_slice(path.as_bytes());
+    fn read(
+        &mut self,
+        alloc: Global,
+        path: &str,
+        most: Option<usize>,
+    ) -> Result<Vec<u8>, FileFault> {
         let bytes = match path {
             "m" => self.module,
             "p" => self.plan.as_bytes(),
@@ -45,14 +66,11 @@ impl<'a> Files for NotedFiles<'a> {
             "l" => self.lines.as_bytes(),
             _ => return Err(FileFault::NotRead),
         };
-        match Vec::from_slice(alloc, bytes) {
-            Ok(bytes) => Ok(bytes),
-            Err(_) => Err(FileFault::NoMemory),
-        }
+        copied(alloc, bytes, most)
     }
 }
 
-/// What the program did.
+/// What the program did, and the paths that it noted, one behind the other.
 #[derive(Drop)]
 struct Done {
     status: u8,
@@ -66,19 +84,31 @@ fn text(sink: &MemorySink) -> &str {
     str::from_utf8(sink.taken()).unwrap_or("not UTF-8")
 }
 
+/// The paths in the lines of a log, one behind the other.
+fn paths(alloc: Global, lines: &Lines) -> Vec<u8> {
+    let mut paths = Vec::new(alloc);
+    for line in lines.as_slice() {
+        if let Some((_, path)) = line.as_str().split_once("] reads ") {
+            let _ = paths.extend_from_slice(path.as_bytes());
+        }
+    }
+    paths
+}
+
 /// Runs the program on these words, a schedule and piece lines.
 fn running(alloc: Global, words: &[&str], schedule: &str, lines: &str) -> Done {
-    let mut files = NotedFiles {
+    let notes = Memory::new(alloc);
+    let mut files = MemoryFiles {
         module: &COUNTER,
         plan: PLAN,
         schedule,
         lines,
-        noted: Vec::new(alloc),
     };
     let mut source = MemorySource::new(b"".as_slice(), 1, None);
     let mut output = MemorySink::new(alloc, 65536, None);
     let mut errors = MemorySink::new(alloc, 65536, None);
     let status = run(
+        &notes,
         alloc,
         words,
         &mut files,
@@ -90,7 +120,7 @@ fn running(alloc: Global, words: &[&str], schedule: &str, lines: &str) -> Done {
         status,
         output,
         errors,
-        noted: files.noted,
+        noted: paths(alloc, &notes.into_lines()),
     }
 }
 

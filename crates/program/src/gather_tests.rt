@@ -1,5 +1,7 @@
 use crate::answering::run;
+use crate::command_tests::copied;
 use commands::{FileFault, Files};
+use log::sink::Discard;
 use replica::{MemorySink, MemorySource};
 use std::alloc::Global;
 use std::test::Fail;
@@ -21,7 +23,12 @@ impl Files for NoFiles {
 
     ghost fails = { λ files path. Unit {0} };
 
-    fn read(&mut self, _alloc: Global, _path: &str) -> Result<Vec<u8>, FileFault> {
+    fn read(
+        &mut self,
+        _alloc: Global,
+        _path: &str,
+        _most: Option<usize>,
+    ) -> Result<Vec<u8>, FileFault> {
         Err(FileFault::NotRead)
     }
 }
@@ -55,6 +62,7 @@ fn try_out(alloc: Global, case: Case<'_>) -> Done {
     let mut output = MemorySink::new(alloc, 8, case.write_fails_at);
     let mut errors = MemorySink::new(alloc, 65536, None);
     let status = run(
+        &Discard,
         alloc,
         case.words,
         &mut files,
@@ -201,14 +209,16 @@ impl<'a> Files for OneFile<'a> {
 
     ghost fails = { λ files path. Unit {0} };
 
-    fn read(&mut self, alloc: Global, path: &str) -> Result<Vec<u8>, FileFault> {
+    fn read(
+        &mut self,
+        alloc: Global,
+        path: &str,
+        most: Option<usize>,
+    ) -> Result<Vec<u8>, FileFault> {
         if path != self.path {
             return Err(FileFault::NotRead);
         }
-        match Vec::from_slice(alloc, self.bytes) {
-            Ok(bytes) => Ok(bytes),
-            Err(_) => Err(FileFault::NoMemory),
-        }
+        copied(alloc, self.bytes, most)
     }
 }
 
@@ -223,6 +233,7 @@ fn check_of(alloc: Global, path: &str, bytes: &[u8]) -> Done {
     let mut output = MemorySink::new(alloc, 8, None);
     let mut errors = MemorySink::new(alloc, 65536, None);
     let status = run(
+        &Discard,
         alloc,
         words.as_slice(),
         &mut files,

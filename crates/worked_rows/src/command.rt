@@ -2,6 +2,7 @@
 
 use crate::shelf::Shelf;
 use commands::Files;
+use log::sink::Discard;
 use program::run;
 use replica::{MemorySink, MemorySource};
 use std::alloc::Global;
@@ -45,7 +46,7 @@ fn input_of(alloc: Global, shelf: &mut Shelf, name: Option<&str>) -> anyhow::Res
     let Some(name) = name else {
         return Ok(Vec::new(alloc));
     };
-    match shelf.read(alloc, name) {
+    match shelf.read(alloc, name, None) {
         Ok(bytes) => Ok(bytes),
         Err(_) => anyhow::bail!("no file {name}"),
     }
@@ -64,7 +65,15 @@ pub(crate) fn made(alloc: Global, shelf: &mut Shelf, line: &str) -> anyhow::Resu
     let mut source = MemorySource::new(&input, MOST, None);
     let mut output = MemorySink::new(alloc, MOST, None);
     let mut errors = MemorySink::new(alloc, MOST, None);
-    let status = run(alloc, &words, shelf, &mut source, &mut output, &mut errors);
+    let status = run(
+        &Discard,
+        alloc,
+        &words,
+        shelf,
+        &mut source,
+        &mut output,
+        &mut errors,
+    );
     let mut text = format!(in alloc; "$ wreplay {line}\n")?;
     match command.kept {
         Some(name) => shelf.keep(name, output.taken())?,

@@ -1,5 +1,7 @@
 //! Files that commands kept, and those of the system.
 
+ghost use Rattle.commands.specs.Files.{IsRead};
+
 use commands::{FileFault, Files};
 use std::alloc::Global;
 use std::fs;
@@ -10,6 +12,17 @@ use std::io::ErrorKind;
 struct Kept {
     name: String,
     bytes: Vec<u8>,
+}
+
+/// What is read of a file of these bytes.
+fn cut(mut bytes: Vec<u8>, most: Option<usize>) -> Vec<u8>
+    ensures { IsRead (λ whole. Unit {0}) most result.items }
+{
+    let Some(most) = most else {
+        return bytes;
+    };
+    bytes.truncate(most);
+    bytes
 }
 
 /// Files that commands kept, before those of the system.
@@ -43,17 +56,22 @@ impl Files for Shelf {
 
     ghost fails = { λ files path. Unit {0} };
 
-    fn read(&mut self, alloc: Global, path: &str) -> Result<Vec<u8>, FileFault> {
+    fn read(
+        &mut self,
+        alloc: Global,
+        path: &str,
+        most: Option<usize>,
+    ) -> Result<Vec<u8>, FileFault> {
         for kept in &self.kept {
             if kept.name.as_str() == path {
                 return match Vec::from_slice(alloc, &kept.bytes) {
-                    Ok(bytes) => Ok(bytes),
+                    Ok(bytes) => Ok(cut(bytes, most)),
                     Err(_) => Err(FileFault::NoMemory),
                 };
             }
         }
         match fs::read(&self.runtime, path) {
-            Ok(bytes) => Ok(bytes),
+            Ok(bytes) => Ok(cut(bytes, most)),
             Err(error) if error.kind() == ErrorKind::OutOfMemory => Err(FileFault::NoMemory),
             Err(_) => Err(FileFault::NotRead),
         }

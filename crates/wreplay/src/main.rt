@@ -2,13 +2,18 @@
 //! log that they claim, replays it, and checks modules.
 #![tactic(auto)]
 
+ghost use Rattle.std.specs.Prelude.{IfOk};
+ghost use Rattle.commands.specs.Files.{IsRead};
+
 use commands::{FileFault, Files};
+use log::sink::Discard;
 use program::{refuse_words, run};
 use standard_streams::{StandardSink, StandardSource};
 use std::alloc::Global;
-use std::io::{self, ErrorKind};
+use std::env;
+use std::fs::{self, File};
+use std::io::{self, ErrorKind, Read};
 use std::process::ExitCode;
-use std::{env, fs};
 
 /// The files of the system.
 #[derive(Drop)]
@@ -16,13 +21,39 @@ struct SystemFiles {
     runtime: HostRuntime,
 }
 
+/// The bytes of a file of the system, or the first of them. Memory is taken for no more than these.
+fn system_file(
+    runtime: &HostRuntime,
+    alloc: Global,
+    path: &str,
+    most: Option<usize>,
+) -> io::Result<Vec<u8>>
+    ensures { IfOk result (λ bytes. IsRead (λ whole. Unit {0}) most bytes.items) }
+{
+    let Some(most) = most else {
+        return fs::read(runtime, path);
+    };
+    let mut bytes = Vec::new(alloc);
+    File::open(runtime, path)?
+        .take(most as u64)
+        .read_to_end(&mut bytes)?;
+    // No more came; the contract of the call above does not say so.
+    bytes.truncate(most);
+    Ok(bytes)
+}
+
 impl Files for SystemFiles {
     ghost holds = { λ files path bytes. Unit {0} };
 
     ghost fails = { λ files path. Unit {0} };
 
-    fn read(&mut self, _alloc: Global, path: &str) -> Result<Vec<u8>, FileFault> {
-        match fs::read(&self.runtime, path) {
+    fn read(
+        &mut self,
+        alloc: Global,
+        path: &str,
+        most: Option<usize>,
+    ) -> Result<Vec<u8>, FileFault> {
+        match system_file(&self.runtime, alloc, path, most) {
             Ok(bytes) => Ok(bytes),
             Err(error) if error.kind() == ErrorKind::OutOfMemory => Err(FileFault::NoMemory),
             Err(_) => Err(FileFault::NotRead),
@@ -42,6 +73,7 @@ fn main(rt: HostRuntime) -> ExitCode {
     let mut errors = StandardSink::new(rt.stderr());
     let status = match words(&rt) {
         Ok(words) => run(
+            &Discard,
             rt.alloc(),
             &words,
             &mut files,

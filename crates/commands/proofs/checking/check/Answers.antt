@@ -1,8 +1,11 @@
-use Rattle.std.proofs.Common.{inr}
-use Rattle.std.proofs.lemmas.Result.{err_from_is_err_and}
+use Rattle.std.proofs.Common.{◌++◌, ◌∙◌, ap, codes, inr}
+use Rattle.std.proofs.lemmas.Result.{IfOk-weaker, IfErr-weaker}
+use Rattle.wasm_types.specs.declared.modules.Module.{Module}
+use Rattle.binary_decoder.specs.Summary.{summary_text}
 use Rattle.commands.proofs.checking.check.Goals as goal
 
-pub returns-in_err-text-clause-refused : goal.returns-in_err-text-clause-refused
-returns-in_err-text-clause-refused g c =
-    let p = err_from_is_err_and c.from_residual.result c.from_residual.ensures.1 in
-    rw p.1 (inr p.2)
+pub returns-clause-checked : goal.returns-clause-checked
+returns-clause-checked g c = IfOk-weaker c.valid_summary.result _ _ (λ text h. (c.in-Ok.valid, c.in-Ok.ensures.found, h ∙ ap (λ (m : Module). summary_text m ++ codes "valid\n") c.module.ensures.module)) c.valid_summary.ensures.text
+
+pub returns-clause-refused : goal.returns-clause-refused
+returns-clause-refused g c = IfErr-weaker c.valid_summary.result _ _ (λ fault h. inr h) c.valid_summary.ensures.refused

@@ -7,8 +7,8 @@ use Rattle.commands.proofs.replaying.replay.Goals as goal
 
 pub returns-clause-replayed : goal.returns-clause-replayed
 returns-clause-replayed g c =
-    let m = c.in-Ok.input.valid in
-    let plan = c.in-Ok.input.plan in
+    let m = c.in-Ok.input.program.valid in
+    let plan = c.in-Ok.input.program.plan in
     let log = log_of c.in-Ok.input.replica in
     IfOk-weaker c.replay_input.result _ _ (λ text h. record {
       m = m;
@@ -20,7 +20,7 @@ returns-clause-replayed g c =
 
 pub returns-clause-refused : goal.returns-clause-refused
 returns-clause-refused g c =
-    let m = c.in-Ok.input.valid in
-    let plan = c.in-Ok.input.plan in
+    let m = c.in-Ok.input.program.valid in
+    let plan = c.in-Ok.input.program.plan in
     let log = log_of c.in-Ok.input.replica in
     IfErr-weaker c.replay_input.result _ _ (λ fault h. inr (m, plan, log, c.in-Ok.ensures.found, subst (λ (o : List ℕ). IsReplayRefusal m plan log o fault) c.deref.ensures.value h)) c.replay_input.ensures.refused

@@ -1,0 +1,49 @@
+-- What is decoded from the beginning of a file is what its bytes spell: a module is shorter than the beginning.
+use Rattle.std.proofs.Common.{◌≡◌, ◌≤◌, ℕ, List, length, take, Result, Ok, Err, IfOk, IfErr, arith, sym, ap, ◌∙◌, subst}
+use Rattle.std.proofs.lemmas.List.{length-take, take_all}
+use Rattle.wasm_types.specs.declared.modules.Module.{Module}
+use Rattle.wasm_types.specs.Limits.{Within}
+use Rattle.byte_reader.specs.declared.fault.DecodeFault.{DecodeFault}
+use Rattle.byte_reader.specs.declared.fault.DecodeFault.TheVariants.{Refused, TooLarge, NoMemory}
+use Rattle.byte_reader.specs.Moves.{IsRefused, IsTooLarge}
+use Rattle.binary_decoder.specs.Grammar.{Spells}
+use Rattle.binary_decoder.specs.First.{IsFirst}
+use Rattle.commands.specs.Checks.{IsModule, IsDecodeFault}
+
+module _ (beginning bytes : List ℕ) (is : beginning ≡ take 1048577 bytes) where
+  -- a short beginning is all
+  short : length beginning ≤ 1048576 → beginning ≡ bytes
+  short few =
+      let same : length beginning ≡ length (take 1048577 bytes) = ap (λ (l : List ℕ). length l) is in
+      is ∙ take_all 1048577 bytes (omega (arith, few, same, length-take 1048577 bytes))
+
+  -- bytes that are few stand all in the beginning
+  few_stand : length bytes ≤ 1048576 → beginning ≡ bytes
+  few_stand few = is ∙ take_all 1048577 bytes (omega (arith, few))
+
+  pub module_of : (m : Module) → Spells m beginning × Within m → IsModule bytes m
+  module_of m h =
+      let few : length beginning ≤ 1048576 = subst (λ (l : List ℕ). length l ≤ 1048576) h.0.source h.1.bytes in
+      record { spells = subst (Spells m) (short few) h.0; within = h.1 }
+
+  pub fault_of : (fault : DecodeFault) → IsFirst beginning fault
+      → (IsRefused {X = Module} (Err fault) → (m : Module) → Spells m beginning → ⊥)
+      → (IsTooLarge {X = Module} (Err fault) → (m : Module) → Spells m beginning → Within m → ⊥)
+      → IsDecodeFault bytes fault
+  fault_of (Refused offset) first refused large = λ m s. refused tt m (subst (Spells m) (sym (short first.0)) s)
+  fault_of TooLarge first refused large = λ m h.
+      let few : length bytes ≤ 1048576 = subst (λ (l : List ℕ). length l ≤ 1048576) h.spells.source h.within.bytes in
+      large tt m (subst (Spells m) (sym (few_stand few)) h.spells) h.within
+  fault_of NoMemory first refused large = tt
+
+module _ (beginning : List ℕ) where
+  pub ok : (r : Result Module DecodeFault) → IfOk r (λ m. Spells m beginning × Within m) → IfOk r (λ m. (bytes : List ℕ) → beginning ≡ take 1048577 bytes → IsModule bytes m)
+  ok (Ok m) h = λ bytes is. module_of beginning bytes is m h
+  ok (Err fault) h = tt
+
+  pub err : (r : Result Module DecodeFault) → IfErr r (IsFirst beginning)
+      → (IsRefused r → (m : Module) → Spells m beginning → ⊥)
+      → (IsTooLarge r → (m : Module) → Spells m beginning → Within m → ⊥)
+      → IfErr r (λ fault. (bytes : List ℕ) → beginning ≡ take 1048577 bytes → IsDecodeFault bytes fault)
+  err (Ok m) first refused large = tt
+  err (Err fault) first refused large = λ bytes is. fault_of beginning bytes is fault first refused large
