@@ -1,4 +1,5 @@
-# build, try, test, bench and install wreplay. PREFIX says where install puts it, JOBS how many processors a check takes.
+# build, try, test, bench and install wreplay; growths refuses it memory. PREFIX says where install puts it, JOBS how many
+# processors a check takes.
 PREFIX ?= /usr/local
 JOBS ?= $(shell nproc)
 PROGRAM = crates/wreplay/out/wreplay
@@ -7,7 +8,7 @@ ACCESSES = crates/accesses_bench/out/accesses_bench
 DECODE = crates/decode_bench/out/decode_bench
 MACHINE = crates/machine_bench/out/machine_bench
 
-.PHONY: build try test bench install clean
+.PHONY: build try test bench growths install clean
 
 # Proves the program and what it stands on, crate by crate, and builds it: minutes the first time, seconds after that.
 build: $(PROGRAM)
@@ -31,6 +32,10 @@ bench: $(PROGRAM) $(STEPS) $(ACCESSES) $(DECODE) $(MACHINE)
 	-python3 bench/decode.py $(DECODE)
 	-python3 bench/machine.py $(MACHINE)
 	python3 bench/record.py $(PROGRAM) $(MACHINE)
+
+# Refuses each growth of the program in turn, on recordings, replays and listings of the worked rows.
+growths: $(PROGRAM)
+	python3 bench/growths.py $(PROGRAM)
 
 $(STEPS): crates.txt $(wildcard crates/*/src/*.rt crates/*/specs/*.antt)
 	cd crates/steps_bench && rt run -- parts 0 >/dev/null

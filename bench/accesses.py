@@ -7,9 +7,12 @@ A memory of one page in blocks of 64 bytes; COUNT loads, or stores, of four byte
 that each is of another block. Each access through the memory finds its block, counts its version, makes an entry and
 makes the load or the store. One more row makes loads whose kind is read from a table, so that the compiler does not know it.
 What opening the memory costs is taken off: it is timed with no access. It prints, best of nine rounds each, nanoseconds an
-access, millions of accesses a second, and the ratio to the slice. Each round runs each kind once, the slice first.
+access, millions of accesses a second, and the ratio to the slice. Each round runs each kind once, the slice first. Then it
+prints what opening a memory of 16 and of 256 pages in blocks of 64 bytes takes, in milliseconds of processor time more than the
+program takes with a slice.
 """
 
+import os
 import subprocess
 import sys
 import time
@@ -31,6 +34,19 @@ def seconds(program, word, count):
     return time.perf_counter() - begin
 
 
+def opening(program, word, pages):
+    """The processor time of a run with no access, the least of nine, in milliseconds."""
+    least = float("inf")
+    for _ in range(ROUNDS):
+        process = subprocess.Popen([program, word, str(pages), "64", "0"], stdout=subprocess.DEVNULL)
+        _, status, used = os.wait4(process.pid, 0)
+        process.returncode = os.waitstatus_to_exitcode(status)
+        if status != 0:
+            sys.exit(f"{word} {pages}: status {status}")
+        least = min(least, used.ru_utime + used.ru_stime)
+    return 1000 * least
+
+
 def main():
     program = sys.argv[1]
     count = int(sys.argv[2]) if len(sys.argv) > 2 else 100_000_000
@@ -45,6 +61,9 @@ def main():
     print("|---|---:|---:|---:|")
     for word, name, peer in ROWS:
         print(f"| {name} | {each[word]:.2f} | {1000 / each[word]:.0f} | {each[word] / each[peer]:.1f} |")
+    for pages in (16, 256):
+        more = opening(program, "load", pages) - opening(program, "slice-load", 1)
+        print(f"opening {pages} pages: {more:.2f} ms")
 
 
 main()

@@ -72,6 +72,8 @@ def shapes():
     yield "1,024 locals of each function", functions([b"\x01\x80\x08\x7f\x0b"] * 149_000), TAKEN
     names = u32(100_000) + b"".join(b"\x07" + b"%07d" % place + b"\x00\x00" for place in range(100_000))
     yield "exports", functions([b"\x00\x0b"], section(7, names)), TAKEN
+    names = u32(4_000) + b"".join(b"\xfa\x01" + b"x" * 243 + b"%07d" % place + b"\x00\x00" for place in range(4_000))
+    yield "exports that begin alike", functions([b"\x00\x0b"], section(7, names)), TAKEN
     yield "types", PREAMBLE + section(1, u32(room // 3) + b"\x60\x00\x00" * (room // 3)), TAKEN
     yield "custom sections", PREAMBLE + b"\x00\x01\x00" * (room // 3), TAKEN
     yield "a long name", PREAMBLE + section(0, u32(room) + "\u00e9".encode() * (room // 2)), TAKEN

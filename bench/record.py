@@ -5,11 +5,12 @@ usage: record.py PATH_OF_WREPLAY PATH_OF_MACHINE_BENCH
 
 Two modules are made, each with a function that goes round a loop: one computes alone, one adds 1 to a counter in memory at
 each turn. The peer is `machine_bench`, which runs the same function alone over its memory, with neither schedule nor log.
-Recorded are one thread by one line of a schedule, `go 0 1000000`, and two threads by lines of one step each in turn; the
-recording by one line is replayed. A schedule has at most a million picks, so the peer goes round its loop LONGER times as
-often, for a time that can be measured. Times are user time, the least of ROUNDS, less what the program takes for the same
-with a loop of one turn. It prints the steps, millions of steps a second of the peer, and the seconds of each as multiples of
-the peer's, for the same number of steps; those of the replay as multiples of the recording's.
+Recorded are one thread by one line of a schedule, `go 0 STEPS`, once with its report and once with its pieces, and two threads
+by lines of one step each in turn; the pieces of the recording by one line are replayed. A schedule has at most a million
+picks, so the peer goes round its loop LONGER times as often, for a time that can be measured. Times are processor time, the least
+of ROUNDS, less what the program takes for one step. It prints the steps, millions of steps a second of the peer, and the
+seconds of each as multiples of the peer's, for the same number of steps; those of the replay as multiples of the time of the
+recording with its pieces.
 """
 
 import os
@@ -47,14 +48,14 @@ def module(turns, has_access):
 
 
 def run(words, kept=os.devnull):
-    """The user time of a command, whose output goes to a file."""
+    """The processor time of a command, its own and the system's, whose output goes to a file."""
     with open(kept, "wb") as out:
         process = subprocess.Popen(words, stdout=out)
         _, status, used = os.wait4(process.pid, 0)
         process.returncode = os.waitstatus_to_exitcode(status)
     if process.returncode != 0:
         sys.exit(f"{' '.join(words)}: status {process.returncode}")
-    return used.ru_utime
+    return used.ru_utime + used.ru_stime
 
 
 def least(words, kept=os.devnull):
@@ -74,19 +75,21 @@ def alone(folder, bench, turns, has_access):
     return least([bench, wasm, written(folder, "one.plan", b"wreplay plan 1\nthread run\n")])
 
 
-def measured(folder, wreplay, turns, has_access, picks):
-    """The seconds of recording by one line, of its replay, and of recording by lines of one step."""
+def measured(folder, wreplay, turns, has_access, steps, picks):
+    """The seconds of recording by one line, with the report and with the pieces, of its replay, and of recording by lines of
+    one step."""
     name = f"{turns}-{has_access}"
     wasm = written(folder, name + ".wasm", module(turns, has_access))
     one = written(folder, "one.plan", b"wreplay plan 1\nthread run\n")
     two = written(folder, "two.plan", b"wreplay plan 1\nthread run\nthread run\n")
-    long = written(folder, "long.schedule", b"go 0 1000000\n")
+    long = written(folder, "long.schedule", f"go 0 {steps}\n".encode())
     short = written(folder, "short.schedule", b"go 0 1\ngo 1 1\n" * (picks // 2))
     pieces = os.path.join(folder, name + ".pieces")
+    reported = least([wreplay, "record", wasm, one, "--schedule", long, "--report"])
     recorded = least([wreplay, "record", wasm, one, "--schedule", long], pieces)
     replayed = least([wreplay, "replay", wasm, one, pieces])
     stepped = least([wreplay, "record", wasm, two, "--schedule", short, "--report"])
-    return recorded, replayed, stepped
+    return reported, recorded, replayed, stepped
 
 
 def main():
@@ -94,18 +97,18 @@ def main():
         sys.exit(__doc__)
     _, wreplay, bench = sys.argv
     picks = 400_000
-    print("| loop | steps | million steps a second alone | record / alone | replay / record | one pick a step, / alone |")
-    print("|---|---:|---:|---:|---:|---:|")
+    print("| loop | steps | million steps a second alone | record / alone | with its pieces | replay / record | one pick a step |")
+    print("|---|---:|---:|---:|---:|---:|---:|")
     with tempfile.TemporaryDirectory() as folder:
         for has_access, turns, a_turn in ((False, 140_000, 7), (True, 76_000, 13)):
-            start = measured(folder, wreplay, 1, has_access, 2)
-            spent = measured(folder, wreplay, turns, has_access, picks)
-            recorded, replayed, stepped = (x - y for x, y in zip(spent, start))
-            peer = (alone(folder, bench, turns * LONGER, has_access) - alone(folder, bench, 1, has_access)) / LONGER
             steps = turns * a_turn
+            start = measured(folder, wreplay, 1, has_access, 1, 2)
+            spent = measured(folder, wreplay, turns, has_access, steps, picks)
+            reported, recorded, replayed, stepped = (x - y for x, y in zip(spent, start))
+            peer = (alone(folder, bench, turns * LONGER, has_access) - alone(folder, bench, 1, has_access)) / LONGER
             print(
-                f"| {'with an access' if has_access else 'alone'} | {steps:,} | {steps / peer / 1e6:.0f} | {recorded / peer:.1f}"
-                f" | {replayed / recorded:.2f} | {stepped / picks * steps / peer:.1f} |",
+                f"| {'with an access' if has_access else 'alone'} | {steps:,} | {steps / peer / 1e6:.0f} | {reported / peer:.1f}"
+                f" | {recorded / peer:.1f} | {replayed / recorded:.2f} | {stepped / picks * steps / peer:.1f} |",
                 flush=True,
             )
 

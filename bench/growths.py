@@ -1,0 +1,120 @@
+#!/usr/bin/env python3
+"""Refuses each growth of `wreplay` in turn, and looks at what it answers.
+
+usage: growths.py PATH_OF_WREPLAY [WORD..]
+
+The commands are those of `crates/worked_rows/data/commands` that have one of the words; without a word those of the counter's
+first run and those of five waiting threads. A small library, made by the C compiler and loaded before the system's, answers
+one of the program's calls for memory with none: the first, then the second, and so on until a run asks for no more. Each time
+the program must do one of two things: exactly what it does with ample memory, or exit with 1, the output empty, and on
+standard error one line `refused N NoMemory`. Behind each such run the same command is run again with ample memory and must
+write the same bytes as before. It prints, for each command, how many growths were refused and with which lines.
+"""
+
+import collections
+import os
+import re
+import shutil
+import subprocess
+import sys
+import tempfile
+
+HERE = os.path.dirname(os.path.abspath(__file__))
+ROWS = os.path.join(HERE, "..", "crates", "worked_rows", "data")
+USUAL = ["first.", "five."]
+
+LIBRARY = r"""
+#include <errno.h>
+#include <stdlib.h>
+#include <unistd.h>
+extern void *__libc_malloc(size_t), *__libc_calloc(size_t, size_t), *__libc_realloc(void *, size_t), *__libc_memalign(size_t, size_t);
+static long asked, refused;
+/* Whether this call is the one to refuse; where it is, a byte on descriptor 3 tells so. */
+static int is_refused(void) {
+    if (!refused) { char *word = getenv("REFUSED_GROWTH"); refused = word ? atol(word) : -1; }
+    if (++asked != refused) return 0;
+    if (write(3, "r", 1) < 0) {}
+    errno = ENOMEM;
+    return 1;
+}
+void *malloc(size_t size) { return is_refused() ? 0 : __libc_malloc(size); }
+void *calloc(size_t count, size_t size) { return is_refused() ? 0 : __libc_calloc(count, size); }
+void *realloc(void *old, size_t size) { return is_refused() ? 0 : __libc_realloc(old, size); }
+void *aligned_alloc(size_t align, size_t size) { return is_refused() ? 0 : __libc_memalign(align, size); }
+void *memalign(size_t align, size_t size) { return is_refused() ? 0 : __libc_memalign(align, size); }
+int posix_memalign(void **to, size_t align, size_t size) {
+    void *got = is_refused() ? 0 : __libc_memalign(align, size);
+    if (!got) return ENOMEM;
+    *to = got;
+    return 0;
+}
+"""
+
+
+def commands(words):
+    """The command lines that are wanted, each as its words, its standard input, and the file that keeps its output."""
+    with open(os.path.join(ROWS, "commands")) as file:
+        for line in file.read().splitlines():
+            command, _, kept = line.partition(" > ")
+            command, _, source = command.partition(" < ")
+            yield line, command.split(), source, kept, any(word in line for word in words)
+
+
+def run(path, library, folder, words, source, growth):
+    """What a command does where one growth is refused, and whether that growth came."""
+    told, tell = os.pipe()
+    environment = dict(os.environ, LD_PRELOAD=library, REFUSED_GROWTH=str(growth)) if growth else dict(os.environ)
+    with open(os.path.join(folder, source) if source else os.devnull, "rb") as file:
+        def hand_over():
+            os.dup2(tell, 3)
+        done = subprocess.run([path, *words], cwd=folder, stdin=file, capture_output=True, env=environment, preexec_fn=hand_over, pass_fds=(3,))
+    os.close(tell)
+    came = os.read(told, 1) != b""
+    os.close(told)
+    return (done.returncode, done.stdout, done.stderr), came
+
+
+def refuse_each(path, library, folder, line, words, source):
+    usual, _ = run(path, library, folder, words, source, 0)
+    answers = collections.Counter()
+    growth = 1
+    while True:
+        answer, came = run(path, library, folder, words, source, growth)
+        if not came:
+            break
+        status, output, errors = answer
+        if answer == usual:
+            answers["as with ample memory"] += 1
+        elif status == 1 and output == b"" and re.fullmatch(rb"refused \d+ NoMemory\n", errors):
+            answers[errors.decode().strip()] += 1
+        else:
+            sys.exit(f"{line}: growth {growth}: status {status}, errors {errors!r}")
+        again, _ = run(path, library, folder, words, source, 0)
+        if again != usual:
+            sys.exit(f"{line}: after growth {growth} was refused it does something else")
+        growth += 1
+    told = ", ".join(f"{count} {text}" for text, count in sorted(answers.items()))
+    print(f"{line}: {growth - 1} growths: {told}", flush=True)
+    if growth == 1:
+        sys.exit("the program asked for no memory: is it linked to the system's library?")
+
+
+def main():
+    path, wanted = os.path.abspath(sys.argv[1]), sys.argv[2:] or USUAL
+    with tempfile.TemporaryDirectory() as folder:
+        data = os.path.join(folder, "data")
+        shutil.copytree(ROWS, data)
+        with open(os.path.join(folder, "refuse.c"), "w") as file:
+            file.write(LIBRARY)
+        library = os.path.join(folder, "refuse.so")
+        subprocess.run(["cc", "-shared", "-fPIC", "-O1", "-o", library, os.path.join(folder, "refuse.c")], check=True)
+        for line, words, source, kept, is_wanted in commands(wanted):
+            if kept:
+                usual, _ = run(path, library, data, words, source, 0)
+                with open(os.path.join(data, kept), "wb") as file:
+                    file.write(usual[1])
+            if is_wanted:
+                refuse_each(path, library, data, line, words, source)
+
+
+main()
