@@ -1,2 +1,3 @@
 pub mod Leb128Laws
 pub mod Powers
+pub mod Widths

@@ -6,3 +6,6 @@ pub mod Leb128
 pub mod Leb128Reading
 pub mod Locals
 pub mod Limits
+pub mod Values
+pub mod Accesses
+pub mod Widths

@@ -1,5 +1,5 @@
-//! Types that all of wreplay's crates name: values, instructions, modules, operations on memory, traps, outcomes, and
-//! the key of a recorded run; and numbers in LEB128.
+//! Types that all of wreplay's crates name: values, instructions, what accesses take, modules, operations on memory,
+//! traps, outcomes, and the key of a recorded run; sizes and counts; and numbers in LEB128.
 #![tactic(auto)]
 
 mod block;
@@ -13,8 +13,10 @@ mod no_memory;
 mod operation;
 mod outcome;
 mod same;
+mod sizes;
 mod trap;
 mod value;
+mod width;
 
 pub use block::{Block, BlockFault};
 pub use instruction::{
@@ -33,5 +35,7 @@ pub use no_memory::NoMemory;
 pub use operation::{Action, Extent, Op, Reply};
 pub use outcome::Outcome;
 pub use same::Same;
+pub use sizes::{LAST_THREAD, MOST_PAGES, MOST_STEPS, MOST_THREADS, PAGE_SIZE};
 pub use trap::Trap;
 pub use value::{ValType, Value};
+pub use width::Width;

@@ -19,6 +19,49 @@ pub enum Value {
     I64(u64),
 }
 
+impl ValType {
+    ghost use Rattle.std.specs.Prelude.{◌≡◌};
+    ghost use Rattle.wasm_types.specs.Values.{same_type};
+
+    /// Whether two types are the same.
+    #[inline]
+    pub fn is_same(self, other: ValType) -> bool
+        ensures { result ≡ same_type self other }
+    {
+        matches!(
+            (self, other),
+            (ValType::I32, ValType::I32) | (ValType::I64, ValType::I64)
+        )
+    }
+}
+
+impl Value {
+    ghost use Rattle.std.specs.Prelude.{◌≡◌};
+    ghost use Rattle.wasm_types.specs.Values.{type_of, bits_of};
+
+    /// The value's type.
+    #[inline]
+    pub fn val_type(self) -> ValType
+        ensures { result ≡ type_of self }
+    {
+        match self {
+            Value::I32(_) => ValType::I32,
+            Value::I64(_) => ValType::I64,
+        }
+    }
+
+    /// The value's bits.
+    #[inline]
+    pub fn bits(self) -> u64
+        ensures { result ≡ bits_of self }
+    {
+        match self {
+            Value::I32(bits) => u64::from(bits),
+            Value::I64(bits) => bits,
+        }
+    }
+}
+
 impl fmt::Display for Value {
     ghost use Rattle.std.specs.Prelude.{Some};
     ghost use Rattle.wasm_types.specs.Text.{value_text};
