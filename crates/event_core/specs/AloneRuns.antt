@@ -2,6 +2,7 @@
 use Rattle.std.specs.Prelude.{◌≡◌, ◌≢◌, ◌≤◌, ℕ, Some, slice_get}
 use Rattle.rw_objects.specs.Code.{Code}
 use Rattle.rw_objects.specs.Space.{Space}
+use Rattle.wasm_types.specs.declared.sizes.TheConstants.{MOST_STEPS}
 use Rattle.event_core.specs.Threads.{ThreadAt}
 use Rattle.event_core.specs.World.{WorldAt}
 use Rattle.event_core.specs.Run.{world_run, IsRun}
@@ -19,4 +20,4 @@ module _ {State Op Reply Value Fixed : Type 0} (space : Space Op Reply Value Fix
   -- steps of a thread that runs alone are picks of a world that has this thread and this memory
   abbrev pub RunsAloneAreRuns : Type 0
   RunsAloneAreRuns = (w : WorldAt State Value Fixed) (t n : ℕ) (x : ThreadAt State) (b : AloneAt State Value Fixed) → slice_get w.threads t ≡ Some x
-      → Goes space code n (alone_with x.state w.memory) b → code.steps b.thread ≤ 1000000000 → IsAloneRun w t n b
+      → Goes space code n (alone_with x.state w.memory) b → code.steps b.thread ≤ MOST_STEPS → IsAloneRun w t n b

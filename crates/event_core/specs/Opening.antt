@@ -3,6 +3,7 @@ use Rattle.std.specs.Prelude.{◌≡◌, ◌≤◌, ℕ, true, List, length, map
 use Rattle.rw_objects.specs.Code.{Code}
 use Rattle.rw_objects.specs.Counts.{no_count, no_counts}
 use Rattle.rw_objects.specs.Memory.{memory_with}
+use Rattle.wasm_types.specs.declared.sizes.TheConstants.{MOST_THREADS}
 use Rattle.event_core.specs.Threads.{ThreadAt, opening_thread}
 use Rattle.event_core.specs.World.{WorldAt}
 
@@ -21,7 +22,7 @@ opening_world state fixed values machines = record { threads = map opening_threa
 
 -- an opening world: at most 16 threads, none of which made a step, over objects none of which was touched
 pub record IsOpeningWorld {State Op Reply Value Fixed : Type 0} (code : Code State Op Reply Fixed) (w : WorldAt State Value Fixed) : Type 0 where
-  pub few : length w.threads ≤ 16
+  pub few : length w.threads ≤ MOST_THREADS
   pub fresh : (t : ℕ) (thread : ThreadAt State) → slice_get w.threads t ≡ Some thread → IsFresh code w.memory.fixed thread.state
   pub no_places : (t : ℕ) (thread : ThreadAt State) → slice_get w.threads t ≡ Some thread → thread.places ≡ 0
   pub no_counts : (o : ℕ) → w.memory.counts o ≡ no_count

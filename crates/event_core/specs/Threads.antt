@@ -2,6 +2,7 @@
 use Rattle.std.specs.Prelude.{zero, suc, [], ◌∷◌, ◌≡◌, ℕ, ◌+◌, ◌<◌, List, map, Some, slice_get, sum_by}
 use Rattle.rw_objects.specs.Code.{Code, TakesReply}
 use Rattle.rw_objects.specs.declared.next.Next.TheVariants.{Local}
+use Rattle.wasm_types.specs.declared.sizes.TheConstants.{MOST_STEPS}
 use Rattle.event_core.specs.declared.thread.Thread.{Thread}
 
 -- a list with one element changed
@@ -36,12 +37,12 @@ ThreadIs state threads at P = (t : ThreadAt _) → slice_get (threads_of state t
 module _ {State Op Reply Fixed : Type 0} (code : Code State Op Reply Fixed) where
   pub record CanStepLocally (t : ThreadAt State) : Type 0 where
     pub next : code.next t.state ≡ Local
-    pub steps : code.steps t.state < 1000000000
+    pub steps : code.steps t.state < MOST_STEPS
 
   pub record CanTakeReply (t : ThreadAt State) : Type 0 where
     pub next : TakesReply (code.next t.state)
-    pub steps : code.steps t.state < 1000000000
-    pub places : t.places < 1000000000
+    pub steps : code.steps t.state < MOST_STEPS
+    pub places : t.places < MOST_STEPS
 
   -- the steps of all threads
   abbrev pub all_steps : List (ThreadAt State) → ℕ

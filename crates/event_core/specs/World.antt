@@ -5,6 +5,7 @@ use Rattle.rw_objects.specs.Space.{Space, reply_of}
 use Rattle.rw_objects.specs.Memory.{Memory, memory_of, memory_after, entry_of}
 use Rattle.rw_objects.specs.declared.space.ObjectSpace.{Ghosts as SpaceGhosts}
 use Rattle.rw_objects.specs.declared.machine.Machine.{Ghosts as MachineGhosts}
+use Rattle.wasm_types.specs.declared.sizes.TheConstants.{MOST_STEPS}
 use Rattle.event_core.specs.declared.world.World.{World}
 use Rattle.event_core.specs.declared.pick.Pick.{Pick}
 use Rattle.event_core.specs.declared.pick.Input.{Input}
@@ -26,7 +27,7 @@ module _ {State Op Reply Value Fixed : Type 0} (space : Space Op Reply Value Fix
   -- a thread that does not exist, or that made 1,000,000,000 steps, has none
   abbrev pub step_of_thread : Memory Value Fixed → Option (ThreadAt State) → Input → PickStep Op
   step_of_thread m None input = step.Refused fault.Halted
-  step_of_thread m (Some t) input = cond (nat_lt (code.steps t.state) 1000000000) (step_of_next space m (code.next t.state) input) (step.Refused fault.Halted)
+  step_of_thread m (Some t) input = cond (nat_lt (code.steps t.state) MOST_STEPS) (step_of_next space m (code.next t.state) input) (step.Refused fault.Halted)
 
   -- the step of a pick
   abbrev pub step_of_pick : WorldAt State Value Fixed → Pick → PickStep Op

@@ -1,6 +1,7 @@
 -- What a piece says of one thread of a run, and the rules that a piece keeps.
 use Rattle.std.specs.Prelude.{◌≡◌, ℕ, ◌+◌, ◌/◌, ◌^◌, Bool, true, false, ◌&&◌, ◌||◌, not, nat_lt, nat_le, if◌then◌else◌, List, [], ◌∷◌, length, Option, Some, None, is_none}
 use Rattle.std.specs.List.{list_all}
+use Rattle.wasm_types.specs.declared.sizes.TheConstants.{MOST_STEPS}
 use Rattle.wasm_types.specs.declared.key.RunKey.{RunKey}
 use Rattle.wasm_types.specs.declared.key.Profile.{Profile}
 use Rattle.wasm_types.specs.declared.key.Profile.TheVariants.{One, Two}
@@ -25,8 +26,8 @@ is_empty (entry ∷ entries) end = false
 
 -- so many places are more than the end has, or the end has more places than steps, or there are too many of either
 abbrev pub passes_end : ℕ → Option End → Bool
-passes_end places None = nat_lt 1000000000 places
-passes_end places (Some end) = nat_lt end.places places || nat_lt end.steps end.places || nat_lt 1000000000 end.steps
+passes_end places None = nat_lt MOST_STEPS places
+passes_end places (Some end) = nat_lt end.places places || nat_lt end.steps end.places || nat_lt MOST_STEPS end.steps
 
 -- the last object: 32,768 where blocks have 64 bytes and a memory 16 pages
 abbrev pub greatest_object : Profile → ℕ

@@ -8,16 +8,10 @@ use crate::end::End;
 use crate::fault::PieceFault;
 use rw_objects::{Entry, Found};
 use std::marker::Model;
-use wasm_types::{Profile, RunKey};
+use wasm_types::{LAST_THREAD, MOST_STEPS, Profile, RunKey};
 
 /// The most entries that a piece has.
 pub const MOST_ENTRIES: usize = 4096;
-
-/// The most steps that a thread makes in a run, and so the most places of its log.
-pub const MOST_STEPS: u32 = 1_000_000_000;
-
-/// The greatest number of a thread.
-pub const LAST_THREAD: u32 = 15;
 
 /// Consecutive entries of one thread's log, and perhaps how the thread ended.
 #[derive(Debug, Drop)]
@@ -87,7 +81,7 @@ impl Piece {
     /// The place of the first entry in the thread's log.
     pub fn first(&self) -> u32
         ensures value { result ≡ self.now.first }
-        ensures at_most { result + length self.now.entries ≤ 1000000000 }
+        ensures at_most { result + length self.now.entries ≤ MOST_STEPS }
         ensures rules { IsPiece self.now }
     {
         self.first
@@ -97,7 +91,7 @@ impl Piece {
     pub fn entries(&self) -> &[Entry]
         ensures value { result.now ≡ self.now.entries }
         ensures few { length self.now.entries ≤ 4096 }
-        ensures at_most { self.now.first + length self.now.entries ≤ 1000000000 }
+        ensures at_most { self.now.first + length self.now.entries ≤ MOST_STEPS }
         ensures rules { IsPiece self.now }
     {
         &self.entries

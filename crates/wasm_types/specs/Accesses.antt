@@ -66,3 +66,12 @@ exponent_of w16 = 1
 exponent_of w32 = 2
 exponent_of w64 = 3
 exponent_of w128 = 4
+
+abbrev pub type_exponent : ValType → ℕ
+type_exponent t = exponent_of (type_width t)
+
+abbrev pub access_exponent : Access → ℕ
+access_exponent a = exponent_of (access_width a)
+
+abbrev pub atomic_exponent : AtomicOp → ℕ
+atomic_exponent op = exponent_of (atomic_width op)

@@ -13,4 +13,4 @@ pub const MOST_STEPS: u32 = 1_000_000_000;
 pub const MOST_THREADS: usize = 16;
 
 /// The last number that a thread may have.
-pub const LAST_THREAD: u32 = 15;
+pub const LAST_THREAD: u32 = MOST_THREADS as u32 - 1;

@@ -20,7 +20,7 @@ pub enum Width {
 
 impl Width {
     /// The bytes, from 1 to 8.
-    #[inline]
+    #[inline(always)]
     pub fn bytes(self) -> u32
         ensures len { result ≡ byte_len (width_of self) }
         ensures power { result ≡ 2 ^ exponent_of (width_of self) }
@@ -37,7 +37,7 @@ impl Width {
     }
 
     /// The exponent of two that the bytes are, from 0 to 3.
-    #[inline]
+    #[inline(always)]
     pub fn exponent(self) -> u32
         ensures exponent { result ≡ exponent_of (width_of self) }
         ensures few { result ≤ 3 }
@@ -53,7 +53,7 @@ impl Width {
 
 impl ValType {
     /// How many bytes a number of the type takes.
-    #[inline]
+    #[inline(always)]
     pub fn width(self) -> Width
         ensures { width_of result ≡ type_width self }
     {
@@ -66,7 +66,7 @@ impl ValType {
 
 impl Narrow {
     /// The type that the number is made.
-    #[inline]
+    #[inline(always)]
     pub fn val_type(self) -> ValType
         ensures { result ≡ narrow_type self }
     {
@@ -77,7 +77,7 @@ impl Narrow {
     }
 
     /// How many bytes the access takes.
-    #[inline]
+    #[inline(always)]
     pub fn width(self) -> Width
         ensures { width_of result ≡ narrow_width self }
     {
@@ -91,7 +91,7 @@ impl Narrow {
 
 impl Access {
     /// The type of what the access hands on.
-    #[inline]
+    #[inline(always)]
     pub fn val_type(self) -> ValType
         ensures { result ≡ access_type self }
     {
@@ -102,7 +102,7 @@ impl Access {
     }
 
     /// How many bytes the access takes.
-    #[inline]
+    #[inline(always)]
     pub fn width(self) -> Width
         ensures { width_of result ≡ access_width self }
     {
@@ -115,7 +115,7 @@ impl Access {
 
 impl Load {
     /// The load's access.
-    #[inline]
+    #[inline(always)]
     pub fn access(self) -> Access
         ensures { result ≡ load_access self }
     {
@@ -126,7 +126,7 @@ impl Load {
     }
 
     /// How many bytes the load takes.
-    #[inline]
+    #[inline(always)]
     pub fn width(self) -> Width
         ensures { width_of result ≡ load_width self }
     {
@@ -136,7 +136,7 @@ impl Load {
 
 impl AtomicOp {
     /// How many bytes the instruction takes.
-    #[inline]
+    #[inline(always)]
     pub fn width(self) -> Width
         ensures { width_of result ≡ atomic_width self }
     {

@@ -14,12 +14,12 @@ returns-in-None g c =
     let h = c.in-None.ensures.lookup in
     sym (step_none g.S.ObjectSpace.meaning g.M.Machine.code (world_of c.args.self.now) c.args.pick (read_past g.M.Machine.state c.args.self.now.threads.items c.deref.result.now c.args.pick.thread c.deref.ensures.value h.0))
 
-pub returns-then-steps-lt1000000000 : goal.returns-then-steps-lt1000000000
-returns-then-steps-lt1000000000 g c =
+pub returns-then-steps-lt-MOST_STEPS : goal.returns-then-steps-lt-MOST_STEPS
+returns-then-steps-lt-MOST_STEPS g c =
     let h = c.in-Some.ensures.lookup in
-    rw (c.step_of_next.ensures, c.next.ensures) (sym (step_some g.S.ObjectSpace.meaning g.M.Machine.code (world_of c.args.self.now) c.args.pick _ (read_at g.M.Machine.state c.args.self.now.threads.items c.deref.result.now c.args.pick.thread c.in-Some.thread.now c.deref.ensures.value h.0 h.1) (rw c.steps.ensures at c.if-steps-lt1000000000.true)))
+    rw (c.step_of_next.ensures, c.next.ensures) (sym (step_some g.S.ObjectSpace.meaning g.M.Machine.code (world_of c.args.self.now) c.args.pick _ (read_at g.M.Machine.state c.args.self.now.threads.items c.deref.result.now c.args.pick.thread c.in-Some.thread.now c.deref.ensures.value h.0 h.1) (rw c.steps.ensures at c.if-steps-lt-MOST_STEPS.true)))
 
-pub returns-else-steps-lt1000000000 : goal.returns-else-steps-lt1000000000
-returns-else-steps-lt1000000000 g c =
+pub returns-else-steps-lt-MOST_STEPS : goal.returns-else-steps-lt-MOST_STEPS
+returns-else-steps-lt-MOST_STEPS g c =
     let h = c.in-Some.ensures.lookup in
-    sym (step_worn g.S.ObjectSpace.meaning g.M.Machine.code (world_of c.args.self.now) c.args.pick _ (read_at g.M.Machine.state c.args.self.now.threads.items c.deref.result.now c.args.pick.thread c.in-Some.thread.now c.deref.ensures.value h.0 h.1) (rw c.steps.ensures at c.if-steps-lt1000000000.false))
+    sym (step_worn g.S.ObjectSpace.meaning g.M.Machine.code (world_of c.args.self.now) c.args.pick _ (read_at g.M.Machine.state c.args.self.now.threads.items c.deref.result.now c.args.pick.thread c.in-Some.thread.now c.deref.ensures.value h.0 h.1) (rw c.steps.ensures at c.if-steps-lt-MOST_STEPS.false))
