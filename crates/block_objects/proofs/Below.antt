@@ -20,7 +20,8 @@ use Rattle.rw_objects.specs.declared.touch.Touch.{Touch}
 use Rattle.rw_objects.specs.declared.entry.Kind.TheVariants as kinds
 use Rattle.rw_objects.specs.Space.{AllBelow}
 use Rattle.block_objects.specs.Objects.{block_of, block_object, queue_object, blocks_in, objects_in}
-use Rattle.block_objects.specs.Access.{is_within, type_width, access_width, load_width}
+use Rattle.wasm_types.specs.Accesses.{access_width, load_width, type_width}
+use Rattle.block_objects.specs.Access.{is_within}
 use Rattle.block_objects.specs.Touches.{touch_of, length_touches, block_touches, access_touches, queue_touches, action_touches, action_kind}
 use Rattle.block_objects.specs.declared.limits.MemoryLimits.{MemoryLimits}
 use Rattle.block_objects.specs.Bounds.{InBounds, IsWithin, OpsWithinFit}

@@ -12,7 +12,8 @@ use Rattle.wasm_types.specs.declared.operation.Extent.{Extent}
 use Rattle.wasm_types.specs.declared.operation.Action.{Action}
 use Rattle.wasm_types.specs.declared.operation.Action.TheVariants as act
 use Rattle.block_objects.specs.Objects.{ObjectAt, block_of, block_object}
-use Rattle.block_objects.specs.Access.{is_within, type_width, access_width, load_width}
+use Rattle.wasm_types.specs.Accesses.{access_width, load_width, type_width}
+use Rattle.block_objects.specs.Access.{is_within}
 use Rattle.block_objects.specs.Touches.{touch_of, length_touches, access_touches, queue_touches, wait_touches, action_touches, action_kind}
 use Rattle.block_objects.specs.Effects.{action_effect}
 use Rattle.block_objects.specs.SharedMemory.{shared_memory}

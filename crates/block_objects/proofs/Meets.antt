@@ -16,7 +16,8 @@ use Rattle.wasm_types.specs.declared.instruction.Narrow.TheVariants.{I32Of8, I32
 use Rattle.wasm_types.specs.declared.value.ValType.{ValType}
 use Rattle.wasm_types.specs.declared.value.ValType.TheVariants as types
 use Rattle.block_objects.specs.Objects.{ObjectAt, Length, QueueAt, block_of, block_object, blocks_in, objects_in, object_value}
-use Rattle.block_objects.specs.Access.{is_within, load_width, access_width, type_width, narrow_width}
+use Rattle.wasm_types.specs.Accesses.{access_width, load_width, narrow_width, type_width}
+use Rattle.block_objects.specs.Access.{is_within}
 use Rattle.block_objects.specs.Touches.{access_touches}
 use Rattle.block_objects.specs.Effects.{access_effect}
 use Rattle.block_objects.specs.Memory.{MemoryAt, IsSound, access_answer, after_access}

@@ -1,54 +1,17 @@
 -- Numbers in a memory's bytes, little-endian, and what an access answers and stores (WebAssembly Core 1.0, loads and
 -- stores; threads proposal, atomic read-modify-writes).
 use Rattle.std.specs.Prelude.{ℕ, ◌+◌, ◌-◌, ◌*◌, ◌%◌, ◌^◌, Bool, cond, ◌==◌, nat_le, List, ◌++◌, length, take, drop, Option, Some, None, bit_and, bit_or, bit_xor}
-use Rattle.std.specs.Int.{Width, w8, w16, w32, w64, from_le_bytes, to_le_bytes, cast_signed, cast_unsigned}
-use Rattle.wasm_types.specs.declared.value.ValType.{ValType}
-use Rattle.wasm_types.specs.declared.value.ValType.TheVariants as types
+use Rattle.std.specs.Int.{Width, from_le_bytes, to_le_bytes, cast_signed, cast_unsigned}
+use Rattle.wasm_types.specs.declared.sizes.TheConstants.{PAGE_SIZE}
 use Rattle.wasm_types.specs.declared.value.Value.{Value}
-use Rattle.wasm_types.specs.declared.value.Value.TheVariants as values
-use Rattle.wasm_types.specs.declared.instruction.Narrow.{Narrow}
-use Rattle.wasm_types.specs.declared.instruction.Narrow.TheVariants.{I32Of8, I32Of16, I64Of8, I64Of16, I64Of32}
 use Rattle.wasm_types.specs.declared.instruction.Extension.{Extension}
 use Rattle.wasm_types.specs.declared.instruction.Extension.TheVariants.{Signed, Unsigned}
 use Rattle.wasm_types.specs.declared.instruction.Load.{Load}
 use Rattle.wasm_types.specs.declared.instruction.Load.TheVariants as load
-use Rattle.wasm_types.specs.declared.instruction.Access.{Access}
-use Rattle.wasm_types.specs.declared.instruction.Access.TheVariants as access
 use Rattle.wasm_types.specs.declared.instruction.RmwOp.{RmwOp}
 use Rattle.wasm_types.specs.declared.instruction.RmwOp.TheVariants.{Add, Subtract, And, Or, Xor, Exchange}
-use Rattle.block_objects.specs.Objects.{page_size}
-
--- ---- widths
-
-abbrev pub type_width : ValType → Width
-type_width types.I32 = w32
-type_width types.I64 = w64
-
-abbrev pub narrow_width : Narrow → Width
-narrow_width I32Of8 = w8
-narrow_width I32Of16 = w16
-narrow_width I64Of8 = w8
-narrow_width I64Of16 = w16
-narrow_width I64Of32 = w32
-
-abbrev pub narrow_type : Narrow → ValType
-narrow_type I32Of8 = types.I32
-narrow_type I32Of16 = types.I32
-narrow_type I64Of8 = types.I64
-narrow_type I64Of16 = types.I64
-narrow_type I64Of32 = types.I64
-
-abbrev pub access_width : Access → Width
-access_width (access.Whole t) = type_width t
-access_width (access.Narrow n) = narrow_width n
-
-abbrev pub access_type : Access → ValType
-access_type (access.Whole t) = t
-access_type (access.Narrow n) = narrow_type n
-
-abbrev pub load_width : Load → Width
-load_width (load.Whole t) = type_width t
-load_width (load.Narrow n e) = narrow_width n
+use Rattle.wasm_types.specs.Values.{value_of}
+use Rattle.wasm_types.specs.Accesses.{narrow_type, narrow_width, type_width}
 
 -- ---- numbers in bytes
 
@@ -70,13 +33,9 @@ with_number_if w at (Some n) bytes = with_number w at n bytes
 
 -- an access of so many bytes at an address ends within so many pages
 abbrev pub is_within : ℕ → ℕ → ℕ → Bool
-is_within pages address len = nat_le (address + len) (pages * page_size)
+is_within pages address len = nat_le (address + len) (pages * PAGE_SIZE)
 
 -- ---- answers
-
-abbrev pub typed_value : ValType → ℕ → Value
-typed_value types.I32 n = values.I32 n
-typed_value types.I64 n = values.I64 n
 
 -- a number of one width as one of another
 abbrev pub extended : Extension → Width → Width → ℕ → ℕ
@@ -85,8 +44,8 @@ extended Unsigned from to n = n
 
 -- what a load answers, by the number that stands in memory
 abbrev pub loaded : Load → ℕ → Value
-loaded (load.Whole t) n = typed_value t n
-loaded (load.Narrow k e) n = typed_value (narrow_type k) (extended e (narrow_width k) (type_width (narrow_type k)) n)
+loaded (load.Whole t) n = value_of t n
+loaded (load.Narrow k e) n = value_of (narrow_type k) (extended e (narrow_width k) (type_width (narrow_type k)) n)
 
 -- what a read-modify-write stores, by the number that stands in memory and the operand
 abbrev pub modified : RmwOp → ℕ → ℕ → ℕ

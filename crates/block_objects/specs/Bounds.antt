@@ -1,13 +1,13 @@
 -- Actions within a memory. WebAssembly Core 1.0, memory instructions: an access is in bounds where it ends within the memory.
 use Rattle.std.specs.Prelude.{◌≡◌, ℕ, ◌+◌, ◌*◌, ◌≤◌, ◌<◌}
 use Rattle.std.specs.Int.{byte_len}
+use Rattle.wasm_types.specs.declared.sizes.TheConstants.{PAGE_SIZE}
 use Rattle.wasm_types.specs.declared.operation.Action.{Action}
 use Rattle.wasm_types.specs.declared.operation.Action.TheVariants as action
 use Rattle.wasm_types.specs.declared.operation.Op.{Op}
 use Rattle.rw_objects.specs.Space.{Fits}
 use Rattle.block_objects.specs.declared.limits.MemoryLimits.{MemoryLimits}
-use Rattle.block_objects.specs.Objects.{page_size}
-use Rattle.block_objects.specs.Access.{type_width, access_width, load_width}
+use Rattle.wasm_types.specs.Accesses.{access_width, load_width, type_width}
 use Rattle.block_objects.specs.SharedMemory.{Carries, shared_memory}
 
 -- an action ends within so many bytes of memory
@@ -27,7 +27,7 @@ InBounds bytes (action.TimeOut thread address) = address < bytes
 pub record IsWithin (limits : MemoryLimits) (op : Op) : Type 0 where
   pub power : limits.block ≤ 16
   pub carries : Carries limits op
-  pub ends : InBounds (limits.capacity * page_size) op.action
+  pub ends : InBounds (limits.capacity * PAGE_SIZE) op.action
 
 -- such an operation fits the memory
 abbrev pub OpsWithinFit : Type 0

@@ -11,7 +11,9 @@ use Rattle.wasm_types.specs.declared.operation.Action.TheVariants as act
 use Rattle.wasm_types.specs.declared.operation.Reply.{Reply}
 use Rattle.wasm_types.specs.declared.operation.Reply.TheVariants as replies
 use Rattle.block_objects.specs.Objects.{ObjectAt, Length, Bytes, Queue, QueueAt, block_of, block_object}
-use Rattle.block_objects.specs.Access.{number_at, with_number_if, is_within, type_width, access_width, access_type, load_width, typed_value, loaded, modified, exchanged}
+use Rattle.wasm_types.specs.Values.{value_of}
+use Rattle.wasm_types.specs.Accesses.{access_type, access_width, load_width, type_width}
+use Rattle.block_objects.specs.Access.{number_at, with_number_if, is_within, loaded, modified, exchanged}
 use Rattle.block_objects.specs.Queues.{no_waiters, is_woken, waits_at, after_wait, chosen, after_notify, after_resume, after_time_out}
 
 -- ---- what was found in the touched objects
@@ -101,9 +103,9 @@ abbrev pub action_effect : ℕ → Extent → Action → List ObjectAt → Effec
 action_effect capacity e (act.Load load address) seen = access_effect e address (load_width load) (λ n. replies.Value (loaded load n)) (λ n. None) seen
 action_effect capacity e (act.Store access address operand) seen = access_effect e address (access_width access) (λ n. replies.Stored) (λ n. Some operand) seen
 action_effect capacity e (act.Rmw op access address operand) seen =
-    access_effect e address (access_width access) (λ n. replies.Value (typed_value (access_type access) n)) (λ n. Some (modified op n operand)) seen
+    access_effect e address (access_width access) (λ n. replies.Value (value_of (access_type access) n)) (λ n. Some (modified op n operand)) seen
 action_effect capacity e (act.CompareExchange access address expected replacement) seen =
-    access_effect e address (access_width access) (λ n. replies.Value (typed_value (access_type access) n)) (exchanged expected replacement) seen
+    access_effect e address (access_width access) (λ n. replies.Value (value_of (access_type access) n)) (exchanged expected replacement) seen
 action_effect capacity e act.Size seen = record { ready = true; reply = i32_reply (pages_seen e.initial seen); written = λ o. Length (pages_seen e.initial seen) }
 action_effect capacity e (act.Grow by) seen = record {
   ready = true;

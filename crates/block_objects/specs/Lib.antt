@@ -1,6 +1,5 @@
 pub mod Objects
 pub mod Access
-pub mod Widths
 pub mod Touches
 pub mod Queues
 pub mod Effects

@@ -1,12 +1,12 @@
 -- A shared memory as one list of bytes (WebAssembly Core 1.0, memory instances), and what operations do to it.
 use Rattle.std.specs.Prelude.{◌≡◌, ℕ, ◌+◌, ◌*◌, ◌≤◌, List, [], ◌∷◌, length, take, replicate, Option}
 use Rattle.std.specs.Int.{Width, byte_len}
+use Rattle.wasm_types.specs.declared.sizes.TheConstants.{MOST_PAGES, PAGE_SIZE}
 use Rattle.wasm_types.specs.declared.value.Value.{Value}
 use Rattle.wasm_types.specs.declared.value.Value.TheVariants as values
 use Rattle.wasm_types.specs.declared.modules.Data.{Data}
 use Rattle.wasm_types.specs.declared.operation.Reply.{Reply}
 use Rattle.block_objects.specs.declared.limits.MemoryLimits.{MemoryLimits}
-use Rattle.block_objects.specs.Objects.{page_size}
 use Rattle.block_objects.specs.Access.{is_within, overwrite}
 use Rattle.block_objects.specs.Effects.{access_reply, access_bytes, grown}
 
@@ -20,8 +20,8 @@ pub record MemoryAt : Type 0 where
 pub record IsSound (m : MemoryAt) : Type 0 where
   pub from_initial : m.limits.initial ≤ m.pages
   pub to_capacity : m.pages ≤ m.limits.capacity
-  pub in_limit : m.limits.capacity ≤ 65536
-  pub all_bytes : length m.bytes ≡ m.limits.capacity * page_size
+  pub in_limit : m.limits.capacity ≤ MOST_PAGES
+  pub all_bytes : length m.bytes ≡ m.limits.capacity * PAGE_SIZE
   pub least_block : 6 ≤ m.limits.block
   pub greatest_block : m.limits.block ≤ 12
 
@@ -36,7 +36,7 @@ after_grow m by = record { limits = m.limits; pages = grown m.limits.capacity m.
 
 -- the bytes of a memory at its present length
 abbrev pub present_bytes : MemoryAt → List ℕ
-present_bytes m = take (m.pages * page_size) m.bytes
+present_bytes m = take (m.pages * PAGE_SIZE) m.bytes
 
 -- ---- active segments
 
@@ -46,7 +46,7 @@ value_bits (values.I32 n) = n
 value_bits (values.I64 n) = n
 
 abbrev pub segment_fits : ℕ → Data → Type 0
-segment_fits pages d = value_bits d.offset + length d.bytes ≤ pages * page_size
+segment_fits pages d = value_bits d.offset + length d.bytes ≤ pages * PAGE_SIZE
 
 -- bytes with the segments written over them, in order
 abbrev pub with_segments : List Data → List ℕ → List ℕ
@@ -56,4 +56,4 @@ with_segments (d ∷ ds) bytes = with_segments ds (overwrite (value_bits d.offse
 -- a memory as it opens: zeros, and the segments
 abbrev pub opening_memory : MemoryLimits → List Data → MemoryAt
 opening_memory limits segments =
-    record { limits = limits; pages = limits.initial; bytes = with_segments segments (replicate (limits.capacity * page_size) 0) }
+    record { limits = limits; pages = limits.initial; bytes = with_segments segments (replicate (limits.capacity * PAGE_SIZE) 0) }

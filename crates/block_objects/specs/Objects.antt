@@ -2,6 +2,7 @@
 -- and object 2 + 2b is the waiter queue of block b. Which parts of a memory are objects is this project's own choice;
 -- what they hold is of WebAssembly Core 1.0, memory instances, and of the threads proposal, wait and notify.
 use Rattle.std.specs.Prelude.{ℕ, zero, suc, ◌+◌, ◌-◌, ◌*◌, ◌/◌, ◌%◌, ◌^◌, cond, ◌==◌, List, [], ◌++◌, take, drop}
+use Rattle.wasm_types.specs.declared.sizes.TheConstants.{PAGE_SIZE}
 use Rattle.block_objects.specs.declared.waiter.Waiter.{Waiter}
 
 -- a waiter queue: who waits, in order of arrival, and which threads were woken and have not gone on
@@ -15,10 +16,6 @@ pub data ObjectAt : Type 0 where
   Bytes : List ℕ → ObjectAt
   Queue : QueueAt → ObjectAt
 
--- how many bytes a page has (WebAssembly Core 1.0, memory instances)
-abbrev pub page_size : ℕ
-page_size = 65536
-
 -- the block of an address, where blocks have 2 ^ power bytes
 abbrev pub block_of : ℕ → ℕ → ℕ
 block_of power address = address / 2 ^ power
@@ -31,7 +28,7 @@ queue_object b = 2 + 2 * b
 
 -- how many blocks so many pages have, and how many objects
 abbrev pub blocks_in : ℕ → ℕ → ℕ
-blocks_in power pages = pages * page_size / 2 ^ power
+blocks_in power pages = pages * PAGE_SIZE / 2 ^ power
 
 abbrev pub objects_in : ℕ → ℕ → ℕ
 objects_in power pages = 1 + 2 * blocks_in power pages

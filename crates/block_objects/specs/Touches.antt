@@ -13,7 +13,8 @@ use Rattle.wasm_types.specs.declared.operation.Action.{Action}
 use Rattle.wasm_types.specs.declared.operation.Action.TheVariants as act
 use Rattle.wasm_types.specs.declared.operation.Op.{Op}
 use Rattle.block_objects.specs.Objects.{block_of, block_object, queue_object}
-use Rattle.block_objects.specs.Access.{is_within, type_width, access_width, load_width}
+use Rattle.wasm_types.specs.Accesses.{access_width, load_width, type_width}
+use Rattle.block_objects.specs.Access.{is_within}
 
 abbrev pub touch_of : Mode → ℕ → Touch
 touch_of mode object = record { object = object; mode = mode }

@@ -4,20 +4,23 @@ ghost use Rattle.std.specs.Prelude.{◌≡◌, ℕ, ◌*◌, ◌^◌, ◌≤◌,
 ghost use Rattle.std.specs.Int.{byte_len};
 ghost use Rattle.std.specs.List.{All};
 ghost use Rattle.wasm_types.specs.declared.operation.Reply.TheVariants as replies;
-ghost use Rattle.block_objects.specs.Objects.{page_size, blocks_in};
-ghost use Rattle.block_objects.specs.Access.{is_within, type_width, access_width, access_type, load_width, typed_value, loaded, modified, exchanged, number_at};
+ghost use Rattle.block_objects.specs.Objects.{blocks_in};
+ghost use Rattle.wasm_types.specs.Values.{value_of};
+ghost use Rattle.wasm_types.specs.Accesses.{access_type, access_width, load_width, type_width};
+ghost use Rattle.block_objects.specs.Access.{is_within, loaded, modified, exchanged, number_at};
 ghost use Rattle.block_objects.specs.Effects.{grow_reply};
 ghost use Rattle.block_objects.specs.Memory.{MemoryAt, IsSound, access_answer, after_access, after_grow, opening_memory, segment_fits, present_bytes};
 
-use crate::bounds::{PAGE_SIZE, ends_within};
+use crate::bounds::ends_within;
 use crate::limits::MemoryLimits;
 use crate::loads::{access_value, load_value};
 use crate::numbers::{read_number, write_number};
 use crate::segments::write_segment;
-use crate::width::Width;
 use std::alloc::Global;
 use std::marker::Model;
-use wasm_types::{Access, Data, Load, NoMemory, Reply, RmwOp, Trap, ValType, Value};
+use wasm_types::{
+    Access, Data, Load, MOST_PAGES, NoMemory, PAGE_SIZE, Reply, RmwOp, Trap, ValType, Value,
+};
 
 /// The bytes of a memory up to its capacity, made once, and its length in pages. Contracts see `MemoryAt`.
 #[derive(Drop)]
@@ -29,7 +32,7 @@ pub struct Blocks {
 
 impl Model for Blocks {
     ghost use Rattle.std.specs.Prelude.{◌≡◌, ◌*◌, ◌≤◌, length};
-    ghost use Rattle.block_objects.specs.Objects.{page_size};
+    ghost use Rattle.wasm_types.specs.declared.sizes.TheConstants.{MOST_PAGES, PAGE_SIZE};
     ghost use Rattle.block_objects.specs.Memory.{MemoryAt};
 
     ghost Value = { MemoryAt };
@@ -37,10 +40,10 @@ impl Model for Blocks {
     ghost view = { λ b. record { limits = b.limits; pages = b.pages; bytes = b.bytes.items } };
 
     ghost invariant = { λ b. record {
-      all_bytes : length b.bytes.items ≡ b.limits.capacity * page_size;
+      all_bytes : length b.bytes.items ≡ b.limits.capacity * PAGE_SIZE;
       from_initial : b.limits.initial ≤ b.pages;
       to_capacity : b.pages ≤ b.limits.capacity;
-      in_limit : b.limits.capacity ≤ 65536;
+      in_limit : b.limits.capacity ≤ MOST_PAGES;
     } };
 }
 
@@ -49,7 +52,7 @@ impl Blocks {
     /// Nothing later takes memory.
     pub fn new(alloc: Global, limits: MemoryLimits, segments: &[Data]) -> Result<Blocks, NoMemory>
         requires order { limits.initial ≤ limits.capacity }
-        requires limit { limits.capacity ≤ 65536 }
+        requires limit { limits.capacity ≤ MOST_PAGES }
         requires fit { All (segment_fits limits.initial) segments.now }
         ensures { IfOk result (λ blocks. blocks ≡ opening_memory limits segments.now) }
     {
@@ -96,7 +99,7 @@ impl Blocks {
     pub fn load(&self, load: Load, address: u32) -> Reply
         ensures { result ≡ access_answer self.now address (load_width load) (λ n. replies.Value (loaded load n)) }
     {
-        if !ends_within(self.pages, address, Width::of_load(load).len()) {
+        if !ends_within(self.pages, address, load.width().bytes()) {
             return Reply::Trap(Trap::OutOfBounds);
         }
         self.load_within(load, address)
@@ -116,8 +119,8 @@ impl Blocks {
         ensures reply { result ≡ access_answer self.old address (access_width access) (λ n. replies.Stored) }
         ensures memory { self.new ≡ after_access self.old address (access_width access) (λ n. Some operand) }
     {
-        let width = Width::of_access(access);
-        if !ends_within(self.pages, address, width.len()) {
+        let width = access.width();
+        if !ends_within(self.pages, address, width.bytes()) {
             return Reply::Trap(Trap::OutOfBounds);
         }
         self.store_within(access, address, operand)
@@ -130,18 +133,18 @@ impl Blocks {
         ensures reply { result ≡ access_answer self.old address (access_width access) (λ n. replies.Stored) }
         ensures memory { self.new ≡ after_access self.old address (access_width access) (λ n. Some operand) }
     {
-        let width = Width::of_access(access);
+        let width = access.width();
         write_number(&mut self.bytes, width, address as usize, operand);
         Reply::Stored
     }
 
     /// Modifies a number by an operand and answers the old one extended by zeros, or traps and changes nothing.
     pub fn rmw(&mut self, op: RmwOp, access: Access, address: u32, operand: u64) -> Reply
-        ensures reply { result ≡ access_answer self.old address (access_width access) (λ n. replies.Value (typed_value (access_type access) n)) }
+        ensures reply { result ≡ access_answer self.old address (access_width access) (λ n. replies.Value (value_of (access_type access) n)) }
         ensures memory { self.new ≡ after_access self.old address (access_width access) (λ n. Some (modified op n operand)) }
     {
-        let width = Width::of_access(access);
-        if !ends_within(self.pages, address, width.len()) {
+        let width = access.width();
+        if !ends_within(self.pages, address, width.bytes()) {
             return Reply::Trap(Trap::OutOfBounds);
         }
         let old = read_number(&self.bytes, width, address as usize);
@@ -159,11 +162,11 @@ impl Blocks {
         expected: u64,
         replacement: u64,
     ) -> Reply
-        ensures reply { result ≡ access_answer self.old address (access_width access) (λ n. replies.Value (typed_value (access_type access) n)) }
+        ensures reply { result ≡ access_answer self.old address (access_width access) (λ n. replies.Value (value_of (access_type access) n)) }
         ensures memory { self.new ≡ after_access self.old address (access_width access) (exchanged expected replacement) }
     {
-        let width = Width::of_access(access);
-        if !ends_within(self.pages, address, width.len()) {
+        let width = access.width();
+        if !ends_within(self.pages, address, width.bytes()) {
             return Reply::Trap(Trap::OutOfBounds);
         }
         let old = read_number(&self.bytes, width, address as usize);
@@ -178,7 +181,7 @@ impl Blocks {
         requires { is_within self.now.pages address (byte_len (type_width of)) ≡ true }
         ensures { result ≡ number_at (type_width of) address self.now.bytes }
     {
-        read_number(&self.bytes, Width::of_type(of), address as usize)
+        read_number(&self.bytes, of.width(), address as usize)
     }
 
     /// Grows by so many pages and answers the old length, or answers -1 and changes nothing where the new length would

@@ -3,8 +3,7 @@
 ghost use Rattle.std.specs.Prelude.{◌≡◌};
 ghost use Rattle.block_objects.specs.Access.{is_within};
 
-/// The bytes of a page (WebAssembly Core 1.0, memory instances).
-pub(crate) const PAGE_SIZE: u64 = 65_536;
+use wasm_types::PAGE_SIZE;
 
 /// Whether an access of so many bytes at an address ends within so many pages.
 pub fn ends_within(pages: u32, address: u32, len: u32) -> bool

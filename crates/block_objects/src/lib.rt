@@ -10,7 +10,6 @@ mod object;
 mod segments;
 mod touch_table;
 mod waiter;
-mod width;
 mod within;
 
 pub use blocks::Blocks;
@@ -19,5 +18,4 @@ pub use limits::MemoryLimits;
 pub use object::ObjectValue;
 pub use touch_table::{block_number, kind, lone_block, touches};
 pub use waiter::Waiter;
-pub use width::{access_len, load_len, type_len};
 pub use within::operations_within_fit;

@@ -3,7 +3,9 @@
 ghost use Rattle.std.specs.Prelude.{◌≡◌, ◌+◌, ◌^◌, ◌<◌, ◌≤◌, length};
 ghost use Rattle.std.specs.Int.{byte_len};
 ghost use mir.Val.{bits};
-ghost use Rattle.block_objects.specs.Access.{number_at, type_width, narrow_width, load_width, access_width, access_type, loaded, typed_value};
+ghost use Rattle.wasm_types.specs.Values.{value_of};
+ghost use Rattle.wasm_types.specs.Accesses.{access_type, access_width, load_width, narrow_width, type_width};
+ghost use Rattle.block_objects.specs.Access.{number_at, loaded};
 ghost use Rattle.wasm_types.specs.declared.instruction.Load.TheVariants as load;
 ghost use Rattle.wasm_types.specs.declared.instruction.Extension.TheVariants.{Signed, Unsigned};
 
@@ -63,7 +65,7 @@ fn load_signed(bytes: &[u8], narrow: Narrow, at: usize) -> Value
 /// The number that an access found as a value of its type.
 pub(crate) fn access_value(access: Access, number: u64) -> Value
     requires { number < 2 ^ bits (access_width access) }
-    ensures { result ≡ typed_value (access_type access) number }
+    ensures { result ≡ value_of (access_type access) number }
 {
     match access {
         Access::Whole(ValType::I32) => Value::I32(number as u32),

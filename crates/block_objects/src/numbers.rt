@@ -4,9 +4,9 @@ ghost use Rattle.std.specs.Prelude.{◌≡◌, ◌+◌, ◌^◌, ◌<◌, ◌≤
 ghost use Rattle.std.specs.Int.{w8, w16, w32, w64, byte_len};
 ghost use mir.Val.{bits};
 ghost use Rattle.block_objects.specs.Access.{number_at, with_number};
-ghost use Rattle.block_objects.specs.Widths.{width_of};
+ghost use Rattle.wasm_types.specs.Widths.{width_of};
 
-use crate::width::Width;
+use wasm_types::Width;
 
 /// The number of 8 bits at a place.
 pub(crate) fn u8_at(bytes: &[u8], at: usize) -> u8

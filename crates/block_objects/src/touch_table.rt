@@ -4,15 +4,14 @@ ghost use Rattle.std.specs.Prelude.{◌≡◌, ◌+◌, ◌-◌, ◌^◌, ◌<�
 ghost use Rattle.block_objects.specs.Objects.{block_of, block_object, queue_object};
 ghost use Rattle.block_objects.specs.Touches.{touch_of, length_touches, access_touches, lone_object, queue_touches, wait_touches, op_touches, op_kind};
 ghost use Rattle.rw_objects.specs.declared.touch.Mode.TheVariants.{Write};
-ghost use Rattle.block_objects.specs.Access.{access_width};
-ghost use Rattle.block_objects.specs.Widths.{width_of};
+ghost use Rattle.wasm_types.specs.Accesses.{access_width};
+ghost use Rattle.wasm_types.specs.Widths.{width_of};
 ghost use Rattle.std.specs.Int.{byte_len};
 
 use crate::bounds::ends_within;
-use crate::width::Width;
 use rw_objects::{Few, Kind, Mode, Touch};
 use std::alloc::Global;
-use wasm_types::{Access, Action, Block, Extent, Op};
+use wasm_types::{Access, Action, Block, Extent, Op, Width};
 
 /// The block of a byte.
 fn block_index(block: Block, byte: u64) -> u32
@@ -96,15 +95,15 @@ fn touch_access(
     ensures { result ≡ access_touches extent.now mode address (byte_len (width_of width)) }
 {
     let first = block_at(extent.block, address);
-    let last = last_block(extent.block, address, width.len());
+    let last = last_block(extent.block, address, width.bytes());
     let touch = Touch {
         object: first,
         mode,
     };
-    if first == last && ends_within(extent.initial, address, width.len()) {
+    if first == last && ends_within(extent.initial, address, width.bytes()) {
         return Few::one(alloc, touch);
     }
-    let mut touches = touch_length(alloc, extent, address, width.len());
+    let mut touches = touch_length(alloc, extent, address, width.bytes());
     touches.push(touch);
     if first != last {
         touches.push(Touch { object: last, mode });
@@ -116,13 +115,7 @@ fn touch_access(
 fn touch_write(alloc: Global, extent: &Extent, address: u32, access: Access) -> Few<Touch>
     ensures { result ≡ access_touches extent.now Write address (byte_len (access_width access)) }
 {
-    touch_access(
-        alloc,
-        extent,
-        Mode::Write,
-        address,
-        Width::of_access(access),
-    )
+    touch_access(alloc, extent, Mode::Write, address, access.width())
 }
 
 /// Pushes a write of the waiter queue of an address.
@@ -143,7 +136,7 @@ pub fn touches(alloc: Global, op: &Op) -> Few<Touch>
     let extent = &op.extent;
     match op.action {
         Action::Load { load, address } => {
-            touch_access(alloc, extent, Mode::Read, address, Width::of_load(load))
+            touch_access(alloc, extent, Mode::Read, address, load.width())
         }
         Action::Store {
             access,
@@ -162,9 +155,7 @@ pub fn touches(alloc: Global, op: &Op) -> Few<Touch>
         } => touch_write(alloc, extent, address, access),
         Action::Size => touch_of_length(alloc, Mode::Read),
         Action::Grow { .. } => touch_of_length(alloc, Mode::Write),
-        Action::Wait { width, address, .. } => {
-            touch_wait(alloc, extent, address, Width::of_type(width))
-        }
+        Action::Wait { width, address, .. } => { touch_wait(alloc, extent, address, width.width()) }
         Action::Notify { address, .. } => {
             let mut touches = touch_length(alloc, extent, address, 4);
             touch_queue(&mut touches, extent, address);
@@ -195,7 +186,7 @@ fn touch_of_queue(alloc: Global, extent: &Extent, address: u32) -> Few<Touch>
 fn touch_wait(alloc: Global, extent: &Extent, address: u32, width: Width) -> Few<Touch>
     ensures { result ≡ wait_touches extent.now address (byte_len (width_of width)) }
 {
-    let mut touches = touch_length(alloc, extent, address, width.len());
+    let mut touches = touch_length(alloc, extent, address, width.bytes());
     touches.push(Touch {
         object: block_at(extent.block, address),
         mode: Mode::Read,

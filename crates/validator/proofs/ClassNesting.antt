@@ -24,7 +24,8 @@ use Rattle.wasm_types.specs.declared.instruction.PagesOp.TheVariants.{Size, Grow
 use Rattle.wasm_types.specs.declared.instruction.AtomicOp.{AtomicOp}
 use Rattle.wasm_types.specs.declared.instruction.AtomicOp.TheVariants as atomic
 use Rattle.validator.specs.Context.{has_memory, has_table, labels_in, function_type}
-use Rattle.validator.specs.Table.{numeric_class, index_class, table_class, memory_class, pages_class, atomic_operands, all_take, access_width, access_type, load_access, atomic_width}
+use Rattle.wasm_types.specs.Accesses.{access_exponent, access_type, atomic_exponent, load_access}
+use Rattle.validator.specs.Table.{numeric_class, index_class, table_class, memory_class, pages_class, atomic_operands, all_take}
 
 abbrev pub nests : Class → Nesting
 nests (Fixed takes gives) = Stays
@@ -69,8 +70,8 @@ table_stays c None default = refl
 table_stays c (Some labels) default = named (slice_get c.labels default) _ (λ takes. allowed (all_take c.labels takes labels) _ refl)
 
 memory_stays : (op : MemoryOp) (align : ℕ) → Stays ≡ nests (memory_class op align)
-memory_stays (memory.Load l) align = allowed (nat_le align (access_width (load_access l))) (Fixed (I32 ∷ []) (access_type (load_access l) ∷ [])) refl
-memory_stays (memory.Store a) align = allowed (nat_le align (access_width a)) (Fixed (I32 ∷ access_type a ∷ []) []) refl
+memory_stays (memory.Load l) align = allowed (nat_le align (access_exponent (load_access l))) (Fixed (I32 ∷ []) (access_type (load_access l) ∷ [])) refl
+memory_stays (memory.Store a) align = allowed (nat_le align (access_exponent a)) (Fixed (I32 ∷ access_type a ∷ []) []) refl
 
 pages_stays : (op : PagesOp) → Stays ≡ nests (pages_class op)
 pages_stays Size = refl
@@ -102,7 +103,7 @@ nesting_class c (instr.CallIndirect index) = allowed (has_table c.within) _ (nam
 nesting_class c (instr.Memory op arg) = allowed (has_memory c.within) _ (memory_stays op arg.align)
 nesting_class c (instr.Pages op) = allowed (has_memory c.within) _ (pages_stays op)
 nesting_class c (instr.Const v) = refl
-nesting_class c (instr.Atomic op arg) = allowed (has_memory c.within) _ (allowed (nat_eq arg.align (atomic_width op)) (atomic_operands op) (operands_stay op))
+nesting_class c (instr.Atomic op arg) = allowed (has_memory c.within) _ (allowed (nat_eq arg.align (atomic_exponent op)) (atomic_operands op) (operands_stay op))
 nesting_class c instr.Fence = refl
 
 closes_is_end : (i : Instr) → nesting_of i ≡ Closes → i ≡ Plain End

@@ -9,7 +9,8 @@ use Rattle.wasm_types.specs.declared.instruction.Plain.TheVariants.{Else, End}
 use Rattle.wasm_types.specs.declared.nesting.Enclosing.{Enclosing}
 use Rattle.wasm_types.specs.declared.nesting.Enclosing.TheVariants.{FirstArm, Whole}
 use Rattle.validator.specs.Context.{Context, inside, with_labels}
-use Rattle.validator.specs.Table.{Class, Fixed, Discards, Selects, Leaves, Enters, Turning, Ending, Wrong, class_of, same_type}
+use Rattle.wasm_types.specs.Values.{same_type}
+use Rattle.validator.specs.Table.{Class, Fixed, Discards, Selects, Leaves, Enters, Turning, Ending, Wrong, class_of}
 use Rattle.validator.specs.Typing.{Rule, Typed, Nothing, Then, Blocked, Once, Either, FunctionTyped}
 use Rattle.validator.specs.Walk.{Operand, Frame, with_stack, made_unreachable, opened, then_if, agrees, only, pop_one, pop_all, pop_any, meet, known, emptied, closed, give, may_end, may_turn, both, select_by, step_by, labels_of, at_frames, walk, Checked}
 use Rattle.validator.proofs.Sound.{Matches, Inst}

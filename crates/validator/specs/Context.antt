@@ -1,9 +1,6 @@
 -- What the types of a function's instructions depend on. WebAssembly Core 1.0, validation, contexts.
 use Rattle.std.specs.Prelude.{ℕ, ◌+◌, ◌||◌, Bool, true, false, List, [], ◌∷◌, ◌++◌, Option, Some, None, slice_get, take, drop, length, nat_le}
 use Rattle.wasm_types.specs.declared.value.ValType.{ValType}
-use Rattle.wasm_types.specs.declared.value.ValType.TheVariants.{I32, I64}
-use Rattle.wasm_types.specs.declared.value.Value.{Value}
-use Rattle.wasm_types.specs.declared.value.Value.TheVariants as value
 use Rattle.wasm_types.specs.Locals.{locals_of}
 use Rattle.wasm_types.specs.declared.modules.Module.{Module}
 use Rattle.wasm_types.specs.declared.modules.FuncType.{FuncType}
@@ -35,10 +32,6 @@ context_of m kind body = record { within = m; locals = kind.params ++ locals_of 
 -- a function's body is a block, whose label takes its result
 abbrev pub outermost : Context → Context
 outermost c = with_labels (c.result ∷ []) c
-
-abbrev pub type_of : Value → ValType
-type_of (value.I32 bits) = I32
-type_of (value.I64 bits) = I64
 
 abbrev pub has_any : {X : Type 0} → List X → Bool
 has_any [] = false

@@ -2,6 +2,7 @@
 -- memories the threads proposal.
 use Rattle.std.specs.Prelude.{ℕ, ◌+◌, ◌^◌, ◌&&◌, Bool, true, false, List, [], ◌∷◌, Option, Some, None, length, nat_le, nat_lt, nat_eq}
 use Rattle.std.specs.List.{list_all}
+use Rattle.wasm_types.specs.declared.sizes.TheConstants.{MOST_PAGES}
 use Rattle.wasm_types.specs.declared.value.ValType.TheVariants.{I32}
 use Rattle.wasm_types.specs.declared.modules.Module.{Module}
 use Rattle.wasm_types.specs.declared.modules.FuncType.{FuncType}
@@ -15,8 +16,8 @@ use Rattle.wasm_types.specs.declared.modules.ExportKind.{ExportKind}
 use Rattle.wasm_types.specs.declared.modules.ExportKind.TheVariants as export
 use Rattle.wasm_types.specs.declared.modules.Element.{Element}
 use Rattle.wasm_types.specs.declared.modules.Data.{Data}
-use Rattle.validator.specs.Context.{function_type, type_of}
-use Rattle.validator.specs.Table.{same_type}
+use Rattle.wasm_types.specs.Values.{same_type, type_of}
+use Rattle.validator.specs.Context.{function_type}
 
 abbrev pub is_there : {X : Type 0} → List X → ℕ → Bool
 is_there xs index = nat_lt index (length xs)
@@ -59,7 +60,7 @@ is_bounded true (Some number) = true
 
 -- at most 65,536 pages
 abbrev pub memory_fits : MemoryType → Bool
-memory_fits memory = limits_fit memory.limits && nat_le memory.limits.minimum 65536 && is_at_most memory.limits.maximum 65536 && is_bounded memory.shared memory.limits.maximum
+memory_fits memory = limits_fit memory.limits && nat_le memory.limits.minimum MOST_PAGES && is_at_most memory.limits.maximum MOST_PAGES && is_bounded memory.shared memory.limits.maximum
 
 abbrev pub import_fits : Import → Bool
 import_fits import = memory_fits import.memory

@@ -14,12 +14,7 @@ use Rattle.wasm_types.specs.declared.instruction.BlockKind.{BlockKind}
 use Rattle.wasm_types.specs.declared.instruction.BlockKind.TheVariants.{Block, Loop, If}
 use Rattle.wasm_types.specs.declared.instruction.IndexOp.{IndexOp}
 use Rattle.wasm_types.specs.declared.instruction.IndexOp.TheVariants.{Branch, BranchIf, Call, LocalGet, LocalSet, LocalTee, GlobalGet, GlobalSet}
-use Rattle.wasm_types.specs.declared.instruction.Narrow.{Narrow}
-use Rattle.wasm_types.specs.declared.instruction.Narrow.TheVariants.{I32Of8, I32Of16, I64Of8, I64Of16, I64Of32}
-use Rattle.wasm_types.specs.declared.instruction.Access.{Access}
-use Rattle.wasm_types.specs.declared.instruction.Access.TheVariants as access
 use Rattle.wasm_types.specs.declared.instruction.Load.{Load}
-use Rattle.wasm_types.specs.declared.instruction.Load.TheVariants as load
 use Rattle.wasm_types.specs.declared.instruction.MemoryOp.{MemoryOp}
 use Rattle.wasm_types.specs.declared.instruction.MemoryOp.TheVariants as memory
 use Rattle.wasm_types.specs.declared.instruction.PagesOp.{PagesOp}
@@ -28,7 +23,9 @@ use Rattle.wasm_types.specs.declared.instruction.AtomicOp.{AtomicOp}
 use Rattle.wasm_types.specs.declared.instruction.AtomicOp.TheVariants as atomic
 use Rattle.wasm_types.specs.declared.nesting.Enclosing.{Enclosing}
 use Rattle.wasm_types.specs.declared.nesting.Enclosing.TheVariants.{FirstArm, Whole}
-use Rattle.validator.specs.Context.{Context, type_of, has_memory, has_table, labels_in, function_type}
+use Rattle.wasm_types.specs.Values.{same_type, type_of}
+use Rattle.wasm_types.specs.Accesses.{access_exponent, access_type, atomic_exponent, load_access, narrow_type}
+use Rattle.validator.specs.Context.{Context, has_memory, has_table, labels_in, function_type}
 
 -- what an instruction asks of the operands
 pub data Class : Type 0 where
@@ -59,13 +56,6 @@ if_true true class = class
 abbrev pub seq : Option ValType → List ValType
 seq None = []
 seq (Some t) = t ∷ []
-
-abbrev pub narrow_type : Narrow → ValType
-narrow_type I32Of8 = I32
-narrow_type I32Of16 = I32
-narrow_type I64Of8 = I64
-narrow_type I64Of16 = I64
-narrow_type I64Of32 = I64
 
 abbrev pub numeric_class : Numeric → Class
 numeric_class (IsZero t) = Fixed (t ∷ []) (I32 ∷ [])
@@ -101,12 +91,6 @@ index_class c LocalTee local = if_some (slice_get c.locals local) (λ t. Fixed (
 index_class c GlobalGet global = if_some (slice_get c.within.globals global) (λ g. Fixed [] (g.val_type ∷ []))
 index_class c GlobalSet global = if_some (slice_get c.within.globals global) (λ g. if_true g.mutable (Fixed (g.val_type ∷ []) []))
 
-abbrev pub same_type : ValType → ValType → Bool
-same_type I32 I32 = true
-same_type I32 I64 = false
-same_type I64 I32 = false
-same_type I64 I64 = true
-
 abbrev pub same_types : List ValType → List ValType → Bool
 same_types [] [] = true
 same_types [] (u ∷ us) = false
@@ -125,47 +109,14 @@ abbrev pub table_class : Context → Option (List ℕ) → ℕ → Class
 table_class c None default = Wrong
 table_class c (Some labels) default = if_some (slice_get c.labels default) (λ takes. if_true (all_take c.labels takes labels) (Leaves (takes ++ I32 ∷ [])))
 
--- the exponent of an access's width
-abbrev pub type_width : ValType → ℕ
-type_width I32 = 2
-type_width I64 = 3
-
-abbrev pub narrow_width : Narrow → ℕ
-narrow_width I32Of8 = 0
-narrow_width I32Of16 = 1
-narrow_width I64Of8 = 0
-narrow_width I64Of16 = 1
-narrow_width I64Of32 = 2
-
-abbrev pub access_type : Access → ValType
-access_type (access.Whole t) = t
-access_type (access.Narrow narrow) = narrow_type narrow
-
-abbrev pub access_width : Access → ℕ
-access_width (access.Whole t) = type_width t
-access_width (access.Narrow narrow) = narrow_width narrow
-
-abbrev pub load_access : Load → Access
-load_access (load.Whole t) = access.Whole t
-load_access (load.Narrow narrow extension) = access.Narrow narrow
-
--- an alignment is at most the width
+-- an alignment is at most the width's exponent
 abbrev pub memory_class : MemoryOp → ℕ → Class
-memory_class (memory.Load l) align = if_true (nat_le align (access_width (load_access l))) (Fixed (I32 ∷ []) (access_type (load_access l) ∷ []))
-memory_class (memory.Store a) align = if_true (nat_le align (access_width a)) (Fixed (I32 ∷ access_type a ∷ []) [])
+memory_class (memory.Load l) align = if_true (nat_le align (access_exponent (load_access l))) (Fixed (I32 ∷ []) (access_type (load_access l) ∷ []))
+memory_class (memory.Store a) align = if_true (nat_le align (access_exponent a)) (Fixed (I32 ∷ access_type a ∷ []) [])
 
 abbrev pub pages_class : PagesOp → Class
 pages_class Size = Fixed [] (I32 ∷ [])
 pages_class Grow = Fixed (I32 ∷ []) (I32 ∷ [])
-
--- the exponent of an atomic instruction's width
-abbrev pub atomic_width : AtomicOp → ℕ
-atomic_width atomic.Notify = 2
-atomic_width (atomic.Wait t) = type_width t
-atomic_width (atomic.Load a) = access_width a
-atomic_width (atomic.Store a) = access_width a
-atomic_width (atomic.Rmw op a) = access_width a
-atomic_width (atomic.CompareExchange a) = access_width a
 
 -- the operands of an atomic instruction, the address first, and what it leaves
 abbrev pub atomic_operands : AtomicOp → Class
@@ -176,9 +127,9 @@ atomic_operands (atomic.Store a) = Fixed (I32 ∷ access_type a ∷ []) []
 atomic_operands (atomic.Rmw op a) = Fixed (I32 ∷ access_type a ∷ []) (access_type a ∷ [])
 atomic_operands (atomic.CompareExchange a) = Fixed (I32 ∷ access_type a ∷ access_type a ∷ []) (access_type a ∷ [])
 
--- an alignment is the width
+-- an alignment is the width's exponent
 abbrev pub atomic_class : AtomicOp → ℕ → Class
-atomic_class op align = if_true (nat_eq align (atomic_width op)) (atomic_operands op)
+atomic_class op align = if_true (nat_eq align (atomic_exponent op)) (atomic_operands op)
 
 -- the fence alone does without a memory
 abbrev pub class_of : Context → Instr → Class

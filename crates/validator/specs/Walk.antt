@@ -7,7 +7,8 @@ use Rattle.wasm_types.specs.declared.instruction.Instr.{Instr}
 use Rattle.wasm_types.specs.declared.nesting.Enclosing.{Enclosing}
 use Rattle.wasm_types.specs.declared.nesting.Enclosing.TheVariants.{FirstArm, Whole}
 use Rattle.validator.specs.Context.{Context, with_labels}
-use Rattle.validator.specs.Table.{Class, Fixed, Discards, Selects, Leaves, Enters, Turning, Ending, Wrong, class_of, same_type}
+use Rattle.wasm_types.specs.Values.{same_type}
+use Rattle.validator.specs.Table.{Class, Fixed, Discards, Selects, Leaves, Enters, Turning, Ending, Wrong, class_of}
 
 -- an operand's type, or None for any type
 abbrev pub Operand : Type 0

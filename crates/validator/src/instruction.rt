@@ -12,10 +12,7 @@ use crate::fault::StepFault;
 use crate::labels::{each_takes, labels_of_range};
 use crate::locals::local_type;
 use crate::stacks::Stacks;
-use crate::table::{
-    access_of, is_memory_there, type_of_access, type_of_function, type_of_narrow, type_of_value,
-    width_of, width_of_atomic,
-};
+use crate::table::{is_memory_there, type_of_function};
 use wasm_types::{
     AtomicOp, BlockKind, Body, Enclosing, FuncType, IndexOp, Instr, LabelRange, MemArg, MemoryOp,
     Module, Numeric, PagesOp, Plain, ValType,
@@ -45,7 +42,7 @@ pub(crate) fn step(
         Instr::CallIndirect(index) => step_call_indirect(stacks, module, index),
         Instr::Memory(op, argument) => step_memory(stacks, module, op, argument),
         Instr::Pages(op) => step_pages(stacks, module, op),
-        Instr::Const(value) => stacks.fixed(&[], &[type_of_value(value)]),
+        Instr::Const(value) => stacks.fixed(&[], &[value.val_type()]),
         Instr::Atomic(op, argument) => step_atomic(stacks, module, op, argument),
         Instr::Fence => stacks.fixed(&[], &[]),
     }
@@ -84,7 +81,7 @@ fn step_numeric(stacks: &mut Stacks, numeric: Numeric) -> Result<(), StepFault>
         Numeric::Wrap => stacks.fixed(&[ValType::I64], &[ValType::I32]),
         Numeric::Extend(_) => stacks.fixed(&[ValType::I32], &[ValType::I64]),
         Numeric::ExtendLow(narrow) => {
-            let of = type_of_narrow(narrow);
+            let of = narrow.val_type();
             stacks.fixed(&[of], &[of])
         }
     }
@@ -236,17 +233,17 @@ fn step_memory(
     }
     match op {
         MemoryOp::Load(load) => {
-            let access = access_of(load);
-            if argument.align > width_of(access) {
+            let access = load.access();
+            if argument.align > access.width().exponent() {
                 return Err(StepFault::IllTyped);
             }
-            stacks.fixed(&[ValType::I32], &[type_of_access(access)])
+            stacks.fixed(&[ValType::I32], &[access.val_type()])
         }
         MemoryOp::Store(access) => {
-            if argument.align > width_of(access) {
+            if argument.align > access.width().exponent() {
                 return Err(StepFault::IllTyped);
             }
-            stacks.fixed(&[ValType::I32, type_of_access(access)], &[])
+            stacks.fixed(&[ValType::I32, access.val_type()], &[])
         }
     }
 }
@@ -276,7 +273,7 @@ fn step_atomic(
     if !is_memory_there(module) {
         return Err(StepFault::IllTyped);
     }
-    if argument.align != width_of_atomic(op) {
+    if argument.align != op.width().exponent() {
         return Err(StepFault::IllTyped);
     }
     step_aligned(stacks, op)
@@ -289,14 +286,14 @@ fn step_aligned(stacks: &mut Stacks, op: AtomicOp) -> Result<(), StepFault>
     match op {
         AtomicOp::Notify => stacks.fixed(&[ValType::I32, ValType::I32], &[ValType::I32]),
         AtomicOp::Wait(of) => stacks.fixed(&[ValType::I32, of, ValType::I64], &[ValType::I32]),
-        AtomicOp::Load(access) => stacks.fixed(&[ValType::I32], &[type_of_access(access)]),
-        AtomicOp::Store(access) => stacks.fixed(&[ValType::I32, type_of_access(access)], &[]),
+        AtomicOp::Load(access) => stacks.fixed(&[ValType::I32], &[access.val_type()]),
+        AtomicOp::Store(access) => stacks.fixed(&[ValType::I32, access.val_type()], &[]),
         AtomicOp::Rmw(_, access) => {
-            let of = type_of_access(access);
+            let of = access.val_type();
             stacks.fixed(&[ValType::I32, of], &[of])
         }
         AtomicOp::CompareExchange(access) => {
-            let of = type_of_access(access);
+            let of = access.val_type();
             stacks.fixed(&[ValType::I32, of, of], &[of])
         }
     }

@@ -6,7 +6,7 @@ ghost use Rattle.validator.specs.Table.{all_take, takes_these, seq};
 ghost use Rattle.validator.specs.Walk.{Frame, labels_of};
 ghost use Rattle.validator.specs.Standing.{Stand};
 
-use crate::stacks::{OpenBlock, Stacks, is_same};
+use crate::stacks::{OpenBlock, Stacks};
 use wasm_types::{LabelRange, ValType};
 
 // The labels of a branch table, where its range is within the function's.
@@ -41,7 +41,7 @@ fn block_takes(block: Option<OpenBlock>, takes: Option<ValType>) -> bool
         None => block.label.is_none(),
         Some(taken) => match block.label {
             None => false,
-            Some(other) => is_same(taken, other),
+            Some(other) => taken.is_same(other),
         },
     }
 }

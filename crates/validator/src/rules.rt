@@ -4,9 +4,10 @@ ghost use Rattle.std.specs.Prelude.{◌≡◌, List, nat_lt};
 ghost use Rattle.std.specs.List.{list_all};
 ghost use Rattle.validator.specs.Module.{rules, types_fit, is_short, functions_fit, is_there, limits_fit, tables_fit, memory_fits, import_fits, memories, memories_fit, globals_fit, export_fits, exports_fit, start_fits, element_fits, elements_fit, data_fits, data_fit};
 
-use crate::stacks::is_same;
-use crate::table::{type_of_function, type_of_value};
-use wasm_types::{Data, Element, Export, ExportKind, Limits, MemoryType, Module, ValType};
+use crate::table::type_of_function;
+use wasm_types::{
+    Data, Element, Export, ExportKind, Limits, MOST_PAGES, MemoryType, Module, ValType,
+};
 
 /// Whether a module keeps the rules, but for the distinct names of its exports.
 pub(crate) fn keeps_rules(module: &Module) -> bool
@@ -94,9 +95,11 @@ fn fits_memory(memory: MemoryType) -> bool
     ensures { result ≡ memory_fits memory }
 {
     match memory.limits.maximum {
-        None => memory.limits.minimum <= 65_536 && !memory.shared,
+        None => memory.limits.minimum <= MOST_PAGES && !memory.shared,
         Some(maximum) => {
-            memory.limits.minimum <= maximum && memory.limits.minimum <= 65_536 && maximum <= 65_536
+            memory.limits.minimum <= maximum
+                && memory.limits.minimum <= MOST_PAGES
+                && maximum <= MOST_PAGES
         }
     }
 }
@@ -137,7 +140,7 @@ fn fit_globals(module: &Module) -> bool
 {
     let mut fit = true;
     for global in module.globals.as_slice() {
-        fit &= is_same(type_of_value(global.value), global.val_type);
+        fit &= global.value.val_type().is_same(global.val_type);
     }
     fit
 }
@@ -189,7 +192,7 @@ fn fits_element(module: &Module, element: &Element) -> bool
     ensures { result ≡ element_fits module.now element.now }
 {
     (element.table as usize) < module.tables.as_slice().len()
-        && is_same(type_of_value(element.offset), ValType::I32)
+        && element.offset.val_type().is_same(ValType::I32)
         && are_below(
             element.functions.as_slice(),
             module.functions.as_slice().len(),
@@ -209,7 +212,7 @@ fn fit_elements(module: &Module) -> bool
 fn fits_data(module: &Module, segment: &Data) -> bool
     ensures { result ≡ data_fits module.now segment.now }
 {
-    is_memory(module, segment.memory) && is_same(type_of_value(segment.offset), ValType::I32)
+    is_memory(module, segment.memory) && segment.offset.val_type().is_same(ValType::I32)
 }
 
 fn fit_data(module: &Module) -> bool

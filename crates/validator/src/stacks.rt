@@ -3,7 +3,7 @@
 ghost use Rattle.std.specs.Prelude.{◌≡◌, ◌++◌, List, [], ◌∷◌, Option, Some, Err, reverse, OnOk, option_map, slice_get};
 ghost use Rattle.wasm_types.specs.declared.value.ValType.TheVariants.{I32};
 ghost use Rattle.wasm_types.specs.declared.nesting.Enclosing.TheVariants.{Whole};
-ghost use Rattle.validator.specs.Table.{Fixed, Discards, Selects, Leaves, Enters, Turning, Ending, same_type, seq};
+ghost use Rattle.validator.specs.Table.{Fixed, Discards, Selects, Leaves, Enters, Turning, Ending, seq};
 ghost use Rattle.validator.specs.Walk.{Frame, agrees, meet, pop_one, pop_all, known, may_end, opened, labels_of};
 ghost use Rattle.validator.specs.Standing.{Stand, Pops, PopsAny, TakesResult, IsInnermost, Goes, Stops, no_frame};
 
@@ -37,23 +37,7 @@ fn suits(want: ValType, operand: Option<ValType>) -> bool
 {
     match operand {
         None => true,
-        Some(found) => is_same(found, want),
-    }
-}
-
-/// Whether two types are the same.
-pub(crate) fn is_same(first: ValType, second: ValType) -> bool
-    ensures { result ≡ same_type first second }
-{
-    match first {
-        ValType::I32 => match second {
-            ValType::I32 => true,
-            ValType::I64 => false,
-        },
-        ValType::I64 => match second {
-            ValType::I32 => false,
-            ValType::I64 => true,
-        },
+        Some(found) => found.is_same(want),
     }
 }
 
@@ -116,7 +100,7 @@ fn common(first: Option<ValType>, second: Option<ValType>) -> Option<Option<ValT
         None => Some(second),
         Some(found) => match second {
             None => Some(Some(found)),
-            Some(other) => if is_same(found, other) {
+            Some(other) => if found.is_same(other) {
                 Some(Some(found))
             } else {
                 None

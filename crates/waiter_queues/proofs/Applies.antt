@@ -15,7 +15,9 @@ use Rattle.wasm_types.specs.declared.instruction.Access.{Access}
 use Rattle.wasm_types.specs.declared.instruction.RmwOp.{RmwOp}
 use Rattle.wasm_types.specs.declared.value.ValType.{ValType}
 use Rattle.block_objects.specs.Objects.{ObjectAt, Queue, QueueAt, block_of, block_object, queue_object, blocks_in}
-use Rattle.block_objects.specs.Access.{is_within, number_at, type_width, load_width, access_width, access_type, loaded, typed_value, modified, exchanged}
+use Rattle.wasm_types.specs.Values.{value_of}
+use Rattle.wasm_types.specs.Accesses.{access_type, access_width, load_width, type_width}
+use Rattle.block_objects.specs.Access.{is_within, number_at, loaded, modified, exchanged}
 use Rattle.rw_objects.specs.declared.touch.Touch.{Touch}
 use Rattle.block_objects.specs.Touches.{touch_of, op_touches}
 use Rattle.block_objects.specs.Queues.{after_wait, after_notify, after_resume, after_time_out}
@@ -99,25 +101,25 @@ module _ (m : MemoryAt) (qs : List QueueAt) (op : Op) (fits : Fits shared_memory
         answers_as (act.Store access address operand) _ is
         (answers m (queue_at qs) sound address (access_width access) (access_small access) Write (λ n. replies.Stored) (λ n. Some operand) (known_fits (act.Store access address operand) is).below)
 
-    pub rmw_answers : (rmw : RmwOp) (access : Access) (address operand : ℕ) → op.action ≡ act.Rmw rmw access address operand → Answers m qs (access_answer m address (access_width access) (λ n. replies.Value (typed_value (access_type access) n))) op
+    pub rmw_answers : (rmw : RmwOp) (access : Access) (address operand : ℕ) → op.action ≡ act.Rmw rmw access address operand → Answers m qs (access_answer m address (access_width access) (λ n. replies.Value (value_of (access_type access) n))) op
     rmw_answers rmw access address operand is =
         answers_as (act.Rmw rmw access address operand) _ is
-        (answers m (queue_at qs) sound address (access_width access) (access_small access) Write (λ n. replies.Value (typed_value (access_type access) n)) (λ n. Some (modified rmw n operand)) (known_fits (act.Rmw rmw access address operand) is).below)
+        (answers m (queue_at qs) sound address (access_width access) (access_small access) Write (λ n. replies.Value (value_of (access_type access) n)) (λ n. Some (modified rmw n operand)) (known_fits (act.Rmw rmw access address operand) is).below)
 
     pub rmw_leads : (rmw : RmwOp) (access : Access) (address operand : ℕ) → op.action ≡ act.Rmw rmw access address operand → Leads m qs (after_access m address (access_width access) (λ n. Some (modified rmw n operand))) qs op
     rmw_leads rmw access address operand is =
         leads_as (act.Rmw rmw access address operand) (after_access m address (access_width access) (λ n. Some (modified rmw n operand))) qs is
-        (fun_ext (λ o. leaves m (queue_at qs) sound address (access_width access) (access_small access) (λ n. replies.Value (typed_value (access_type access) n)) (λ n. Some (modified rmw n operand)) (known_fits (act.Rmw rmw access address operand) is).below o))
+        (fun_ext (λ o. leaves m (queue_at qs) sound address (access_width access) (access_small access) (λ n. replies.Value (value_of (access_type access) n)) (λ n. Some (modified rmw n operand)) (known_fits (act.Rmw rmw access address operand) is).below o))
 
-    pub exchange_answers : (access : Access) (address expected replacement : ℕ) → op.action ≡ act.CompareExchange access address expected replacement → Answers m qs (access_answer m address (access_width access) (λ n. replies.Value (typed_value (access_type access) n))) op
+    pub exchange_answers : (access : Access) (address expected replacement : ℕ) → op.action ≡ act.CompareExchange access address expected replacement → Answers m qs (access_answer m address (access_width access) (λ n. replies.Value (value_of (access_type access) n))) op
     exchange_answers access address expected replacement is =
         answers_as (act.CompareExchange access address expected replacement) _ is
-        (answers m (queue_at qs) sound address (access_width access) (access_small access) Write (λ n. replies.Value (typed_value (access_type access) n)) (exchanged expected replacement) (known_fits (act.CompareExchange access address expected replacement) is).below)
+        (answers m (queue_at qs) sound address (access_width access) (access_small access) Write (λ n. replies.Value (value_of (access_type access) n)) (exchanged expected replacement) (known_fits (act.CompareExchange access address expected replacement) is).below)
 
     pub exchange_leads : (access : Access) (address expected replacement : ℕ) → op.action ≡ act.CompareExchange access address expected replacement → Leads m qs (after_access m address (access_width access) (exchanged expected replacement)) qs op
     exchange_leads access address expected replacement is =
         leads_as (act.CompareExchange access address expected replacement) (after_access m address (access_width access) (exchanged expected replacement)) qs is
-        (fun_ext (λ o. leaves m (queue_at qs) sound address (access_width access) (access_small access) (λ n. replies.Value (typed_value (access_type access) n)) (exchanged expected replacement) (known_fits (act.CompareExchange access address expected replacement) is).below o))
+        (fun_ext (λ o. leaves m (queue_at qs) sound address (access_width access) (access_small access) (λ n. replies.Value (value_of (access_type access) n)) (exchanged expected replacement) (known_fits (act.CompareExchange access address expected replacement) is).below o))
 
     module _ (sized : length qs ≡ blocks_in m.limits.block m.limits.capacity) where
       abbrev ini : ℕ

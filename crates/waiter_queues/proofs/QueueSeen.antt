@@ -10,7 +10,8 @@ use Rattle.rw_objects.specs.Space.{touched_values}
 use Rattle.wasm_types.specs.declared.value.ValType.{ValType}
 use Rattle.wasm_types.specs.declared.value.ValType.TheVariants as types
 use Rattle.block_objects.specs.Objects.{ObjectAt, QueueAt, block_of, block_object, queue_object, block_bytes, object_value}
-use Rattle.block_objects.specs.Access.{number_at, type_width}
+use Rattle.wasm_types.specs.Accesses.{type_width}
+use Rattle.block_objects.specs.Access.{number_at}
 use Rattle.block_objects.specs.Touches.{touch_of}
 use Rattle.block_objects.specs.Effects.{pages_seen, bytes_seen, queue_seen}
 use Rattle.block_objects.proofs.Values.{value_block, value_queue}

@@ -10,7 +10,8 @@ ghost use Rattle.rw_objects.specs.Space.{Fits, RisesFrom, AllBelow, is_ready, re
 ghost use Rattle.rw_objects.specs.Counts.{count_at, counts_after, CanCountAll, all_found};
 ghost use Rattle.wasm_types.specs.declared.operation.Reply.TheVariants as replies;
 ghost use Rattle.block_objects.specs.Touches.{touch_of, op_touches, op_kind};
-ghost use Rattle.block_objects.specs.Access.{is_within, number_at, type_width, load_width, access_width, loaded};
+ghost use Rattle.wasm_types.specs.Accesses.{access_width, load_width, type_width};
+ghost use Rattle.block_objects.specs.Access.{is_within, number_at, loaded};
 ghost use Rattle.block_objects.specs.Queues.{after_wait, after_notify, after_resume, after_time_out};
 ghost use Rattle.block_objects.specs.Effects.{i32_reply, wait_reply, notify_reply};
 ghost use Rattle.block_objects.specs.Memory.{IsSound, access_answer, after_access, segment_fits};
@@ -19,13 +20,12 @@ ghost use Rattle.block_objects.proofs.Laws.{memory_laws};
 ghost use Rattle.waiter_queues.specs.Shared.{queue_at, shared_values, opening_values};
 
 use crate::queues::Queues;
-use block_objects::{
-    Blocks, MemoryLimits, ObjectValue, access_len, block_number, ends_within, load_len, lone_block,
-    type_len,
-};
+use block_objects::{Blocks, MemoryLimits, ObjectValue, block_number, ends_within, lone_block};
 use rw_objects::{Entry, Few, Kind, Mode, ObjectSpace, Touch, Versions};
 use std::alloc::Global;
-use wasm_types::{Access, Action, Block, Data, Load, NoMemory, Op, Reply, Trap, ValType, Value};
+use wasm_types::{
+    Access, Action, Block, Data, Load, MOST_PAGES, NoMemory, Op, Reply, Trap, ValType, Value,
+};
 
 /// A shared memory as a space of objects: object 0 is its length in pages, object `1 + 2b` is block `b`, and object
 /// `2 + 2b` is the waiter queue of block `b`. All objects up to the capacity exist from the start. The image is the
@@ -46,7 +46,7 @@ impl SharedSpace {
         segments: &[Data],
     ) -> Result<SharedSpace, NoMemory>
         requires order { limits.initial ≤ limits.capacity }
-        requires limit { limits.capacity ≤ 65536 }
+        requires limit { limits.capacity ≤ MOST_PAGES }
         requires fit { All (segment_fits limits.initial) segments.now }
         ensures fixed { IfOk result (λ space. space.blocks.limits ≡ limits) }
         ensures values { IfOk result (λ space. shared_values space.blocks space.queues ≡ opening_values limits segments.now) }
@@ -140,7 +140,7 @@ impl SharedSpace {
             && number_at (type_width width) address self.old.blocks.bytes == expected)
             (slice_set self.old.queues (block_of block address) (after_wait thread address (queue_at self.old.queues (block_of block address)))) self.old.queues }
     {
-        let len = type_len(width);
+        let len = width.width().bytes();
         if address % len != 0 {
             return Reply::Trap(Trap::UnalignedAtomic);
         }
@@ -324,7 +324,7 @@ impl ObjectSpace for SharedSpace {
         let _from_initial = self.blocks.limits();
         match op.action {
             Action::Load { load, address } => {
-                if let Some(object) = lone_block(&op.extent, address, load_len(load)) {
+                if let Some(object) = lone_block(&op.extent, address, load.width().bytes()) {
                     return self.load_alone(versions, object, load, address);
                 }
             }
@@ -333,7 +333,7 @@ impl ObjectSpace for SharedSpace {
                 address,
                 operand,
             } => {
-                if let Some(object) = lone_block(&op.extent, address, access_len(access)) {
+                if let Some(object) = lone_block(&op.extent, address, access.width().bytes()) {
                     return self.store_alone(versions, object, access, address, operand);
                 }
             }

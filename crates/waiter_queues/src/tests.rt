@@ -10,8 +10,8 @@ use std::alloc::Global;
 use std::process::Abort;
 use std::test::Fail;
 use wasm_types::{
-    Access, Action, Block, Data, Extension, Extent, Items, Load, Narrow, Op, Reply, RmwOp, Trap,
-    ValType, Value,
+    Access, Action, Block, Data, Extension, Extent, Items, Load, MOST_PAGES, Narrow, Op, Reply,
+    RmwOp, Trap, ValType, Value,
 };
 
 /// An operation, what it answers, and its entry; `None` where it is not ready.
@@ -25,7 +25,7 @@ fn open(
     block: Block,
 ) -> Result<Versioned<SharedSpace>, Fail>
     requires order { initial ≤ capacity }
-    requires limit { capacity ≤ 65536 }
+    requires limit { capacity ≤ MOST_PAGES }
 {
     let limits = MemoryLimits {
         initial,
@@ -317,6 +317,26 @@ fn waiters(rt: HostRuntime) -> Result<(), Fail> {
             (notify(0, 9), Some((i32(1), "access w2@7/0"))),
             (time_out(0, 0), None),
             (resume(0, 0), Some((i32(0), "woken w2@8/0"))),
+        ],
+    )
+}
+
+/// A thread that was woken and has not gone on can't wait again beside that.
+#[test]
+fn woken_waiters_stand_once(rt: HostRuntime) -> Result<(), Fail> {
+    let alloc = rt.alloc();
+    let block = Block::new(64).expect(&rt, "64");
+    play(
+        &rt,
+        alloc,
+        &mut open(alloc, 1, 1, block)?,
+        &[
+            (wait(0, 0, 0), Some((Reply::Sleeps, "access r1@0 w2@0/0"))),
+            (notify(0, 1), Some((i32(1), "access w2@1/0"))),
+            (wait(0, 0, 0), Some((Reply::Sleeps, "access r1@0 w2@2/0"))),
+            (notify(0, 9), Some((i32(0), "access w2@3/0"))),
+            (resume(0, 0), Some((i32(0), "woken w2@4/0"))),
+            (resume(0, 0), None),
         ],
     )
 }
