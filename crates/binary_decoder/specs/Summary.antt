@@ -4,8 +4,8 @@ use Rattle.std.specs.Prelude.{ℕ, Bool, true, false, List, [], ◌∷◌, ◌++
 use Rattle.std.specs.Fmt.{decimal}
 use Rattle.wasm_types.specs.declared.modules.Limits.{Limits}
 use Rattle.wasm_types.specs.declared.modules.MemoryType.{MemoryType}
-use Rattle.wasm_types.specs.declared.modules.Import.{Import}
 use Rattle.wasm_types.specs.declared.modules.Module.{Module}
+use Rattle.wasm_instance.specs.Memories.{first_memory}
 
 -- a number, or a word where there is none
 abbrev pub or_word : List ℕ → Option ℕ → List ℕ
@@ -25,12 +25,6 @@ abbrev pub memory_text : Option MemoryType → List ℕ
 memory_text None = codes "none"
 memory_text (Some m) = decimal m.limits.minimum ++ codes " " ++ or_word (codes "-") m.limits.maximum ++ codes " " ++ sharing m.shared
 
--- the first memory, imported ones first
-abbrev pub first_memory : List Import → List MemoryType → Option MemoryType
-first_memory (i ∷ imports) memories = Some i.memory
-first_memory [] (m ∷ memories) = Some m
-first_memory [] [] = None
-
 abbrev pub first_lines : ℕ → ℕ → List ℕ → List ℕ → List ℕ
 first_lines types functions table memory =
     codes "types " ++ decimal types ++ codes "\nfunctions " ++ decimal functions ++ codes "\ntable " ++ table ++ codes "\nmemory " ++ memory ++ 10 ∷ []
@@ -40,5 +34,5 @@ last_lines globals exports start = codes "globals " ++ decimal globals ++ codes 
 
 abbrev pub summary_text : Module → List ℕ
 summary_text m =
-    first_lines (length m.types) (length m.functions) (or_word (codes "none") (first_table m.tables)) (memory_text (first_memory m.imports m.memories))
+    first_lines (length m.types) (length m.functions) (or_word (codes "none") (first_table m.tables)) (memory_text (first_memory m))
     ++ last_lines (length m.globals) (length m.exports) (or_word (codes "none") m.start)

@@ -14,7 +14,7 @@ use wasm_types::{
 };
 
 /// The most pages that a memory's least size may be.
-pub const MOST_PAGES: u32 = 256;
+pub const MOST_INITIAL_PAGES: u32 = 256;
 
 /// The most elements that a table's least size may be.
 pub const MOST_ELEMENTS: u32 = 4096;
@@ -169,7 +169,7 @@ impl Spelled for MemoryType {
             0x03 => (true, true),
             _ => return Err(refusal),
         };
-        let limits = sizes(MOST_PAGES, has_maximum, cursor)?;
+        let limits = sizes(MOST_INITIAL_PAGES, has_maximum, cursor)?;
         Ok(MemoryType { limits, shared })
     }
 }

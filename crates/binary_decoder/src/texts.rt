@@ -1,11 +1,12 @@
 //! The summary of a module.
 
 ghost use Rattle.std.specs.Prelude.{◌≡◌, IfOk, codes};
-ghost use Rattle.binary_decoder.specs.Summary.{or_word, memory_text, first_table, first_memory, summary_text};
+ghost use Rattle.binary_decoder.specs.Summary.{or_word, memory_text, first_table, summary_text};
 
 use std::alloc::Global;
 use std::fmt;
-use wasm_types::{Import, Limits, MemoryType, Module, NoMemory};
+use wasm_instance::first_memory;
+use wasm_types::{Limits, MemoryType, Module, NoMemory};
 
 /// A number, or a word where there is none.
 #[derive(Clone, Copy)]
@@ -62,19 +63,6 @@ fn table_of(tables: &[Limits]) -> Option<u32>
     match tables {
         [] => None,
         [table, ..] => Some(table.minimum),
-    }
-}
-
-/// The first memory, imported ones first.
-fn memory_of(imports: &[Import], memories: &[MemoryType]) -> Option<MemoryType>
-    ensures { result ≡ first_memory imports.now memories.now }
-{
-    match imports {
-        [import, ..] => Some(import.memory),
-        [] => match memories {
-            [memory, ..] => Some(*memory),
-            [] => None,
-        },
     }
 }
 
@@ -145,7 +133,7 @@ pub fn summary(alloc: Global, module: &Module) -> Result<Vec<u8>, NoMemory>
     ensures { IfOk result (λ text. text.items ≡ summary_text module.now) }
 {
     let table = table_of(module.tables.as_slice());
-    let memory = memory_of(module.imports.as_slice(), module.memories.as_slice());
+    let memory = first_memory(module);
     let first = FirstLines {
         types: module.types.as_slice().len(),
         functions: module.functions.as_slice().len(),

@@ -2,7 +2,7 @@
 use Rattle.std.specs.Prelude.{◌≡◌, ◌⊎◌, ℕ, List, [], ◌∷◌, ◌++◌, Option, Some, None}
 use Rattle.wasm_types.specs.declared.modules.Module.{Module}
 use Rattle.thread_plan.specs.Plans.{PlanValue}
-use Rattle.thread_step.specs.Opening.{block_power}
+use Rattle.wasm_instance.specs.Memories.{block_power}
 use Rattle.replica.specs.declared.log.Log.{Log}
 use Rattle.replica.specs.Log.{key_of}
 use Rattle.replay_breaks.specs.declared.breaks.Break.{Break}

@@ -3,7 +3,7 @@
 ghost use Rattle.std.specs.Prelude.{IfOk, IfErr, string_bytes};
 ghost use Rattle.replica.specs.Log.{log_of, key_of};
 ghost use Rattle.thread_plan.specs.Plans.{IsPlanOf};
-ghost use Rattle.thread_step.specs.Opening.{block_power};
+ghost use Rattle.wasm_instance.specs.Memories.{block_power};
 ghost use Rattle.commands.specs.Views.{AreBreaks, IsViewText, IsViewRefusal, IsViewedText, IsViewRefused};
 
 use crate::fault::Fault;

@@ -9,7 +9,6 @@ mod over_memory;
 mod running;
 mod state;
 mod step;
-mod table;
 mod trying;
 
 pub use instance::{instance_for, memory_limits};

@@ -15,7 +15,7 @@ use std::slice;
 use std::test::Fail;
 use thread_plan::Plan;
 use validator::{Valid, validate};
-use wasm_types::{NoMemory, Op, Profile, Reply};
+use wasm_types::{MOST_STEPS, NoMemory, Op, Profile, Reply};
 
 /// What differs between the modules, in hex. Function 0 is exported as `f`.
 #[derive(Clone, Copy)]
@@ -113,9 +113,6 @@ pub(crate) fn open<'a>(
     }
     Ok(ThreadState::new(alloc, valid, &plan, thread, profile)?)
 }
-
-/// The greatest number of steps of a thread.
-const MOST_STEPS: u32 = 1_000_000_000;
 
 /// Makes a local step. A thread at the greatest number of steps stays.
 pub(crate) fn step(state: &mut ThreadState<'_>) -> Result<(), NoMemory>

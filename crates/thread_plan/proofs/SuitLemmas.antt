@@ -13,7 +13,7 @@ use Rattle.wasm_types.specs.declared.value.Value.{Value}
 use Rattle.wasm_types.specs.declared.value.Value.TheVariants.{I32, I64}
 use Rattle.wasm_types.specs.declared.modules.Module.{Module}
 use Rattle.wasm_types.specs.declared.modules.FuncType.{FuncType}
-use Rattle.validator.specs.Context.{function_type, type_of}
+use Rattle.validator.specs.Context.{function_type}
 use Rattle.validator.specs.Exports.{exported_function}
 use Rattle.thread_plan.specs.declared.planned_thread.PlannedThread.{PlannedThread}
 use Rattle.thread_plan.specs.declared.fault.PlanFault.{PlanFault}
@@ -21,9 +21,11 @@ use Rattle.thread_plan.specs.declared.fault.PlanFault.TheVariants.{BadLine, NotS
 use Rattle.text_lines.specs.Parts.{words, lines}
 use Rattle.text_lines.specs.Integers.{bits_of}
 use Rattle.thread_plan.specs.Arguments.{value_of, both, values_of}
-use Rattle.thread_plan.specs.Segments.{allows_threads, segments_fit}
+use Rattle.wasm_instance.specs.Memories.{allows_threads}
+use Rattle.wasm_instance.specs.Segments.{segments_fit}
 use Rattle.thread_plan.specs.Threads.{form_of, values_by, thread_by, called, judged, thread_at}
-use Rattle.thread_plan.specs.Plans.{PlanValue, and_then, threads_from, at_most_16, threads_of, threads_in, planned, plan_of, IsInRange, IsThreadOf, IsPlanOf}
+use Rattle.wasm_types.specs.Values.{type_of}
+use Rattle.thread_plan.specs.Plans.{PlanValue, and_then, threads_from, at_most_16, threads_of, threads_in, planned, plan_of, IsThreadOf, IsPlanOf, IsInRange}
 
 ok_is : {X : Type 0} (s t : X) → (let r : Result X PlanFault = Ok s in r ≡ Ok t) → s ≡ t
 ok_is s t e = cc

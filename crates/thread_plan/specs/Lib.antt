@@ -1,5 +1,4 @@
 pub mod Arguments
-pub mod Segments
 pub mod Threads
 pub mod Plans
 pub mod Spelling

@@ -1,16 +1,19 @@
 -- Plans of threads.
 use Rattle.std.specs.Prelude.{◌≡◌, ℕ, ◌+◌, ◌^◌, ◌<◌, ◌≤◌, ◌⊎◌, ◌&&◌, true, not, List, [], ◌∷◌, Result, Ok, Err, Some, codes, length, take, map, nat_lt, All, if◌then◌else◌}
 use Rattle.std.specs.Str.{bytes_eq}
+use Rattle.wasm_types.specs.declared.sizes.TheConstants.{MOST_THREADS}
 use Rattle.wasm_types.specs.declared.value.Value.{Value}
 use Rattle.wasm_types.specs.declared.value.Value.TheVariants.{I32, I64}
 use Rattle.wasm_types.specs.declared.modules.Module.{Module}
 use Rattle.wasm_types.specs.declared.modules.FuncType.{FuncType}
-use Rattle.validator.specs.Context.{function_type, type_of}
+use Rattle.wasm_types.specs.Values.{type_of}
+use Rattle.validator.specs.Context.{function_type}
 use Rattle.thread_plan.specs.declared.planned_thread.PlannedThread.{PlannedThread}
 use Rattle.thread_plan.specs.declared.fault.PlanFault.{PlanFault}
 use Rattle.thread_plan.specs.declared.fault.PlanFault.TheVariants.{BadLine, NotShared, SegmentOutOfBounds, NoMemory}
 use Rattle.text_lines.specs.Parts.{lines}
-use Rattle.thread_plan.specs.Segments.{allows_threads, segments_fit}
+use Rattle.wasm_instance.specs.Memories.{allows_threads}
+use Rattle.wasm_instance.specs.Segments.{segments_fit}
 use Rattle.thread_plan.specs.Threads.{thread_at}
 
 -- a plan's text, and its threads by number
@@ -29,12 +32,12 @@ threads_from m number [] = Ok []
 threads_from m number (line ∷ lines) = and_then (thread_at m number line) (λ thread. and_then (threads_from m (number + 1) lines) (λ threads. Ok (thread ∷ threads)))
 
 abbrev pub at_most_16 : ℕ → List PlannedThread → Result (List PlannedThread) PlanFault
-at_most_16 count threads = if nat_lt 16 count then Err (BadLine 18) else Ok threads
+at_most_16 count threads = if nat_lt MOST_THREADS count then Err (BadLine 18) else Ok threads
 
 -- the threads of the lines behind the first, of which there are 1 to 16
 abbrev pub threads_of : Module → List (List ℕ) → Result (List PlannedThread) PlanFault
 threads_of m [] = Err (BadLine 2)
-threads_of m (line ∷ lines) = and_then (threads_from m 2 (take 16 (line ∷ lines))) (λ threads. at_most_16 (length (line ∷ lines)) threads)
+threads_of m (line ∷ lines) = and_then (threads_from m 2 (take MOST_THREADS (line ∷ lines))) (λ threads. at_most_16 (length (line ∷ lines)) threads)
 
 -- the first line says what the text is
 abbrev pub threads_in : Module → List (List ℕ) → Result (List PlannedThread) PlanFault
@@ -69,7 +72,7 @@ pub record IsThreadOf (m : Module) (thread : PlannedThread) : Type 0 where
 -- the plan suits the module
 pub record IsPlanOf (m : Module) (plan : PlanValue) : Type 0 where
   pub some_thread : 0 < length plan.threads
-  pub at_most_16_threads : length plan.threads ≤ 16
+  pub at_most_16_threads : length plan.threads ≤ MOST_THREADS
   pub threads : All (IsThreadOf m) plan.threads
   pub shared : 1 < length plan.threads → allows_threads m ≡ true
   pub segments : segments_fit m ≡ true

@@ -6,7 +6,6 @@ mod fault;
 mod laws;
 mod plan;
 mod planned_thread;
-mod segments;
 mod thread_line;
 
 pub use fault::PlanFault;

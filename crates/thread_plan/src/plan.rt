@@ -6,18 +6,16 @@ ghost use Rattle.thread_plan.specs.Plans.{plan_of, threads_of, threads_in, IsFau
 
 use crate::fault::PlanFault;
 use crate::planned_thread::PlannedThread;
-use crate::segments::{fit_segments, may_share};
 use crate::thread_line::read_thread;
 use std::alloc::Global;
 use std::marker::Model;
 use text_lines::{Parts, without_end};
 use validator::Valid;
+use wasm_instance::{fit_segments, may_share};
+use wasm_types::MOST_THREADS;
 
 /// The first line of a plan.
 const FIRST_LINE: &[u8] = b"wreplay plan 1";
-
-/// The greatest number of threads.
-const MOST_THREADS: usize = 16;
 
 /// A plan: which exported functions of a module run as threads, and with which arguments. Contracts see its bytes and
 /// its threads.
@@ -29,13 +27,14 @@ pub struct Plan {
 
 impl Model for Plan {
     ghost use Rattle.std.specs.Prelude.{◌≤◌, length};
+    ghost use Rattle.wasm_types.specs.declared.sizes.TheConstants.{MOST_THREADS};
     ghost use Rattle.thread_plan.specs.Plans.{PlanValue};
 
     ghost Value = { PlanValue };
 
     ghost view = { λ p. record { bytes = p.bytes.items; threads = p.threads.items } };
 
-    ghost invariant = { λ p. length p.threads.items ≤ 16 };
+    ghost invariant = { λ p. length p.threads.items ≤ MOST_THREADS };
 }
 
 impl Plan {
@@ -89,7 +88,7 @@ impl Plan {
 fn read_threads(alloc: Global, text: &[u8], valid: &Valid) -> Result<Vec<PlannedThread>, PlanFault>
     ensures ok { IfOk result (λ threads. threads_in valid.now (lines text.now) ≡ Ok threads.items) }
     ensures err { IfErr result (λ fault. IsFaultOf (threads_in valid.now (lines text.now)) fault) }
-    ensures few { IfOk result (λ threads. length threads.items ≤ 16) }
+    ensures few { IfOk result (λ threads. length threads.items ≤ MOST_THREADS) }
 {
     let mut lines = Parts::new(without_end(text), b'\n');
     match lines.take_part() {
@@ -106,7 +105,7 @@ fn read_lines(
 ) -> Result<Vec<PlannedThread>, PlanFault>
     ensures ok { IfOk result (λ threads. threads_of valid.now (parts_left lines.entry) ≡ Ok threads.items) }
     ensures err { IfErr result (λ fault. IsFaultOf (threads_of valid.now (parts_left lines.entry)) fault) }
-    ensures few { IfOk result (λ threads. length threads.items ≤ 16) }
+    ensures few { IfOk result (λ threads. length threads.items ≤ MOST_THREADS) }
 {
     let mut threads = Vec::new(alloc);
     while let Some(line) = lines.take_part() {

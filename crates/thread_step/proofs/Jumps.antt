@@ -14,8 +14,9 @@ use Rattle.wasm_types.specs.declared.instruction.Instr.{Instr}
 use Rattle.wasm_types.specs.declared.instruction.Instr.TheVariants as instr
 use Rattle.wasm_types.specs.declared.instruction.IndexOp.TheVariants.{Branch, BranchIf, Call}
 use Rattle.wasm_types.specs.declared.instruction.Plain.TheVariants.{Return}
-use Rattle.validator.specs.Context.{Context, type_of, function_type, labels_in, has_table}
-use Rattle.validator.specs.Table.{Class, Fixed, Leaves, if_some, if_true, same_type, same_types, takes_these, all_take, table_class}
+use Rattle.wasm_types.specs.Values.{same_type, type_of}
+use Rattle.validator.specs.Context.{Context, function_type, labels_in, has_table}
+use Rattle.validator.specs.Table.{Class, Fixed, Leaves, if_some, if_true, same_types, takes_these, all_take, table_class}
 use Rattle.validator.specs.Walk.{Frame, pop_all, step_by, labels_of, at_frames}
 use Rattle.validator.proofs.Sound.{there}
 use Rattle.thread_step.specs.Instance.{Instance, HasFunctions}

@@ -23,10 +23,12 @@ use Rattle.wasm_types.specs.declared.instruction.PagesOp.{PagesOp}
 use Rattle.wasm_types.specs.declared.instruction.PagesOp.TheVariants.{Size, Grow}
 use Rattle.wasm_types.specs.declared.instruction.AtomicOp.{AtomicOp}
 use Rattle.wasm_types.specs.declared.instruction.AtomicOp.TheVariants as atomic
-use Rattle.validator.specs.Context.{Context, type_of, has_memory}
-use Rattle.validator.specs.Table.{Class, Fixed, class_of, if_true, memory_class, pages_class, atomic_class, atomic_width, atomic_operands, access_type, access_width, type_width, load_access}
+use Rattle.wasm_types.specs.Values.{type_of, value_of}
+use Rattle.wasm_types.specs.Accesses.{access_exponent, access_type, atomic_exponent, load_access, type_exponent}
+use Rattle.validator.specs.Context.{Context, has_memory}
+use Rattle.validator.specs.Table.{Class, Fixed, class_of, if_true, memory_class, pages_class, atomic_class, atomic_operands}
 use Rattle.validator.specs.Walk.{Frame, step_by}
-use Rattle.integer_ops.specs.Numeric.{value_of, result_value}
+use Rattle.integer_ops.specs.Numeric.{result_value}
 use Rattle.thread_step.specs.Instance.{Instance}
 use Rattle.thread_step.specs.Activation.{types}
 use Rattle.thread_step.specs.Effect.{Effect, Gives, Stops, Makes, Waits, numeric_effect, memory_effect, atomic_effect, atomic_load, within_capacity, atomically, effect_of, operand}
@@ -93,19 +95,19 @@ atomically_fits m address width gives e h =
     either_fits gives (address % 2 ^ width == 0) (within_capacity m address (2 ^ width) e) (Stops UnalignedAtomic) (within_fits m address (2 ^ width) gives e h) tt
 
 load_fits : (m : Instance) (l : Load) (address : ℕ) (vs : List Value) → EffectFits (access_type (load_access l) ∷ []) (memory_effect m (memory.Load l) address vs)
-load_fits m l address vs = within_fits m address (2 ^ access_width (load_access l)) (access_type (load_access l) ∷ []) (Makes (act.Load l address) (access_type (load_access l) ∷ [])) refl
+load_fits m l address vs = within_fits m address (2 ^ access_exponent (load_access l)) (access_type (load_access l) ∷ []) (Makes (act.Load l address) (access_type (load_access l) ∷ [])) refl
 
 store_fits : (m : Instance) (a : Access) (address : ℕ) (vs : List Value) → EffectFits [] (memory_effect m (memory.Store a) address vs)
-store_fits m a address vs = within_fits m address (2 ^ access_width a) [] (Makes (act.Store a address (operand 1 vs)) []) refl
+store_fits m a address vs = within_fits m address (2 ^ access_exponent a) [] (Makes (act.Store a address (operand 1 vs)) []) refl
 
 pub memory_simple : (m : Instance) (c : Context) (op : MemoryOp) (arg : MemArg) (w : Frame) (ws gs : List Frame) → step_by (class_of c (instr.Memory op arg)) w ws ≡ Some gs → Simple m c (instr.Memory op arg)
 memory_simple m c (memory.Load l) arg w ws gs h =
     let p = granted (has_memory c.within) (memory_class (memory.Load l) arg.align) w ws gs h in
-    let q = granted (nat_le arg.align (access_width (load_access l))) (Fixed (I32 ∷ []) (access_type (load_access l) ∷ [])) w ws gs p.1 in
+    let q = granted (nat_le arg.align (access_exponent (load_access l))) (Fixed (I32 ∷ []) (access_type (load_access l) ∷ [])) w ws gs p.1 in
     record { takes = I32 ∷ []; gives = access_type (load_access l) ∷ []; class_is = p.0 ∙ q.0; fits = λ vs. load_fits m l (operand 0 vs + arg.offset) vs }
 memory_simple m c (memory.Store a) arg w ws gs h =
     let p = granted (has_memory c.within) (memory_class (memory.Store a) arg.align) w ws gs h in
-    let q = granted (nat_le arg.align (access_width a)) (Fixed (I32 ∷ access_type a ∷ []) []) w ws gs p.1 in
+    let q = granted (nat_le arg.align (access_exponent a)) (Fixed (I32 ∷ access_type a ∷ []) []) w ws gs p.1 in
     record { takes = I32 ∷ access_type a ∷ []; gives = []; class_is = p.0 ∙ q.0; fits = λ vs. store_fits m a (operand 0 vs + arg.offset) vs }
 
 pub pages_simple : (m : Instance) (c : Context) (op : PagesOp) (w : Frame) (ws gs : List Frame) → step_by (class_of c (instr.Pages op)) w ws ≡ Some gs → Simple m c (instr.Pages op)
@@ -132,36 +134,36 @@ operands_of m (atomic.Wait t) = record {
   operands_are = refl;
   fits = λ address vs.
       let e = Waits (act.Wait t m.thread address (operand 1 vs)) (cast_signed w64 (operand 2 vs)) in
-      either_fits (I32 ∷ []) m.shared (atomically m address (type_width t) e) (Stops MemoryNotShared) (atomically_fits m address (type_width t) (I32 ∷ []) e refl) tt;
+      either_fits (I32 ∷ []) m.shared (atomically m address (type_exponent t) e) (Stops MemoryNotShared) (atomically_fits m address (type_exponent t) (I32 ∷ []) e refl) tt;
 }
 operands_of m (atomic.Load a) = record {
   takes = I32 ∷ [];
   gives = access_type a ∷ [];
   operands_are = refl;
-  fits = λ address vs. atomically_fits m address (access_width a) (access_type a ∷ []) (Makes (act.Load (atomic_load a) address) (access_type a ∷ [])) refl;
+  fits = λ address vs. atomically_fits m address (access_exponent a) (access_type a ∷ []) (Makes (act.Load (atomic_load a) address) (access_type a ∷ [])) refl;
 }
 operands_of m (atomic.Store a) = record {
   takes = I32 ∷ access_type a ∷ [];
   gives = [];
   operands_are = refl;
-  fits = λ address vs. atomically_fits m address (access_width a) [] (Makes (act.Store a address (operand 1 vs)) []) refl;
+  fits = λ address vs. atomically_fits m address (access_exponent a) [] (Makes (act.Store a address (operand 1 vs)) []) refl;
 }
 operands_of m (atomic.Rmw op a) = record {
   takes = I32 ∷ access_type a ∷ [];
   gives = access_type a ∷ [];
   operands_are = refl;
-  fits = λ address vs. atomically_fits m address (access_width a) (access_type a ∷ []) (Makes (act.Rmw op a address (operand 1 vs)) (access_type a ∷ [])) refl;
+  fits = λ address vs. atomically_fits m address (access_exponent a) (access_type a ∷ []) (Makes (act.Rmw op a address (operand 1 vs)) (access_type a ∷ [])) refl;
 }
 operands_of m (atomic.CompareExchange a) = record {
   takes = I32 ∷ access_type a ∷ access_type a ∷ [];
   gives = access_type a ∷ [];
   operands_are = refl;
-  fits = λ address vs. atomically_fits m address (access_width a) (access_type a ∷ []) (Makes (act.CompareExchange a address (operand 1 vs) (operand 2 vs)) (access_type a ∷ [])) refl;
+  fits = λ address vs. atomically_fits m address (access_exponent a) (access_type a ∷ []) (Makes (act.CompareExchange a address (operand 1 vs) (operand 2 vs)) (access_type a ∷ [])) refl;
 }
 
 pub atomic_simple : (m : Instance) (c : Context) (op : AtomicOp) (arg : MemArg) (w : Frame) (ws gs : List Frame) → step_by (class_of c (instr.Atomic op arg)) w ws ≡ Some gs → Simple m c (instr.Atomic op arg)
 atomic_simple m c op arg w ws gs h =
     let p = granted (has_memory c.within) (atomic_class op arg.align) w ws gs h in
-    let q = granted (nat_eq arg.align (atomic_width op)) (atomic_operands op) w ws gs p.1 in
+    let q = granted (nat_eq arg.align (atomic_exponent op)) (atomic_operands op) w ws gs p.1 in
     let o = operands_of m op in
     record { takes = o.takes; gives = o.gives; class_is = p.0 ∙ q.0 ∙ o.operands_are; fits = λ vs. o.fits (operand 0 vs + arg.offset) vs }

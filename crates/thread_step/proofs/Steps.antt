@@ -10,8 +10,9 @@ use Rattle.wasm_types.specs.declared.instruction.Instr.{Instr}
 use Rattle.wasm_types.specs.declared.instruction.Instr.TheVariants as instr
 use Rattle.wasm_types.specs.declared.instruction.IndexOp.TheVariants.{LocalGet, LocalSet, LocalTee, GlobalGet, GlobalSet}
 use Rattle.wasm_types.specs.declared.instruction.Plain.TheVariants.{Nop, Discard, Select}
-use Rattle.validator.specs.Context.{Context, type_of}
-use Rattle.validator.specs.Table.{Class, Fixed, class_of, if_some, if_true, same_type}
+use Rattle.wasm_types.specs.Values.{same_type, type_of}
+use Rattle.validator.specs.Context.{Context}
+use Rattle.validator.specs.Table.{Class, Fixed, class_of, if_some, if_true}
 use Rattle.validator.specs.Walk.{Frame, Operand, known, with_stack, pop_all, pop_one, pop_any, select_by, only, then_if, step_by, at_frames}
 use Rattle.validator.proofs.Sound.{there}
 use Rattle.thread_step.specs.Instance.{Instance}

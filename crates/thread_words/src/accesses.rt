@@ -4,6 +4,8 @@
 ghost use Rattle.std.specs.Prelude.{◌≡◌, ◌+◌, ◌≤◌, ◌^◌, Ok};
 ghost use Rattle.wasm_types.specs.declared.instruction.Instr.TheVariants.{Memory, Pages, Atomic};
 ghost use Rattle.wasm_types.specs.declared.instruction.AtomicOp.TheVariants.{Notify, Wait, Load as AtomicLoad, Store as AtomicStore, Rmw, CompareExchange};
+ghost use Rattle.wasm_types.specs.Accesses.{exponent_of};
+ghost use Rattle.wasm_types.specs.Widths.{width_of};
 ghost use Rattle.thread_step.specs.Instance.{Instance as InstanceRecord};
 ghost use Rattle.thread_step.specs.Effect.{within_capacity, atomically, atomic_load};
 ghost use Rattle.thread_words.specs.Words.{instance_at};
@@ -11,35 +13,32 @@ ghost use Rattle.thread_words.specs.Accesses.{takes_of, IsAccess, HasOperands, T
 
 use crate::operands::{one_operand, three_operands, two_i32_operands, two_operands};
 use crate::stacks::{Instance, Stacks, Stage};
-use crate::widths::{width_of_access, width_of_load, width_of_type};
 use wasm_types::{
-    Access, Action, AtomicOp, Extension, Instr, Load, MemArg, MemoryOp, Outcome, PagesOp, RmwOp,
-    Trap, ValType,
+    Access, Action, AtomicOp, Extension, Instr, Load, MOST_PAGES, MemArg, MemoryOp, Outcome,
+    PAGE_SIZE, PagesOp, RmwOp, Trap, ValType, Width,
 };
 
-/// The effective address of an access of 2 ^ `width` bytes, without wrapping. An access that ends past the greatest
+/// The effective address of an access of that width, without wrapping. An access that ends past the greatest
 /// length of the memory is a trap.
 #[inline(always)]
-fn address_within(instance: &Instance, base: u32, offset: u32, width: u32) -> Result<u32, Trap>
-    requires capacity { instance.now.capacity ≤ 65536 }
-    requires width { width ≤ 3 }
-    ensures { Tests (within_capacity (instance_at instance.now) (base + offset) (2 ^ width)) (base + offset) result }
+fn address_within(instance: &Instance, base: u32, offset: u32, width: Width) -> Result<u32, Trap>
+    requires { instance.now.capacity ≤ MOST_PAGES }
+    ensures { Tests (within_capacity (instance_at instance.now) (base + offset) (2 ^ exponent_of (width_of width))) (base + offset) result }
 {
     let address = u64::from(base) + u64::from(offset);
-    if address + (1 << width) > u64::from(instance.capacity) * 65_536 {
+    if address + u64::from(width.bytes()) > u64::from(instance.capacity) * PAGE_SIZE {
         return Err(Trap::OutOfBounds);
     }
     Ok(address as u32)
 }
 
 /// The same of an atomic access. An address that is no multiple of the size is a trap, whatever its bounds.
-fn aligned_address(instance: &Instance, base: u32, offset: u32, width: u32) -> Result<u32, Trap>
-    requires capacity { instance.now.capacity ≤ 65536 }
-    requires width { width ≤ 3 }
-    ensures { Tests (atomically (instance_at instance.now) (base + offset) width) (base + offset) result }
+fn aligned_address(instance: &Instance, base: u32, offset: u32, width: Width) -> Result<u32, Trap>
+    requires { instance.now.capacity ≤ MOST_PAGES }
+    ensures { Tests (atomically (instance_at instance.now) (base + offset) (exponent_of (width_of width))) (base + offset) result }
 {
     let address = u64::from(base) + u64::from(offset);
-    if address % (1 << width) != 0 {
+    if address % u64::from(width.bytes()) != 0 {
         return Err(Trap::UnalignedAtomic);
     }
     address_within(instance, base, offset, width)
@@ -54,19 +53,18 @@ fn memory_access(
     argument: MemArg,
 ) -> Result<Action, Trap>
     requires operands { HasOperands (takes_of (Memory op argument)) m.now }
-    requires capacity { instance.now.capacity ≤ 65536 }
+    requires capacity { instance.now.capacity ≤ MOST_PAGES }
     ensures { AsksBy (instance_at instance.now) (Memory op argument) result m.now }
 {
     match op {
         MemoryOp::Load(load) => {
             let base = one_operand(m);
-            let address = address_within(instance, base, argument.offset, width_of_load(load))?;
+            let address = address_within(instance, base, argument.offset, load.width())?;
             Ok(Action::Load { load, address })
         }
         MemoryOp::Store(access) => {
             let (base, operand) = two_operands(m);
-            let width = width_of_access(access);
-            let address = address_within(instance, base, argument.offset, width)?;
+            let address = address_within(instance, base, argument.offset, access.width())?;
             Ok(Action::Store {
                 access,
                 address,
@@ -97,14 +95,14 @@ fn wait_access(
     argument: MemArg,
 ) -> Result<Action, Trap>
     requires operands { HasOperands (takes_of (Atomic (Wait t) argument)) m.now }
-    requires capacity { instance.now.capacity ≤ 65536 }
+    requires capacity { instance.now.capacity ≤ MOST_PAGES }
     ensures { AsksBy (instance_at instance.now) (Atomic (Wait t) argument) result m.now }
 {
     if !instance.shared {
         return Err(Trap::MemoryNotShared);
     }
     let (base, expected, _) = three_operands(m);
-    let address = aligned_address(instance, base, argument.offset, width_of_type(t))?;
+    let address = aligned_address(instance, base, argument.offset, t.width())?;
     Ok(Action::Wait {
         width: t,
         thread: instance.thread,
@@ -116,11 +114,11 @@ fn wait_access(
 /// What `memory.atomic.notify` asks for, or its trap. It has the address of four bytes.
 fn notify_access(m: &Stacks, instance: &Instance, argument: MemArg) -> Result<Action, Trap>
     requires operands { HasOperands (takes_of (Atomic Notify argument)) m.now }
-    requires capacity { instance.now.capacity ≤ 65536 }
+    requires capacity { instance.now.capacity ≤ MOST_PAGES }
     ensures { AsksBy (instance_at instance.now) (Atomic Notify argument) result m.now }
 {
     let (base, count) = two_i32_operands(m);
-    let address = aligned_address(instance, base, argument.offset, 2)?;
+    let address = aligned_address(instance, base, argument.offset, Width::Four)?;
     Ok(Action::Notify { address, count })
 }
 
@@ -142,11 +140,11 @@ fn load_access(
     argument: MemArg,
 ) -> Result<Action, Trap>
     requires operands { HasOperands (takes_of (Atomic (AtomicLoad access) argument)) m.now }
-    requires capacity { instance.now.capacity ≤ 65536 }
+    requires capacity { instance.now.capacity ≤ MOST_PAGES }
     ensures { AsksBy (instance_at instance.now) (Atomic (AtomicLoad access) argument) result m.now }
 {
     let base = one_operand(m);
-    let address = aligned_address(instance, base, argument.offset, width_of_access(access))?;
+    let address = aligned_address(instance, base, argument.offset, access.width())?;
     Ok(Action::Load {
         load: load_of(access),
         address,
@@ -161,11 +159,11 @@ fn store_access(
     argument: MemArg,
 ) -> Result<Action, Trap>
     requires operands { HasOperands (takes_of (Atomic (AtomicStore access) argument)) m.now }
-    requires capacity { instance.now.capacity ≤ 65536 }
+    requires capacity { instance.now.capacity ≤ MOST_PAGES }
     ensures { AsksBy (instance_at instance.now) (Atomic (AtomicStore access) argument) result m.now }
 {
     let (base, operand) = two_operands(m);
-    let address = aligned_address(instance, base, argument.offset, width_of_access(access))?;
+    let address = aligned_address(instance, base, argument.offset, access.width())?;
     Ok(Action::Store {
         access,
         address,
@@ -182,11 +180,11 @@ fn rmw_access(
     argument: MemArg,
 ) -> Result<Action, Trap>
     requires operands { HasOperands (takes_of (Atomic (Rmw op access) argument)) m.now }
-    requires capacity { instance.now.capacity ≤ 65536 }
+    requires capacity { instance.now.capacity ≤ MOST_PAGES }
     ensures { AsksBy (instance_at instance.now) (Atomic (Rmw op access) argument) result m.now }
 {
     let (base, operand) = two_operands(m);
-    let address = aligned_address(instance, base, argument.offset, width_of_access(access))?;
+    let address = aligned_address(instance, base, argument.offset, access.width())?;
     Ok(Action::Rmw {
         op,
         access,
@@ -203,11 +201,11 @@ fn exchange_access(
     argument: MemArg,
 ) -> Result<Action, Trap>
     requires operands { HasOperands (takes_of (Atomic (CompareExchange access) argument)) m.now }
-    requires capacity { instance.now.capacity ≤ 65536 }
+    requires capacity { instance.now.capacity ≤ MOST_PAGES }
     ensures { AsksBy (instance_at instance.now) (Atomic (CompareExchange access) argument) result m.now }
 {
     let (base, expected, replacement) = three_operands(m);
-    let address = aligned_address(instance, base, argument.offset, width_of_access(access))?;
+    let address = aligned_address(instance, base, argument.offset, access.width())?;
     Ok(Action::CompareExchange {
         access,
         address,
@@ -224,7 +222,7 @@ fn atomic_access(
     argument: MemArg,
 ) -> Result<Action, Trap>
     requires operands { HasOperands (takes_of (Atomic op argument)) m.now }
-    requires capacity { instance.now.capacity ≤ 65536 }
+    requires capacity { instance.now.capacity ≤ MOST_PAGES }
     ensures { AsksBy (instance_at instance.now) (Atomic op argument) result m.now }
 {
     match op {
@@ -243,7 +241,7 @@ fn atomic_access(
 pub fn access_of(m: &Stacks, instance: &Instance, instr: Instr) -> Result<Action, Trap>
     requires access { IsAccess instr }
     requires can { CanMove (instance_at instance.now) instr m.now }
-    requires capacity { instance.now.capacity ≤ 65536 }
+    requires capacity { instance.now.capacity ≤ MOST_PAGES }
     ensures { Asks (instance_at instance.now) instr result m.now }
 {
     match instr {

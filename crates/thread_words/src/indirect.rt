@@ -3,7 +3,7 @@
 ghost use Rattle.std.specs.Prelude.{◌≡◌, ℕ, List, Some, slice_get, OnOk, OnErr, IsOk};
 ghost use Rattle.wasm_types.specs.declared.modules.FuncType.{FuncType};
 ghost use Rattle.wasm_types.specs.declared.instruction.Instr.TheVariants.{CallIndirect};
-ghost use Rattle.validator.specs.Table.{same_type, same_types};
+ghost use Rattle.validator.specs.Table.{same_types};
 ghost use Rattle.thread_step.specs.Step.{same_kind};
 ghost use Rattle.thread_words.specs.Words.{instance_at};
 ghost use Rattle.thread_words.specs.Calling.{HasTypes, HasRoomThrough};
@@ -15,17 +15,6 @@ use crate::stacks::{Instance, Stacks, Stage};
 use validator::Valid;
 use wasm_types::{NoMemory, Outcome, Trap, ValType};
 
-/// Whether two types are the same.
-fn is_same(first: ValType, second: ValType) -> bool
-    ensures { result ≡ same_type first second }
-{
-    match (first, second) {
-        (ValType::I32, ValType::I32) => true,
-        (ValType::I64, ValType::I64) => true,
-        _ => false,
-    }
-}
-
 /// Whether two rows of types are the same.
 fn are_same(first: &[ValType], second: &[ValType]) -> bool
     ensures { result ≡ same_types first.now second.now }
@@ -34,7 +23,7 @@ fn are_same(first: &[ValType], second: &[ValType]) -> bool
         return false;
     }
     for i in 0..first.len() {
-        if !is_same(first[i], second[i]) {
+        if !first[i].is_same(second[i]) {
             return false;
         }
     }

@@ -14,7 +14,6 @@ mod operands;
 mod replies;
 mod simple;
 mod stacks;
-mod widths;
 
 pub use accesses::access_of;
 pub use blocks::{block, end, end_first_arm};

@@ -2,12 +2,12 @@
 
 ghost use Rattle.std.specs.Prelude.{◌≡◌, ℕ, ◌+◌, ◌-◌, ◌<◌, ◌≤◌, ◌^◌, List, [], ◌∷◌, ◌++◌, length, OnOk, OnErr, IsOk, take, drop, get_or, slice_set, vec_capacity};
 ghost use Rattle.wasm_types.specs.declared.value.ValType.TheVariants.{I32};
-ghost use Rattle.integer_ops.specs.Numeric.{bits_of, value_of};
 ghost use Rattle.thread_step.specs.Effect.{operand as operand_bits};
-ghost use Rattle.thread_words.specs.Words.{IsInRange};
+ghost use Rattle.wasm_types.specs.Values.{bits_of, value_of};
 ghost use Rattle.thread_words.specs.Accesses.{Holds, HasOperands};
 ghost use Rattle.thread_words.specs.Fields.{Puts, one_if, HasOperand, IsOperand};
 ghost use Rattle.thread_words.specs.Moves.{Unchanged, HasWordLeft};
+ghost use Rattle.thread_words.specs.Words.{IsInRange};
 
 use crate::stacks::Stacks;
 use wasm_types::{NoMemory, ValType, Value};
@@ -114,10 +114,7 @@ pub fn word(value: Value) -> u64
     ensures bits { result ≡ bits_of value }
     ensures range { IsInRange value }
 {
-    match value {
-        Value::I32(bits) => u64::from(bits),
-        Value::I64(bits) => bits,
-    }
+    value.bits()
 }
 
 /// The operand of a type at a depth, of which the topmost has depth 0.

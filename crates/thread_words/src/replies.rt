@@ -2,8 +2,7 @@
 
 ghost use Rattle.std.specs.Prelude.{◌≡◌, ◌+◌, ◌<◌, ◌≤◌, ◌^◌, ◌∷◌, [], length, OnOk, OnErr, IsOk};
 ghost use Rattle.wasm_types.specs.declared.value.ValType.TheVariants.{I32};
-ghost use Rattle.validator.specs.Table.{access_type, narrow_type};
-ghost use Rattle.integer_ops.specs.Numeric.{bits_of};
+ghost use Rattle.wasm_types.specs.Values.{bits_of};
 ghost use Rattle.thread_step.specs.Thread.{value_by};
 ghost use Rattle.thread_words.specs.Fields.{Puts};
 ghost use Rattle.thread_words.specs.Accesses.{takes_of, reply_of, wait_offset, reply_words, WakesWith, IsAccess, CanAsk, Answers, CanWait, FallsAsleep, IsAsleep, Wakes};
@@ -50,26 +49,6 @@ fn resume(m: &mut Stacks, taken: usize, t: Option<ValType>, bits: u64) -> Result
     }
 }
 
-/// The type of what a narrow access hands on.
-fn narrow_type(narrow: Narrow) -> ValType
-    ensures { result ≡ narrow_type narrow }
-{
-    match narrow {
-        Narrow::I32Of8 | Narrow::I32Of16 => ValType::I32,
-        Narrow::I64Of8 | Narrow::I64Of16 | Narrow::I64Of32 => ValType::I64,
-    }
-}
-
-/// The type of what an access hands on.
-fn access_type(access: Access) -> ValType
-    ensures { result ≡ access_type access }
-{
-    match access {
-        Access::Whole(t) => t,
-        Access::Narrow(narrow) => narrow_type(narrow),
-    }
-}
-
 /// How many operands an access takes.
 #[inline(always)]
 fn operand_count(instr: Instr) -> usize
@@ -99,15 +78,15 @@ fn reply_type(instr: Instr) -> Option<ValType>
 {
     match instr {
         Instr::Memory(MemoryOp::Load(Load::Whole(t)), _) => Some(t),
-        Instr::Memory(MemoryOp::Load(Load::Narrow(narrow, _)), _) => Some(narrow_type(narrow)),
+        Instr::Memory(MemoryOp::Load(Load::Narrow(narrow, _)), _) => Some(narrow.val_type()),
         Instr::Memory(MemoryOp::Store(_), _) => None,
         Instr::Pages(_) => Some(ValType::I32),
         Instr::Atomic(AtomicOp::Notify, _) => Some(ValType::I32),
         Instr::Atomic(AtomicOp::Wait(_), _) => Some(ValType::I32),
-        Instr::Atomic(AtomicOp::Load(access), _) => Some(access_type(access)),
+        Instr::Atomic(AtomicOp::Load(access), _) => Some(access.val_type()),
         Instr::Atomic(AtomicOp::Store(_), _) => None,
-        Instr::Atomic(AtomicOp::Rmw(_, access), _) => Some(access_type(access)),
-        Instr::Atomic(AtomicOp::CompareExchange(access), _) => Some(access_type(access)),
+        Instr::Atomic(AtomicOp::Rmw(_, access), _) => Some(access.val_type()),
+        Instr::Atomic(AtomicOp::CompareExchange(access), _) => Some(access.val_type()),
         _ => unreachable!(),
     }
 }

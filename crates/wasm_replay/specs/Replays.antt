@@ -11,7 +11,7 @@ use Rattle.event_core.specs.End.{RunEnd}
 use Rattle.event_core.specs.Run.{IsRun, run_end}
 use Rattle.validator.specs.Valid.{fits_profile}
 use Rattle.thread_plan.specs.Plans.{PlanValue, IsPlanOf}
-use Rattle.thread_step.specs.Opening.{block_power}
+use Rattle.wasm_instance.specs.Memories.{block_power}
 use Rattle.thread_code.specs.ThreadCode.{thread_code}
 use Rattle.replica.specs.declared.log.Log.{Log as GatheredLog}
 use Rattle.replica.specs.Log.{key_of}

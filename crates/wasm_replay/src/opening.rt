@@ -3,7 +3,7 @@
 ghost use Rattle.std.specs.Prelude.{◌≡◌, ◌≤◌, OnOk, IfOk, IfErr};
 ghost use Rattle.event_core.specs.World.{world_of};
 ghost use Rattle.thread_plan.specs.Plans.{IsPlanOf};
-ghost use Rattle.thread_step.specs.Opening.{block_power};
+ghost use Rattle.wasm_instance.specs.Memories.{block_power};
 ghost use Rattle.wasm_world.specs.Opening.{WasmWorld};
 ghost use Rattle.wasm_replay.specs.Replays.{IsOfRun, IsOfNoRun, IsOpenerOf, IsNotOpened, Opens, is_of, opened_world};
 

@@ -8,9 +8,7 @@ ghost use Rattle.replica.specs.Log.{entry_at};
 use join_laws::{Flat, RunsCursor};
 use replica::Log;
 use rw_objects::Entry;
-
-/// How many threads a run has at most.
-const THREADS: usize = 16;
+use wasm_types::MOST_THREADS;
 
 /// Reads the items of one thread, and holds the one that it read last, with its place.
 #[derive(Drop)]
@@ -89,4 +87,4 @@ impl<'a> ThreadReader<'a> {
 }
 
 /// Reads the items of a gathered log: by thread its reader, once it was read.
-pub type LogReader<'a> = [Option<ThreadReader<'a>>; THREADS];
+pub type LogReader<'a> = [Option<ThreadReader<'a>>; MOST_THREADS];

@@ -13,7 +13,7 @@ use Rattle.replay_breaks.specs.declared.breaks.Break.{Break}
 use Rattle.replay_breaks.specs.declared.breaks.Stopped.{Stopped}
 use Rattle.replay_breaks.specs.declared.breaks.Stopped.TheVariants as stopped
 use Rattle.replay_breaks.specs.Stops.{StopsAt}
-use Rattle.thread_step.specs.Opening.{block_power}
+use Rattle.wasm_instance.specs.Memories.{block_power}
 use Rattle.replica.specs.Log.{key_of}
 use Rattle.debug_views.specs.Text.{IsShown, IsView}
 use Rattle.debug_views.specs.Values.{memory_bytes, IsFault}

@@ -3,7 +3,7 @@ use Rattle.std.specs.Prelude.{◌≡◌, ◌⊎◌, ℕ, ◌+◌, ◌<◌, List,
 use Rattle.wasm_types.specs.declared.modules.Module.{Module}
 use Rattle.block_objects.specs.SharedMemory.{shared_memory}
 use Rattle.thread_plan.specs.Plans.{PlanValue}
-use Rattle.thread_step.specs.Opening.{block_power}
+use Rattle.wasm_instance.specs.Memories.{block_power}
 use Rattle.thread_code.specs.ThreadCode.{thread_code}
 use Rattle.replica.specs.declared.log.Log.{Log as GatheredLog}
 use Rattle.replica.specs.Log.{key_of}

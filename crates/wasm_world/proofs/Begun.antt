@@ -3,15 +3,16 @@ use Rattle.std.proofs.Common.{◌≡◌, ℕ, zero, suc, ◌+◌, ◌*◌, ◌<�
 use Rattle.std.specs.Prelude.{option_map}
 use Rattle.std.proofs.lemmas.Bool.{le-leb}
 use Rattle.std.proofs.lemmas.List.{length-map, take_all}
+use Rattle.wasm_types.specs.declared.sizes.TheConstants.{PAGE_SIZE}
 use Rattle.wasm_types.specs.declared.value.Value.{Value}
 use Rattle.wasm_types.specs.declared.key.Profile.{Profile}
 use Rattle.wasm_types.specs.declared.modules.Module.{Module}
-use Rattle.block_objects.specs.Objects.{page_size}
 use Rattle.event_core.specs.Opening.{IsFresh, IsOpeningWorld}
 use Rattle.event_core.specs.Threads as threads
 use Rattle.thread_plan.specs.Plans.{PlanValue, IsPlanOf}
 use Rattle.thread_plan.specs.declared.planned_thread.PlannedThread.{PlannedThread}
-use Rattle.thread_step.specs.Opening.{instance_of, opening, opening_by, enter, block_power}
+use Rattle.wasm_instance.specs.Memories.{block_power}
+use Rattle.thread_step.specs.Opening.{instance_of, opening, opening_by, enter}
 use Rattle.thread_step.specs.Thread.{given, State, Runs, Invocation, stack_with, waiting}
 use Rattle.thread_code.specs.ThreadCode.{ThreadAt, thread_code, limits_of, sleeps_within}
 use Rattle.integer_machine.specs.First.{first_of, beginning}
@@ -60,7 +61,7 @@ fresh m profile number planned t low h =
     record {
       no_steps = b.steps;
       made_for = ap limits_of b.instance;
-      is_suited = ap (λ x. x && sleeps_within (t.instance.capacity * page_size) t.state) (le-leb _ _ small) ∙ b.awake (t.instance.capacity * page_size);
+      is_suited = ap (λ x. x && sleeps_within (t.instance.capacity * PAGE_SIZE) t.state) (le-leb _ _ small) ∙ b.awake (t.instance.capacity * PAGE_SIZE);
     }
 
 -- ---- all threads

@@ -13,7 +13,7 @@ use Rattle.validator.specs.Module.{rules, memories_fit, memory_fits, import_fits
 use Rattle.validator.specs.Valid.{WellTyped, fits_profile, is_small, import_is_small, has_no_low_extension}
 use Rattle.validator.proofs.Ruled.{both}
 use Rattle.validator.proofs.Small.{all_decides, decides_le}
-use Rattle.thread_step.specs.Opening.{memory_types, most_pages, capacity_by, initial_by, declared_maximum}
+use Rattle.wasm_instance.specs.Memories.{first_memory, most_pages, capacity_by, initial_by, declared_maximum}
 use Rattle.wasm_world.specs.Opening.{limits_in}
 
 -- what holds of imported and own memories holds of the first
@@ -26,14 +26,14 @@ of_first P (x ∷ is) ys memory at i y = let same : x.memory ≡ memory = cc in 
 memories_rule : (m : Module) → rules m ≡ true → memories_fit m ≡ true
 memories_rule m h = (both _ (memories_fit m) (both _ _ (both _ _ (both _ _ (both _ _ (both _ _ h).0).0).0).0).0).1
 
-fits : (m : Module) (memory : MemoryType) → rules m ≡ true → slice_get (memory_types m) 0 ≡ Some memory → memory_fits memory ≡ true
+fits : (m : Module) (memory : MemoryType) → rules m ≡ true → first_memory m ≡ Some memory → memory_fits memory ≡ true
 fits m memory h at =
     let r = memories_rule m h in
     of_first (λ y. memory_fits y ≡ true) m.imports m.memories memory at
     ((all_decides import_fits (λ i. memory_fits i.memory ≡ true) (λ i. (λ e. e, λ e. e)) m.imports).0 (both _ (list_all import_fits m.imports) (both _ (list_all memory_fits m.memories) r).0).1)
     ((all_decides memory_fits (λ y. memory_fits y ≡ true) (λ y. (λ e. e, λ e. e)) m.memories).0 (both _ (list_all memory_fits m.memories) r).1)
 
-few : (m : Module) (profile : Profile) (memory : MemoryType) → Within m → fits_profile m profile ≡ true → slice_get (memory_types m) 0 ≡ Some memory → memory.limits.minimum ≤ most_pages profile
+few : (m : Module) (profile : Profile) (memory : MemoryType) → Within m → fits_profile m profile ≡ true → first_memory m ≡ Some memory → memory.limits.minimum ≤ most_pages profile
 few m One memory w f at =
     let small = both (list_all import_is_small m.imports && list_all is_small m.memories) (list_all has_no_low_extension m.bodies) f in
     let each = both (list_all import_is_small m.imports) (list_all is_small m.memories) small.0 in
@@ -53,7 +53,7 @@ below_maximum (Some most) minimum small h = leb-true _ _ h
 first_is_least : (memory : MemoryType) → memory_fits memory ≡ true → is_at_least memory.limits.maximum memory.limits.minimum ≡ true
 first_is_least memory h = (both (is_at_least memory.limits.maximum memory.limits.minimum) _ (both _ _ (both _ _ h).0).0).0
 
-starts_by : (m : Module) (profile : Profile) (o : Option MemoryType) → slice_get (memory_types m) 0 ≡ o → rules m ≡ true → Within m → fits_profile m profile ≡ true → initial_by o ≤ capacity_by profile o
+starts_by : (m : Module) (profile : Profile) (o : Option MemoryType) → first_memory m ≡ o → rules m ≡ true → Within m → fits_profile m profile ≡ true → initial_by o ≤ capacity_by profile o
 starts_by m profile None at h w f = omega arith
 starts_by m profile (Some memory) at h w f =
     let low = few m profile memory w f at in
@@ -61,4 +61,4 @@ starts_by m profile (Some memory) at h w f =
     omega arith
 
 pub starts_within : (m : Module) (profile : Profile) → rules m ≡ true → Within m → fits_profile m profile ≡ true → (limits_in m profile).initial ≤ (limits_in m profile).capacity
-starts_within m profile h w f = starts_by m profile (slice_get (memory_types m) 0) refl h w f
+starts_within m profile h w f = starts_by m profile (first_memory m) refl h w f

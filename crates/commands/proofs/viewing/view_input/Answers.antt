@@ -1,5 +1,5 @@
 use Rattle.std.proofs.Common.{ap, ◌∙◌}
-use Rattle.thread_step.specs.Opening.{block_power}
+use Rattle.wasm_instance.specs.Memories.{block_power}
 use Rattle.replica.specs.Log.{log_of, key_of}
 use Rattle.commands.proofs.Viewed.{fault_of}
 use Rattle.commands.proofs.viewing.view_input.Goals as goal

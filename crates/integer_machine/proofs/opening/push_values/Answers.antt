@@ -1,4 +1,4 @@
-use Rattle.integer_ops.specs.Numeric.{bits_of}
+use Rattle.wasm_types.specs.Values.{bits_of}
 use Rattle.std.proofs.Common.{◌≡◌, ◌++◌, ◌∷◌, [], rules}
 use Rattle.integer_machine.proofs.Beginning.{more_words, more_range}
 use Rattle.integer_machine.proofs.opening.push_values.Goals as goal

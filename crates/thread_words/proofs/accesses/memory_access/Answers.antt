@@ -1,6 +1,6 @@
 use Rattle.std.proofs.Common.{rules, subst}
 use Rattle.wasm_types.specs.declared.instruction.Instr.TheVariants.{Memory}
-use Rattle.validator.specs.Table.{access_type}
+use Rattle.wasm_types.specs.Accesses.{access_type}
 use Rattle.thread_words.specs.Accesses.{takes_of, Holds}
 use Rattle.thread_words.proofs.accesses.memory_access.Goals as goal
 

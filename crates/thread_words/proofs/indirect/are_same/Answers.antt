@@ -1,6 +1,7 @@
 use Rattle.std.proofs.Common.{◌≡◌, suc, List, [], ◌∷◌, length, Bool, true, false, ◌&&◌, refl, ap}
 use Rattle.wasm_types.specs.declared.value.ValType.{ValType}
-use Rattle.validator.specs.Table.{same_type, same_types}
+use Rattle.wasm_types.specs.Values.{same_type}
+use Rattle.validator.specs.Table.{same_types}
 use Rattle.thread_words.proofs.indirect.are_same.Goals as goal
 
 other_lengths : (xs ys : List ValType) → (length xs ≡ length ys → ⊥) → false ≡ same_types xs ys

@@ -2,7 +2,8 @@ use Rattle.std.proofs.Common.{[], ◌∷◌, sym, subst}
 use Rattle.wasm_types.specs.declared.instruction.Instr.TheVariants.{Numeric as NumericInstr}
 use Rattle.wasm_types.specs.declared.value.Value.TheVariants as value
 use Rattle.thread_step.specs.Thread.{Local}
-use Rattle.integer_ops.specs.Numeric.{bits_of, computed, operand_types, Takes}
+use Rattle.wasm_types.specs.Values.{bits_of}
+use Rattle.integer_ops.specs.Numeric.{computed, operand_types, Takes}
 use Rattle.thread_words.specs.Fields.{Finishes}
 use Rattle.thread_words.proofs.Here.{next_fits, acts_here}
 use Rattle.thread_words.proofs.Straight.{takes_one, finishes}

@@ -1,5 +1,5 @@
 use Rattle.std.proofs.Common.{sym, ap, ◌∙◌, subst}
-use Rattle.thread_step.specs.Opening.{block_power}
+use Rattle.wasm_instance.specs.Memories.{block_power}
 use Rattle.event_core.specs.World.{world_of}
 use Rattle.wasm_replay.specs.Replays.{IsOpenerOf}
 use Rattle.wasm_replay.specs.declared.gathered.Gathered.{Gathered}

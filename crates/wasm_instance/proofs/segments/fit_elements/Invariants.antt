@@ -1,7 +1,7 @@
 use Rattle.std.proofs.Common.{◌≡◌, length, take}
 use Rattle.std.specs.List.{list_all}
-use Rattle.thread_plan.specs.Segments.{is_within}
-use Rattle.thread_plan.proofs.segments.fit_elements.Given as goal
+use Rattle.wasm_instance.specs.Segments.{is_within}
+use Rattle.wasm_instance.proofs.segments.fit_elements.Given as goal
 
 -- the segments so far are tested
 abbrev pub invariant-loop-segment : goal.invariant-loop-segment

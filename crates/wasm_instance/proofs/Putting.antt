@@ -1,5 +1,5 @@
 -- Functions are put into a table one after the other.
-use Rattle.std.proofs.Common.{◌≡◌, ℕ, suc, ◌+◌, ◌-◌, ◌<◌, ◌≤◌, true, List, [], ◌∷◌, ◌++◌, Option, Some, None, refl, sym, ◌∙◌, ap, subst, take, drop, length, get_or, map, slice_set, arith, append_assoc, length-append, drop-cons, add-one}
+use Rattle.std.proofs.Common.{◌≡◌, ℕ, suc, ◌+◌, ◌-◌, ◌<◌, ◌≤◌, Bool, true, false, ◌&&◌, List, [], ◌∷◌, ◌++◌, Option, Some, None, refl, sym, ◌∙◌, ap, subst, take, drop, length, get_or, map, slice_set, arith, append_assoc, length-append, drop-cons, add-one}
 use Rattle.std.specs.List.{list_all}
 use Rattle.std.proofs.Math.Seq.{set-append_seam, take-suc}
 use Rattle.std.proofs.lemmas.Bool.{leb-true}
@@ -8,10 +8,9 @@ use Rattle.wasm_types.specs.declared.value.Value.{Value}
 use Rattle.wasm_types.specs.declared.value.Value.TheVariants as value
 use Rattle.wasm_types.specs.declared.modules.Element.{Element}
 use Rattle.wasm_types.specs.declared.modules.Limits.{Limits}
-use Rattle.validator.proofs.Ruled.{both}
-use Rattle.integer_ops.specs.Numeric.{bits_of}
-use Rattle.thread_plan.specs.Segments.{elements_by, is_within}
-use Rattle.thread_step.specs.Opening.{with_functions, with_elements, empty_by}
+use Rattle.wasm_types.specs.Values.{bits_of}
+use Rattle.wasm_instance.specs.Tables.{elements_by, with_functions, with_elements, empty_by}
+use Rattle.wasm_instance.specs.Segments.{is_within}
 
 abbrev some_of : ℕ → Option ℕ
 some_of f = Some f
@@ -57,6 +56,10 @@ put_length at functions table fits =
     omega (arith, a, b, c, d, e)
 
 -- ---- all segments
+
+both : (a b : Bool) → (a && b) ≡ true → (a ≡ true) × (b ≡ true)
+both true b h = (refl, h)
+both false b h = absurd cc
 
 -- the segments that are left, and what they make of the table
 pub record Left (size : ℕ) (all rest : List Element) (first table : List (Option ℕ)) : Type 0 where

@@ -1,10 +1,10 @@
 -- What the segments that are left make of the table.
 use Rattle.std.proofs.Common.{drop}
 use Rattle.std.specs.Prelude.{slice_get}
-use Rattle.thread_plan.specs.Segments.{elements_by}
-use Rattle.thread_step.specs.Opening.{empty_by}
-use Rattle.integer_machine.proofs.Putting.{Left}
-use Rattle.integer_machine.proofs.table.first_table.Given as goal
+use Rattle.wasm_instance.specs.Tables.{elements_by}
+use Rattle.wasm_instance.specs.Tables.{empty_by}
+use Rattle.wasm_instance.proofs.Putting.{Left}
+use Rattle.wasm_instance.proofs.table.first_table.Given as goal
 
 abbrev pub invariant-loop-element : goal.invariant-loop-element
 invariant-loop-element l =

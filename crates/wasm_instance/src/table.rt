@@ -1,12 +1,10 @@
-//! The table of a module as its threads begin.
+//! The table with which a module opens (WebAssembly Core 1.0, execution, instantiation).
 
 ghost use Rattle.std.specs.Prelude.{◌≡◌, ◌+◌, ◌≤◌, true, length, slice_get, IfOk};
-ghost use Rattle.std.specs.List.{list_all};
-ghost use Rattle.thread_plan.specs.Segments.{elements_are_within, is_within, unsigned};
-ghost use Rattle.thread_step.specs.Opening.{with_functions, with_elements, empty_by, opening_table};
+ghost use Rattle.wasm_instance.specs.Segments.{elements_are_within};
+ghost use Rattle.wasm_instance.specs.Tables.{with_functions, empty_by, opening_table};
 
 use std::alloc::Global;
-use thread_words::word;
 use wasm_types::{Limits, Module, NoMemory};
 
 /// Puts functions into a table from a place on.
@@ -32,14 +30,14 @@ fn empty_table(alloc: Global, tables: &[Limits]) -> Result<Vec<Option<u32>>, NoM
     }
 }
 
-/// The table with which each thread of a module begins (WebAssembly Core 1.0, instantiation).
-pub(crate) fn first_table(alloc: Global, module: &Module) -> Result<Vec<Option<u32>>, NoMemory>
+/// The table with which a module opens: its segments are written in order.
+pub fn first_table(alloc: Global, module: &Module) -> Result<Vec<Option<u32>>, NoMemory>
     requires { elements_are_within «module».now ≡ true }
     ensures { IfOk result (λ table. table.items ≡ opening_table «module».now) }
 {
     let mut table = empty_table(alloc, module.tables.as_slice())?;
     for element in module.elements.as_slice() {
-        let at = word(element.offset);
+        let at = element.offset.bits();
         put_functions(&mut table, at as usize, element.functions.as_slice());
     }
     Ok(table)

@@ -1,7 +1,7 @@
 use Rattle.std.proofs.Common.{◌+◌, ap, ◌∙◌, slice_set}
 use Rattle.std.specs.Prelude.{Some, slice_index_or}
-use Rattle.integer_machine.proofs.Putting.{put_next}
-use Rattle.integer_machine.proofs.table.put_functions.Goals as goal
+use Rattle.wasm_instance.proofs.Putting.{put_next}
+use Rattle.wasm_instance.proofs.table.put_functions.Goals as goal
 
 pub loop-index-preserved : goal.loop-index-preserved
 loop-index-preserved c =

@@ -1,0 +1,4 @@
+pub mod Memories
+pub mod Tables
+pub mod Globals
+pub mod Segments
