@@ -3,6 +3,7 @@ use Rattle.std.specs.Prelude.{ℕ, zero, suc, ◌+◌, ◌*◌, ◌/◌, ◌==�
 use Rattle.std.specs.Int.{w64, to_be_bytes}
 use Rattle.std.specs.List.{list_all, flat_map}
 use Rattle.std.specs.Fmt.{decimal}
+use Rattle.wasm_types.specs.declared.sizes.TheConstants.{PAGE_SIZE}
 use Rattle.wasm_types.specs.declared.outcome.Outcome.{Outcome}
 use Rattle.wasm_types.specs.Text.{byte_text, outcome_text}
 use Rattle.event_core.specs.End.{RunEnd}
@@ -33,4 +34,4 @@ threads_text thread [] = []
 threads_text thread (outcome ∷ outcomes) = thread_text thread outcome ++ threads_text (thread + 1) outcomes
 
 abbrev pub report_text : RunEnd → List ℕ
-report_text end = codes "pages " ++ (decimal (length end.memory / 65536) ++ 10 ∷ (rows_text end.memory (length end.memory / 16) ++ threads_text 0 end.outcomes))
+report_text end = codes "pages " ++ (decimal (length end.memory / PAGE_SIZE) ++ 10 ∷ (rows_text end.memory (length end.memory / 16) ++ threads_text 0 end.outcomes))

@@ -8,10 +8,7 @@ use crate::row::HexBytes;
 use event_core::Ended;
 use std::alloc::Global;
 use std::fmt::Write;
-use wasm_types::{NoMemory, Outcome};
-
-/// The bytes of a page (WebAssembly Core 1.0, memory instances).
-const PAGE: usize = 65_536;
+use wasm_types::{NoMemory, Outcome, PAGE_SIZE};
 
 /// The bytes of a row.
 const ROW: usize = 16;
@@ -22,7 +19,7 @@ pub fn report(alloc: Global, ended: &Ended) -> Result<String, NoMemory>
     ensures { IfOk result (λ text. string_bytes text ≡ report_text ended.now) }
 {
     let memory = ended.memory();
-    let pages = memory.len() / PAGE;
+    let pages = memory.len() / PAGE_SIZE as usize;
     let mut text = format!(in alloc; "pages {pages}\n")?;
     write_rows(&mut text, memory)?;
     write_threads(&mut text, ended.outcomes())?;
