@@ -3,10 +3,7 @@
 PREFIX ?= /usr/local
 JOBS ?= $(shell nproc)
 PROGRAM = crates/wreplay/out/wreplay
-STEPS = crates/steps_bench/out/steps_bench
-ACCESSES = crates/accesses_bench/out/accesses_bench
-DECODE = crates/decode_bench/out/decode_bench
-MACHINE = crates/machine_bench/out/machine_bench
+BENCH = crates/wreplay_bench/out/wreplay_bench
 
 .PHONY: build try test bench growths install clean
 
@@ -25,29 +22,20 @@ test:
 	.ci/run
 
 # Speeds as ratios to named peers in the same run; docs/BENCH.md keeps them.
-bench: $(PROGRAM) $(STEPS) $(ACCESSES) $(DECODE) $(MACHINE)
+bench: $(PROGRAM) $(BENCH)
 	python3 bench/gather.py $(PROGRAM)
-	python3 bench/steps.py $(STEPS)
-	python3 bench/accesses.py $(ACCESSES)
-	-python3 bench/decode.py $(DECODE)
-	-python3 bench/machine.py $(MACHINE)
-	python3 bench/record.py $(PROGRAM) $(MACHINE)
+	python3 bench/steps.py $(BENCH)
+	python3 bench/accesses.py $(BENCH)
+	-python3 bench/decode.py $(BENCH)
+	-python3 bench/machine.py $(BENCH)
+	python3 bench/record.py $(PROGRAM) $(BENCH)
 
 # Refuses each growth of the program in turn, on recordings, replays and listings of the worked rows.
 growths: $(PROGRAM)
 	python3 bench/growths.py $(PROGRAM)
 
-$(STEPS): crates.txt $(wildcard crates/*/src/*.rt crates/*/specs/*.antt)
-	cd crates/steps_bench && rt run -- parts 0 >/dev/null
-
-$(ACCESSES): crates.txt $(wildcard crates/*/src/*.rt crates/*/specs/*.antt)
-	cd crates/accesses_bench && rt run -- load 1 64 0 >/dev/null
-
-$(DECODE): crates.txt $(wildcard crates/*/src/*.rt crates/*/specs/*.antt)
-	cd crates/decode_bench && rt run >/dev/null
-
-$(MACHINE): crates.txt $(wildcard crates/*/src/*.rt crates/*/specs/*.antt)
-	cd crates/machine_bench && rt run -- data/sieve.wasm data/sieve.plan >/dev/null
+$(BENCH): crates.txt $(wildcard crates/*/src/*.rt crates/*/specs/*.antt)
+	cd crates/wreplay_bench && rt run -- machine data/sieve.wasm data/sieve.plan >/dev/null
 
 install: $(PROGRAM)
 	install -D -m 755 $(PROGRAM) $(DESTDIR)$(PREFIX)/bin/wreplay

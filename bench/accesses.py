@@ -1,7 +1,7 @@
 #!/usr/bin/env python3
 """Measures what an access costs through a shared memory with its versions, beside the same access of a plain slice.
 
-usage: accesses.py PATH_OF_ACCESSES_BENCH [COUNT]
+usage: accesses.py PATH_OF_WREPLAY_BENCH [COUNT]
 
 A memory of one page in blocks of 64 bytes; COUNT loads, or stores, of four bytes, each 68 bytes behind the one before, so
 that each is of another block. Each access through the memory finds its block, counts its version, makes an entry and
@@ -30,7 +30,7 @@ ROWS = (
 def seconds(program, word, count):
     """The time of one run."""
     begin = time.perf_counter()
-    subprocess.run([program, word, "1", "64", str(count)], stdout=subprocess.DEVNULL, check=True)
+    subprocess.run([program, "accesses", word, "1", "64", str(count)], stdout=subprocess.DEVNULL, check=True)
     return time.perf_counter() - begin
 
 
@@ -38,7 +38,7 @@ def opening(program, word, pages):
     """The processor time of a run with no access, the least of nine, in milliseconds."""
     least = float("inf")
     for _ in range(ROUNDS):
-        process = subprocess.Popen([program, word, str(pages), "64", "0"], stdout=subprocess.DEVNULL)
+        process = subprocess.Popen([program, "accesses", word, str(pages), "64", "0"], stdout=subprocess.DEVNULL)
         _, status, used = os.wait4(process.pid, 0)
         process.returncode = os.waitstatus_to_exitcode(status)
         if status != 0:

@@ -1,10 +1,10 @@
 #!/usr/bin/env python3
 """Measures how fast modules of the greatest size are decoded and validated, one of each of the shapes that are hard.
 
-usage: decode.py PATH_OF_DECODE_BENCH
+usage: decode.py PATH_OF_WREPLAY_BENCH
 
-It writes each shape as a module of at most 1,048,576 bytes to a temporary folder and has `decode_bench` decode it, and
-decode and validate it, ROUNDS times in one process. What reading the file and starting take is timed with no round, and
+It writes each shape as a module of at most 1,048,576 bytes to a temporary folder and has
+`wreplay_bench decode` decode it, and decode and validate it, ROUNDS times in one process. What reading the file and starting take is timed with no round, and
 taken off; validating is the difference of the two. Times are processor time, of the program and of the system for it, the
 least of RUNS. The peer is `wasm-validate --enable-threads` of wabt, which decodes and validates once, less what it takes
 for an empty module; where it is not there, `sha256sum` over the same bytes, which does neither.
@@ -118,9 +118,9 @@ def measure(program, folder):
         assert len(module) <= MOST_BYTES, name
         with open(path, "wb") as file:
             file.write(module)
-        start, _ = seconds([program, "decode", path, "0"])
-        decoding, decoded = seconds([program, "decode", path, str(ROUNDS)])
-        both, validated = seconds([program, "validate", path, str(ROUNDS)])
+        start, _ = seconds([program, "decode", "decode", path, "0"])
+        decoding, decoded = seconds([program, "decode", "decode", path, str(ROUNDS)])
+        both, validated = seconds([program, "decode", "validate", path, str(ROUNDS)])
         other, _ = seconds(peer() + [path])
         size = len(module) / 1e6
         # seconds for each MB

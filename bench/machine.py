@@ -1,11 +1,11 @@
 #!/usr/bin/env python3
 """Measures how fast a thread runs alone over its memory, beside `wasm-interp` of wabt.
 
-usage: machine.py PATH_OF_MACHINE_BENCH
+usage: machine.py PATH_OF_WREPLAY_BENCH
 
 Each text of bench/modules is made a module by `wat2wasm`, and its function `run` is run by `wasm-interp` and by
-`machine_bench` in turn, ROUNDS times each. Both must give the same value. Through the memory of `machine_bench` each access
-finds its block, counts its version and makes an entry, as in a recorded run; `wasm-interp` does none of it. Times are user
+`wreplay_bench machine` in turn, ROUNDS times each. Both must give the same value. Through the memory of the
+latter each access finds its block, counts its version and makes an entry, as in a recorded run; `wasm-interp` does none of it. Times are user
 time, the least of the rounds, less what the program takes for a module whose function does nothing. It prints the steps,
 millions of steps a second, the seconds of both, and the ratio of the speeds. Without wabt it says so and ends with
 status 1; so it does where the values differ.
@@ -42,7 +42,7 @@ def measure(program, module, plan):
     for _ in range(ROUNDS):
         spent, peer_text = run(["wasm-interp", module, "--run-all-exports"])
         peer = min(peer, spent)
-        spent, text = run([program, module, plan])
+        spent, text = run([program, "machine", module, plan])
         ours = min(ours, spent)
     return peer, ours, peer_text, text
 

@@ -1,10 +1,11 @@
 #!/usr/bin/env python3
 """Measures how fast `wreplay` records a run by a schedule, and replays it.
 
-usage: record.py PATH_OF_WREPLAY PATH_OF_MACHINE_BENCH
+usage: record.py PATH_OF_WREPLAY PATH_OF_WREPLAY_BENCH
 
 Two modules are made, each with a function that goes round a loop: one computes alone, one adds 1 to a counter in memory at
-each turn. The peer is `machine_bench`, which runs the same function alone over its memory, with neither schedule nor log.
+each turn. The peer is `wreplay_bench machine`, which runs the same function alone over its memory, with
+neither schedule nor log.
 Recorded are one thread by one line of a schedule, `go 0 STEPS`, once with its report and once with its pieces, and two threads
 by lines of one step each in turn; the pieces of the recording by one line are replayed. A schedule has at most a million
 picks, so the peer goes round its loop LONGER times as often, for a time that can be measured. Times are processor time, the least
@@ -72,7 +73,7 @@ def written(folder, name, content):
 def alone(folder, bench, turns, has_access):
     """The seconds of the peer."""
     wasm = written(folder, "alone.wasm", module(turns, has_access))
-    return least([bench, wasm, written(folder, "one.plan", b"wreplay plan 1\nthread run\n")])
+    return least([bench, "machine", wasm, written(folder, "one.plan", b"wreplay plan 1\nthread run\n")])
 
 
 def measured(folder, wreplay, turns, has_access, steps, picks):

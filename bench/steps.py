@@ -1,7 +1,7 @@
 #!/usr/bin/env python3
 """Measures what a step of a world costs over the machine's and the space's own work.
 
-usage: steps.py PATH_OF_STEPS_BENCH [STEPS]
+usage: steps.py PATH_OF_WREPLAY_BENCH [STEPS]
 
 Four scripted threads make STEPS operations each on three cells, one of each thread in turn, half of them reads: once the
 machine's and the space's own calls alone, once as steps of a world with each entry looked at, and once as steps of a
@@ -22,7 +22,7 @@ def seconds(program, word, steps):
     best = float("inf")
     for _ in range(RUNS):
         begin = time.perf_counter()
-        subprocess.run([program, word, str(steps)], stdout=subprocess.DEVNULL, check=True)
+        subprocess.run([program, "steps", word, str(steps)], stdout=subprocess.DEVNULL, check=True)
         best = min(best, time.perf_counter() - begin)
     return best
 

@@ -17,6 +17,11 @@ const FUNCTIONS: &str = "\
     07250701690000016c0001000002067a77c3b66c66000203610d6200020374776f0003016d0200\
     0a0d0402000b02000b02000b02000b";
 
+// The counter: a shared memory, and a function `w` that takes nothing.
+const COUNTER: &str = "\
+    0105016000017f0302010005040103010107050101770000\
+    0a1501130041004101fe1e02001a41004101fe1e02000b";
+
 const FIRST: &str = "wreplay plan 1\n";
 
 fn valid(alloc: Global, sections: &str) -> Result<Valid, Fail> {
@@ -182,6 +187,25 @@ fn a_name_is_utf8(rt: HostRuntime) -> Result<(), Fail> {
 fn a_name_is_a_functions(rt: HostRuntime) -> Result<(), Fail> {
     let lines = ["thread x", "thread m", "thread \r", "thread I 1"];
     all_have(&rt, rt.alloc(), &lines, unknown(2))
+}
+
+// The counter runs by two threads. Two spaces stand round an empty name, which no function of it has; `f` is no
+// number.
+#[test]
+fn the_counter_has_a_plan(rt: HostRuntime) -> Result<(), Fail> {
+    for (text, wanted) in [
+        ("wreplay plan 1\nthread w\nthread w\n", None),
+        ("wreplay plan 1\nthread  f 1\n", bad(2)),
+        ("wreplay plan 1\nthread  1\n", unknown(2)),
+    ] {
+        same(
+            &rt,
+            fault(rt.alloc(), COUNTER, text.as_bytes())?,
+            wanted,
+            text,
+        );
+    }
+    Ok(())
 }
 
 #[test]

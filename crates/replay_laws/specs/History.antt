@@ -14,6 +14,7 @@ use Rattle.event_core.specs.declared.step.PickStep.TheVariants as step
 use Rattle.event_core.specs.Threads.{ThreadAt}
 use Rattle.event_core.specs.World.{WorldAt, step_of_pick, world_after}
 use Rattle.event_core.specs.Run.{world_run, IsRun, entries}
+use Rattle.wasm_types.specs.declared.sizes.TheConstants.{MOST_STEPS}
 
 -- an operation that a thread made, and what it answered
 pub record Call (Op Reply : Type 0) : Type 0 where
@@ -72,8 +73,8 @@ module _ {State Op Reply Fixed : Type 0} (code : Code State Op Reply Fixed) wher
   -- these steps lead a thread from state s to state u
   abbrev pub Leads : State → List (OwnStep Op Reply) → State → Type 0
   Leads s [] u = s ≡ u
-  Leads s (OwnLocal ∷ ds) u = (code.next s ≡ next.Local) × (code.steps s < 1000000000) × Leads (code.local s) ds u
-  Leads s (OwnCall input op reply ∷ ds) u = (op_at (code.next s) input ≡ Some op) × (code.steps s < 1000000000) × Leads (code.take s reply) ds u
+  Leads s (OwnLocal ∷ ds) u = (code.next s ≡ next.Local) × (code.steps s < MOST_STEPS) × Leads (code.local s) ds u
+  Leads s (OwnCall input op reply ∷ ds) u = (op_at (code.next s) input ≡ Some op) × (code.steps s < MOST_STEPS) × Leads (code.take s reply) ds u
 
 module _ {State Op Reply Value Fixed : Type 0} (space : Space Op Reply Value Fixed) (code : Code State Op Reply Fixed) where
   -- a legal history from a world, with each thread's own steps, of which its calls are its part of the history

@@ -4,6 +4,7 @@ use Rattle.rw_objects.specs.declared.entry.Entry.{Entry}
 use Rattle.log_pieces.specs.declared.end.End.{End}
 use Rattle.join_laws.specs.declared.flat.Flat.{Flat}
 use Rattle.join_laws.specs.declared.flat.Flat.TheVariants.{Known, Clash}
+use Rattle.wasm_types.specs.declared.sizes.TheConstants.{MOST_STEPS}
 
 -- by thread and place nothing, an entry or a clash, and by thread nothing, an end or a clash
 pub record Log : Type 0 where
@@ -39,4 +40,4 @@ pub record IsCompleteLog (n : ℕ) (log : Log) : Type 0 where
 
 -- no thread's known end has more than 1,000,000,000 steps
 abbrev pub HasLimits : Log → Type 0
-HasLimits log = (t : ℕ) (end : End) → log.end t ≡ Some (Known end) → end.steps ≤ 1000000000
+HasLimits log = (t : ℕ) (end : End) → log.end t ≡ Some (Known end) → end.steps ≤ MOST_STEPS

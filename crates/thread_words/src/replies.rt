@@ -10,9 +10,7 @@ ghost use Rattle.thread_words.specs.Moves.{Unchanged, HasWordLeft};
 
 use crate::operands::{drop_top, push, replace_top, three_operands, word};
 use crate::stacks::{Stacks, Stage};
-use wasm_types::{
-    Access, AtomicOp, Instr, Load, MemoryOp, Narrow, NoMemory, Outcome, PagesOp, Reply, ValType,
-};
+use wasm_types::{AtomicOp, Instr, Load, MemoryOp, NoMemory, Outcome, PagesOp, Reply, ValType};
 
 /// The low bits of a number that a value of a type has.
 fn low_bits(t: ValType, bits: u64) -> u64

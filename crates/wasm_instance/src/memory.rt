@@ -31,8 +31,8 @@ pub fn initial_pages(memory: Option<MemoryType>) -> u32
     }
 }
 
-/// The most pages that a memory can have in a profile: its declared maximum, at most 16 in profile 1 and 256 in profile 2.
-/// None without a memory.
+/// The most pages that a memory can have in a profile: its declared maximum, at most 16 in profile 1 and 256 in
+/// profile 2. None without a memory.
 pub fn capacity(memory: Option<MemoryType>, profile: &Profile) -> u32
     ensures { result ≡ capacity_by profile.now memory }
 {

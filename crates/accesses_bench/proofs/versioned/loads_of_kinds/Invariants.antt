@@ -1,7 +1,0 @@
--- So many operations were made.
-use Rattle.rw_objects.specs.Memory.{memory_of}
-use Rattle.accesses_bench.specs.Counted.{Counted}
-use Rattle.accesses_bench.proofs.versioned.loads_of_kinds.Given as goal
-
-abbrev pub invariant-loop-access : goal.invariant-loop-access
-invariant-loop-access l = Counted l.limits l.access (memory_of l.memory)
