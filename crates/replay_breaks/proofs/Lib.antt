@@ -4,3 +4,5 @@ pub mod Ending
 pub mod Taking
 pub mod Rounds
 pub mod Recorded
+pub mod LocalRounds
+pub mod RoundsOn

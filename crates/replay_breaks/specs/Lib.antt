@@ -3,3 +3,4 @@ pub mod Marks
 pub mod Tests
 pub mod Stops
 pub mod Rounds
+pub mod Clear

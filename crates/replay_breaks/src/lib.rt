@@ -1,6 +1,7 @@
 //! The stop of a replay at a break.
 #![tactic(auto)]
 
+mod ahead;
 mod breaks;
 mod marks;
 mod running;

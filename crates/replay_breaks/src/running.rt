@@ -7,6 +7,7 @@ ghost use Rattle.replay_breaks.specs.Tests.{holds_by, IsFirst, HoldsNone};
 ghost use Rattle.replay_breaks.specs.Breaks.{NoneHits};
 ghost use Rattle.replay_breaks.specs.Stops.{GoesOn, taken_of, is_step, is_held, is_passed_over, is_done, TurnStopsAt, StopsAt, StopsRight, StopsFree};
 
+use crate::ahead::{Pace, go_ahead};
 use crate::breaks::{Break, Stopped};
 use crate::marks::{Marks, marks_of};
 use event_core::World;
@@ -148,10 +149,10 @@ fn take_turn<M: Machine<S>, S: ObjectSpace, L: ReadLog, O: OpenWorld<M, S>>(
 
 /// Takes turns of a replay up to a break: a turn for each thread of the order, then rounds of threads 0, 1, .., until a
 /// break holds behind a turn that made a step, no thread has a step any more, or a turn is refused for divergence or want
-/// of memory. Threads that are done, that the log does not let pass, or of which it does not know are passed over. The
+/// of memory. Rounds of local steps, behind which no break can hold, are made many at a time. Threads that are done, that the log does not let pass, or of which it does not know are passed over. The
 /// replay can go on from there. On a log below that of a run no thread diverges; on the whole log of a run it is never
 /// stuck.
-pub fn run_to<M: Machine<S>, S: ObjectSpace, L: ReadLog, O: OpenWorld<M, S>>(
+pub fn run_to<M: Machine<S> + Drop, S: ObjectSpace, L: ReadLog, O: OpenWorld<M, S>>(
     alloc: Global,
     replay: &mut Replay<M, S, L, O>,
     order: &[u32],
@@ -173,6 +174,7 @@ pub fn run_to<M: Machine<S>, S: ObjectSpace, L: ReadLog, O: OpenWorld<M, S>>(
     let mut next: u32 = 0;
     let mut made = false;
     let mut held = false;
+    let mut pace = Pace::new();
     while made || next < count {
         if next < count {
             match take_turn(alloc, replay, next, breaks) {
@@ -184,6 +186,7 @@ pub fn run_to<M: Machine<S>, S: ObjectSpace, L: ReadLog, O: OpenWorld<M, S>>(
             }
             next += 1;
         } else {
+            pace = pace.behind(go_ahead(alloc, replay, breaks, pace.tries()));
             next = 0;
             made = false;
             held = false;

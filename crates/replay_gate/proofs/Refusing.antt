@@ -187,5 +187,8 @@ module _ {State Op Reply Value Fixed : Type 0} (space : Space Op Reply Value Fix
   free_merely log opened w t f o leads r picks run below complete =
       ∥∥₁_elim o (shut_prop f) (λ opening. ∥∥₁_elim leads (shut_prop f) (λ l. free_refusal log opened w t f opening l r picks run below complete))
 
+  pub leads_merely : (log : Log) (opened w v : WorldAt State Value Fixed) → ∥ Leads space code log opened w ∥₁ → Leads space code log w v → ∥ Leads space code log opened v ∥₁
+  leads_merely log opened w v leads more = ∥∥₁_map leads (λ l. leads_on space code log opened w v l more)
+
   pub turn_merely : (log : Log) → HasLimits log → (opened w v : WorldAt State Value Fixed) (t : ℕ) → ∥ Leads space code log opened w ∥₁ → v ≡ world_after_turn space code w t (turn_of space code log w t) → ∥ Leads space code log opened v ∥₁
   turn_merely log limits opened w v t leads after = ∥∥₁_map leads (λ l. turn_leads log limits opened w v t l after)

@@ -5,3 +5,4 @@ pub mod Shows
 pub mod Answers
 pub mod Rounds
 pub mod Turned
+pub mod LocalRounds

@@ -10,6 +10,7 @@ ghost use Rattle.replay_gate.specs.Turned.{answer_of_turn, TurnRefused, IsRightR
 ghost use Rattle.replay_gate.specs.declared.answers.ReplayFault.TheVariants as ReplayFault;
 
 use crate::answers::{ReplayFault, Turned};
+use crate::looking::make_local_rounds;
 use crate::read_log::ReadLog;
 use crate::replaying::OpenWorld;
 use crate::turn::take_turn;
@@ -45,6 +46,22 @@ impl<M: Machine<S>, S: ObjectSpace, L: ReadLog + Drop, O: OpenWorld<M, S> + Drop
             Ok(world) => Ok(Replay { opens, log, world }),
             Err(error) => Err(error),
         }
+    }
+}
+
+impl<M: Machine<S> + Drop, S: ObjectSpace, L: ReadLog, O: OpenWorld<M, S>> Replay<M, S, L, O> {
+    ghost use Rattle.std.specs.Prelude.{◌≤◌};
+    ghost use Rattle.replay_gate.specs.LocalRounds.{RoundsLead};
+
+    /// Makes rounds of turns of all threads, up to `most`, in which each thread makes a local step or none, and answers how
+    /// many. There may be fewer than come; none are made where memory is wanted.
+    pub fn local_rounds(&mut self, alloc: Global, most: u32) -> u32
+        ensures log { self.new.log ≡ self.old.log }
+        ensures opens { self.new.opens ≡ self.old.opens }
+        ensures few { result ≤ most }
+        ensures rounds { RoundsLead S.meaning M.code (L.log self.old.log) result (world_of self.old.world) (world_of self.new.world) }
+    {
+        make_local_rounds(alloc, &mut self.world, &self.log, most)
     }
 }
 

@@ -4,3 +4,4 @@ pub mod Fields
 pub mod Leaving
 pub mod Calling
 pub mod Accesses
+pub mod Copies

@@ -1,6 +1,11 @@
 //! The stacks of a thread.
 
-use wasm_types::{Extent, Outcome};
+ghost use Rattle.std.specs.Prelude.{◌≡◌, IfOk};
+ghost use Rattle.thread_words.specs.Words.{instance_at};
+ghost use Rattle.thread_words.specs.Copies.{AreCopied};
+
+use std::alloc::Global;
+use wasm_types::{Extent, NoMemory, Outcome};
 
 /// A block that is open.
 #[derive(Clone, Copy, Debug, PartialEq, Eq)]
@@ -49,6 +54,23 @@ pub struct Stacks {
     pub globals: Vec<u64>,
 }
 
+impl Stacks {
+    /// The same stacks once more.
+    pub fn copied(&self, alloc: Global) -> Result<Stacks, NoMemory>
+        ensures { IfOk result (AreCopied self.now) }
+    {
+        Ok(Stacks {
+            stage: self.stage,
+            here: self.here,
+            callers: self.callers.to_vec(alloc)?,
+            starting: self.starting,
+            words: self.words.to_vec(alloc)?,
+            labels: self.labels.to_vec(alloc)?,
+            globals: self.globals.to_vec(alloc)?,
+        })
+    }
+}
+
 /// What stays the same while a thread runs (WebAssembly Core 1.0, module instances).
 #[derive(Drop)]
 pub struct Instance {
@@ -62,4 +84,19 @@ pub struct Instance {
     pub shared: bool,
     /// The thread's own number.
     pub thread: u32,
+}
+
+impl Instance {
+    /// The same once more.
+    pub fn copied(&self, alloc: Global) -> Result<Instance, NoMemory>
+        ensures { IfOk result (λ copy. instance_at copy ≡ instance_at self.now) }
+    {
+        Ok(Instance {
+            table: self.table.to_vec(alloc)?,
+            extent: self.extent,
+            capacity: self.capacity,
+            shared: self.shared,
+            thread: self.thread,
+        })
+    }
 }

@@ -10,6 +10,8 @@ use Rattle.replay_breaks.specs.Stops.{GoesOn, taken_of, is_step, TurnStopsAt, Is
 use Rattle.replay_breaks.specs.Rounds.{IsInRound}
 use Rattle.replay_breaks.specs.declared.breaks.Stopped.TheVariants as stopped
 use Rattle.replay_breaks.proofs.Rounds.{steps_taken, at_length, turn_on, in_turn, round_start, round_again, of_round, round_on, ends_so, sticks_so}
+use Rattle.replay_gate.specs.LocalRounds.{RoundsLead}
+use Rattle.replay_breaks.proofs.RoundsOn.{steps_kept, rounds_on}
 use Rattle.replay_breaks.proofs.Recorded.{stops_right, stops_free}
 use Rattle.replay_breaks.proofs.running.run_to.Goals as goal
 
@@ -137,16 +139,33 @@ loop-made-preserved-then-next-count-2 g c =
       opens = c.take_turn-then-next-count-2.ensures.opens ∙ inv.opens;
     }
 
+pub loop-made-smaller : goal.loop-made-smaller
+loop-made-smaller g c =
+    let code = g.M.Machine.code in
+    let w = world_of c.loop-made.replay.world in
+    let v = world_of c.go_ahead.new.replay.world in
+    let grows = steps_kept g.S.ObjectSpace.meaning code g.met.M.Machine.laws (g.L.ReadLog.log c.loop-made.replay.log) c.go_ahead.result w v c.go_ahead.ensures.rounds in
+    let few = c.count-count.ensures.few in let past = c.if-next-count-2.false in grind (arith, grows, few, past)
+
 pub loop-made-preserved : goal.loop-made-preserved
 loop-made-preserved g c =
+    let space = g.S.ObjectSpace.meaning in
+    let code = g.M.Machine.code in
+    let log = g.L.ReadLog.log c.args.replay.now.log in
     let start = world_of c.args.replay.now.world in
+    let w = world_of c.loop-made.replay.world in
+    let v = world_of c.go_ahead.new.replay.world in
+    let order = c.args.order.now in
+    let breaks = c.args.breaks.now in
     let inv = c.loop-made.invariant in
     let past : length start.threads ≤ c.loop-made.next = let l = c.if-next-count-2.false in let n = inv.count in omega (arith, l, n) in
+    let begun = round_again space code log start order breaks c.loop-made.next c.loop-made.made c.loop-made.held w past inv.round in
     record {
-      round = round_again g.S.ObjectSpace.meaning g.M.Machine.code (g.L.ReadLog.log c.args.replay.now.log) start c.args.order.now c.args.breaks.now c.loop-made.next c.loop-made.made c.loop-made.held (world_of c.loop-made.replay.world) past inv.round;
+      round = rounds_on space code g.met.M.Machine.laws log start order breaks c.go_ahead.result w v
+          (subst (λ r. RoundsLead space code (g.L.ReadLog.log r) c.go_ahead.result w v) inv.log c.go_ahead.ensures.rounds) c.go_ahead.ensures.clear begun;
       count = inv.count;
-      log = inv.log;
-      opens = inv.opens;
+      log = c.go_ahead.ensures.log ∙ inv.log;
+      opens = c.go_ahead.ensures.opens ∙ inv.opens;
     }
 
 pub returns-then-held-clause-stops : goal.returns-then-held-clause-stops

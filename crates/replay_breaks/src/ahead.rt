@@ -1,0 +1,116 @@
+//! Rounds of local steps, made many at a time where no break can hold behind them.
+
+ghost use Rattle.std.specs.Prelude.{◌≡◌, ◌≤◌};
+ghost use Rattle.event_core.specs.World.{world_of};
+ghost use Rattle.replay_gate.specs.LocalRounds.{RoundsLead};
+ghost use Rattle.replay_breaks.specs.Clear.{IsClear, AreClear};
+
+use crate::breaks::Break;
+use event_core::World;
+use replay_gate::{OpenWorld, ReadLog, Replay};
+use rw_objects::{Machine, ObjectSpace};
+use std::alloc::Global;
+
+/// The fewest rounds that are tried at once, and the most.
+const FEWEST: u32 = 16;
+
+const MOST: u32 = 1_048_576;
+
+/// How many rounds of local steps are tried at once, and how many rounds are first made turn by turn. Where all that were
+/// tried could be made, twice as many are next; where hardly any could, none are tried for a while, so that threads that
+/// make many events are not copied at each. Only speed depends on it.
+#[derive(Clone, Copy, Debug, PartialEq, Eq)]
+pub(crate) struct Pace {
+    tries: u32,
+    pause: u32,
+}
+
+impl Pace {
+    /// The pace at the beginning.
+    pub(crate) fn new() -> Pace {
+        Pace {
+            tries: FEWEST,
+            pause: 0,
+        }
+    }
+
+    /// How many rounds are tried now.
+    pub(crate) fn tries(self) -> u32 {
+        if self.pause > 0 { 0 } else { self.tries }
+    }
+
+    /// The pace behind so many rounds that were made at once.
+    pub(crate) fn behind(self, made: u32) -> Pace {
+        if self.pause > 0 {
+            let pause = self.pause - 1;
+            Pace { pause, ..self }
+        } else if made < FEWEST {
+            Pace {
+                tries: FEWEST,
+                pause: FEWEST,
+            }
+        } else if made < self.tries {
+            Pace {
+                tries: made,
+                pause: 0,
+            }
+        } else {
+            Pace {
+                tries: self.tries.saturating_mul(2).min(MOST),
+                pause: 0,
+            }
+        }
+    }
+}
+
+/// How many rounds, up to so many, can be made before this break may hold behind a local step.
+fn clear_of<M: Machine<S>, S: ObjectSpace>(one: Break, world: &World<M, S>, most: u32) -> u32
+    ensures few { result ≤ most }
+    ensures clear { IsClear M.code (world_of world.now) result one }
+{
+    match one {
+        Break::Step { thread, steps } => match world.steps(thread) {
+            Some(made) => {
+                if made < steps {
+                    most.min(steps - made - 1)
+                } else {
+                    most
+                }
+            }
+            None => most,
+        },
+        Break::Place { .. } | Break::Write(_) => most,
+    }
+}
+
+/// How many rounds, up to so many, can be made before one of these breaks may hold behind a local step.
+fn clear_of_all<M: Machine<S>, S: ObjectSpace>(
+    breaks: &[Break],
+    world: &World<M, S>,
+    most: u32,
+) -> u32
+    ensures few { result ≤ most }
+    ensures clear { AreClear M.code (world_of world.now) result breaks.now }
+{
+    let mut clear = most;
+    for one in breaks {
+        clear = clear_of(*one, world, clear);
+    }
+    clear
+}
+
+/// Makes rounds of local steps, up to so many, where no break holds behind them. Answers how many.
+pub(crate) fn go_ahead<M: Machine<S> + Drop, S: ObjectSpace, L: ReadLog, O: OpenWorld<M, S>>(
+    alloc: Global,
+    replay: &mut Replay<M, S, L, O>,
+    breaks: &[Break],
+    most: u32,
+) -> u32
+    ensures log { replay.new.log ≡ replay.old.log }
+    ensures opens { replay.new.opens ≡ replay.old.opens }
+    ensures rounds { RoundsLead S.meaning M.code (L.log replay.old.log) result (world_of replay.old.world) (world_of replay.new.world) }
+    ensures clear { AreClear M.code (world_of replay.old.world) result breaks.now }
+{
+    let clear = clear_of_all(breaks, replay.world(), most);
+    replay.local_rounds(alloc, clear)
+}
