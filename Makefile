@@ -29,6 +29,7 @@ bench: $(PROGRAM) $(BENCH)
 	-python3 bench/decode.py $(BENCH)
 	-python3 bench/machine.py $(BENCH)
 	python3 bench/record.py $(PROGRAM) $(BENCH)
+	python3 bench/view.py $(PROGRAM) $(BENCH)
 
 # Refuses each growth of the program in turn, on recordings, replays and listings of the worked rows.
 growths: $(PROGRAM)

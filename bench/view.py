@@ -33,7 +33,7 @@ def log(folder, name, turns, threads):
     wasm = module(turns, False)
     plan = b"wreplay plan 1\n" + b"thread run\n" * threads
     digest = hashlib.sha256(wasm + plan).digest()
-    steps = turns * A_TURN + 3
+    steps = turns * A_TURN + 4
     end = b"\3" + turns.to_bytes(4, "little")
     lines = b"".join(piece(digest, thread, steps, end) for thread in range(threads))
     return [written(folder, name + ".wasm", wasm), written(folder, name + ".plan", plan), written(folder, name + ".pieces", lines)]

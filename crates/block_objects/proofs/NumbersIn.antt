@@ -28,7 +28,7 @@ some_bytes w64 = omega arith
 some_bytes w128 = omega arith
 
 -- a number depends on its bytes alone
-number_same : (w : Width) (at to : ℕ) (xs ys : List ℕ) → ((i : ℕ) → i < byte_len w → get_or (drop at xs) i 0 ≡ get_or (drop to ys) i 0) → number_at w at xs ≡ number_at w to ys
+pub number_same : (w : Width) (at to : ℕ) (xs ys : List ℕ) → ((i : ℕ) → i < byte_len w → get_or (drop at xs) i 0 ≡ get_or (drop to ys) i 0) → number_at w at xs ≡ number_at w to ys
 number_same w at to xs ys h =
     sum_same (λ i. byte_worth i (slice_index (drop at xs) i)) (λ i. byte_worth i (slice_index (drop to ys) i)) (byte_len w - 1)
     (λ i le. ap (byte_worth i) (h i (omega (arith, le, some_bytes w))))

@@ -1,6 +1,6 @@
 //! A memory's bytes.
 
-ghost use Rattle.std.specs.Prelude.{◌≡◌, ℕ, ◌*◌, ◌^◌, ◌≤◌, true, IfOk, Some, None};
+ghost use Rattle.std.specs.Prelude.{◌≡◌, ℕ, ◌*◌, ◌^◌, ◌≤◌, true, length, IfOk, Some, None};
 ghost use Rattle.std.specs.Int.{byte_len};
 ghost use Rattle.std.specs.List.{All};
 ghost use Rattle.wasm_types.specs.declared.operation.Reply.TheVariants as replies;
@@ -66,6 +66,29 @@ impl Blocks {
             pages: limits.initial,
             limits,
         })
+    }
+
+    /// A memory of this length with these bytes.
+    pub fn of(limits: MemoryLimits, pages: u32, bytes: Vec<u8>) -> Blocks
+        requires all_bytes { length bytes.items ≡ limits.capacity * PAGE_SIZE }
+        requires from_initial { limits.initial ≤ pages }
+        requires to_capacity { pages ≤ limits.capacity }
+        requires in_limit { limits.capacity ≤ 65536 }
+        ensures { result ≡ record { limits = limits; pages = pages; bytes = bytes.items } }
+    {
+        Blocks {
+            bytes,
+            pages,
+            limits,
+        }
+    }
+
+    /// All bytes, up to the capacity.
+    pub fn bytes(&self) -> &[u8]
+        ensures bytes { result.now ≡ self.now.bytes }
+        ensures all { length self.now.bytes ≡ self.now.limits.capacity * PAGE_SIZE }
+    {
+        &self.bytes
     }
 
     /// The numbers that stay.
@@ -208,7 +231,7 @@ impl Blocks {
 }
 
 /// What a read-modify-write stores; only the low bits of the access count.
-fn modify(op: RmwOp, old: u64, operand: u64) -> u64
+pub fn modify(op: RmwOp, old: u64, operand: u64) -> u64
     ensures { result ≡ modified op old operand }
 {
     match op {

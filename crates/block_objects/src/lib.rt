@@ -12,9 +12,11 @@ mod touch_table;
 mod waiter;
 mod within;
 
-pub use blocks::Blocks;
+pub use blocks::{Blocks, modify};
 pub use bounds::ends_within;
 pub use limits::MemoryLimits;
+pub use loads::{access_value, load_value};
+pub use numbers::{access_number, type_number};
 pub use object::ObjectValue;
 pub use touch_table::{block_number, kind, lone_block, touches};
 pub use waiter::Waiter;

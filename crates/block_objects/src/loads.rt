@@ -14,7 +14,7 @@ use wasm_types::{Access, Extension, Load, Narrow, ValType, Value};
 
 /// What a load answers at a place that has its bytes.
 #[inline(always)]
-pub(crate) fn load_value(bytes: &[u8], load: Load, at: usize) -> Value
+pub fn load_value(bytes: &[u8], load: Load, at: usize) -> Value
     requires { at + byte_len (load_width load) ≤ length bytes.now }
     ensures { result ≡ loaded load (number_at (load_width load) at bytes.now) }
 {
@@ -63,7 +63,7 @@ fn load_signed(bytes: &[u8], narrow: Narrow, at: usize) -> Value
 }
 
 /// The number that an access found as a value of its type.
-pub(crate) fn access_value(access: Access, number: u64) -> Value
+pub fn access_value(access: Access, number: u64) -> Value
     requires { number < 2 ^ bits (access_width access) }
     ensures { result ≡ value_of (access_type access) number }
 {

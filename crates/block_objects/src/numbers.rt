@@ -3,10 +3,11 @@
 ghost use Rattle.std.specs.Prelude.{◌≡◌, ◌+◌, ◌^◌, ◌<◌, ◌≤◌, length};
 ghost use Rattle.std.specs.Int.{w8, w16, w32, w64, byte_len};
 ghost use mir.Val.{bits};
-ghost use Rattle.block_objects.specs.Access.{number_at, with_number};
+ghost use Rattle.wasm_types.specs.Accesses.{type_width, access_width};
 ghost use Rattle.wasm_types.specs.Widths.{width_of};
+ghost use Rattle.block_objects.specs.Access.{number_at, with_number};
 
-use wasm_types::Width;
+use wasm_types::{Access, ValType, Width};
 
 /// The number of 8 bits at a place.
 pub(crate) fn u8_at(bytes: &[u8], at: usize) -> u8
@@ -76,4 +77,21 @@ pub(crate) fn write_number(bytes: &mut [u8], width: Width, at: usize, number: u6
         Width::Four => bytes[at..at + 4].copy_from_slice(&new[..4]),
         Width::Eight => bytes[at..at + 8].copy_from_slice(&new),
     }
+}
+
+/// The number of an access that stands at the beginning of some bytes.
+pub fn access_number(bytes: &[u8], access: Access) -> u64
+    requires { byte_len (access_width access) ≤ length bytes.now }
+    ensures number { result ≡ number_at (access_width access) 0 bytes.now }
+    ensures fits { result < 2 ^ bits (access_width access) }
+{
+    read_number(bytes, access.width(), 0)
+}
+
+/// The number of a type that stands at the beginning of some bytes.
+pub fn type_number(bytes: &[u8], of: ValType) -> u64
+    requires { byte_len (type_width of) ≤ length bytes.now }
+    ensures { result ≡ number_at (type_width of) 0 bytes.now }
+{
+    read_number(bytes, of.width(), 0)
 }

@@ -3,6 +3,7 @@ use Rattle.std.specs.Prelude.{◌≡◌, ◌⊎◌, ◌≤◌, ◌^◌, ◌||◌
 use Rattle.std.specs.Str.{bytes_eq}
 use Rattle.clap.specs.Words.{Text, Row, first_of, subcommand_of, fault_of, IsAmong}
 use Rattle.clap.specs.declared.error.kind.ErrorKind.TheVariants as kind
+use Rattle.wasm_types.specs.declared.sizes.TheConstants.{MOST_STEPS}
 use Rattle.command_words.specs.Words.{number_up_to, order_in, pair_in}
 use Rattle.command_words.specs.Commands.{program}
 use Rattle.command_words.specs.declared.requests.Request.{Request}
@@ -44,7 +45,7 @@ pub record IsRecordAsked (rows : List Row) (r : RecordRequest) : Type 0 where
   pub has_plan : first_of (codes "PLAN") rows ≡ Some r.plan.now
   pub has_schedule : first_of (codes "schedule") rows ≡ Some r.schedule.now
   pub has_run : number_of 18446744073709551615 (first_of (codes "run") rows) ≡ Some r.run
-  pub has_steps : number_of 1000000000 (first_of (codes "steps") rows) ≡ Some r.steps
+  pub has_steps : number_of MOST_STEPS (first_of (codes "steps") rows) ≡ Some r.steps
   pub has_size : number_of 4294967295 (first_of (codes "size") rows) ≡ Some r.size
   pub has_block : IsBlockOf (number_of 4294967295 (first_of (codes "block") rows)) r.block
   pub has_timeouts : (is_text (codes "never") (first_of (codes "timeouts") rows) || is_text (codes "now") (first_of (codes "timeouts") rows)) ≡ true

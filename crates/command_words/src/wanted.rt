@@ -15,10 +15,7 @@ use crate::numbers::{number_up_to, order_in, pair_in, small_number_up_to};
 use crate::requests::{ByteRange, RecordRequest, ReplayRequest, Request, ThreadCount, ViewRequest};
 use clap::ArgMatches;
 use std::alloc::Global;
-use wasm_types::{Block, NoMemory};
-
-/// The greatest number of steps that a thread may be allowed.
-const MOST_STEPS: u32 = 1_000_000_000;
+use wasm_types::{Block, MOST_STEPS, NoMemory};
 
 /// What is said where a value is missing, which clap does not let pass.
 const MISSING: &str = "error: a value is missing\n";

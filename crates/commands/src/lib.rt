@@ -9,7 +9,7 @@ mod gathered;
 mod program;
 mod recording;
 mod replaying;
-mod schedules;
+mod schedule_file;
 mod texts;
 mod viewing;
 

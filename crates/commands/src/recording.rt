@@ -9,13 +9,13 @@ ghost use Rattle.commands.specs.Records.{IsRecordInput, IsRecordInputRefused, Is
 use crate::fault::Fault;
 use crate::files::Files;
 use crate::program::{Program, read_program};
-use crate::schedules::read_schedule;
+use crate::schedule_file::read_schedule;
 use command_words::RecordRequest;
-use event_core::Pick;
 use log::Log;
 use log_pieces::{MOST_ENTRIES, Piece, line};
 use run_pieces::PiecesFault;
 use run_report::report;
+use schedules::Schedule;
 use std::alloc::Global;
 use wasm_record::{Recording, record_schedule};
 use wasm_types::NoMemory;
@@ -64,7 +64,7 @@ fn put_line(alloc: Global, text: &mut Vec<u8>, piece: &Piece) -> Result<(), NoMe
 #[derive(Drop)]
 struct RecordInput {
     program: Program,
-    picks: Vec<Pick>,
+    picks: Schedule,
 }
 
 /// The module, the plan and the picks in the files of a recording. The module is read and judged, then the plan, then the
@@ -75,7 +75,7 @@ fn read_record_input<L: Log, F: Files>(
     files: &mut F,
     request: &RecordRequest<'_>,
 ) -> Result<RecordInput, Fault>
-    ensures found { IfOk result (λ input. IsRecordInput (F.holds files.old) request.now input.program.valid input.program.plan input.picks.items) }
+    ensures found { IfOk result (λ input. IsRecordInput (F.holds files.old) request.now input.program.valid input.program.plan input.picks) }
     ensures suits { IfOk result (λ input. IsPlanOf input.program.valid input.program.plan) }
     ensures refused { IfErr result (λ fault. IsRecordInputRefused (F.holds files.old) (F.fails files.old) request.now fault) }
 {
@@ -114,7 +114,7 @@ fn record_input(
     request: &RecordRequest<'_>,
 ) -> Result<Vec<u8>, Fault>
     requires { IsPlanOf input.now.program.valid input.now.program.plan }
-    ensures recorded { IfOk result (λ text. IsRecording input.now.program.valid input.now.program.plan input.now.picks.items request.now text.items) }
+    ensures recorded { IfOk result (λ text. IsRecording input.now.program.valid input.now.program.plan input.now.picks request.now text.items) }
     ensures refused { IfErr result (IsRecordRefusal request.now.size) }
 {
     if let Err(fault) = check_size(request.size) {

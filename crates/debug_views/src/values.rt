@@ -9,9 +9,7 @@ use block_objects::MemoryLimits;
 use event_core::World;
 use rw_objects::{Count, Machine, ObjectSpace};
 use std::alloc::Global;
-
-/// The bytes of a page (WebAssembly Core 1.0, memory instances).
-pub(crate) const PAGE_SIZE: u64 = 65_536;
+use wasm_types::PAGE_SIZE;
 
 /// The bytes of the memory from an address on, so many of them.
 pub fn bytes<M: Machine<S>, S: ObjectSpace>(

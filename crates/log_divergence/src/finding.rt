@@ -9,16 +9,13 @@ use crate::doubles::add_doubles;
 use crate::writes::{WriteAt, add_thread};
 use replica::Log;
 use std::alloc::Global;
-use wasm_types::NoMemory;
-
-/// How many threads a log has.
-const THREADS: u32 = 16;
+use wasm_types::{MOST_THREADS, NoMemory};
 
 /// Adds the entries that clash, by thread and place.
 fn add_all_entries(found: &mut Vec<Diverging>, log: &Log) -> Result<(), NoMemory>
     ensures { OnOk result (found.new.items ≡ found.old.items ++ entry_clashes log.now) }
 {
-    for thread in 0..THREADS {
+    for thread in 0..MOST_THREADS as u32 {
         add_entries(found, log, thread)?;
     }
     Ok(())
@@ -28,7 +25,7 @@ fn add_all_entries(found: &mut Vec<Diverging>, log: &Log) -> Result<(), NoMemory
 fn add_all_ends(found: &mut Vec<Diverging>, log: &Log) -> Result<(), NoMemory>
     ensures { OnOk result (found.new.items ≡ found.old.items ++ end_clashes log.now) }
 {
-    for thread in 0..THREADS {
+    for thread in 0..MOST_THREADS as u32 {
         add_end(found, log, thread)?;
     }
     Ok(())
@@ -39,7 +36,7 @@ fn all_writes(alloc: Global, log: &Log) -> Result<Vec<WriteAt>, NoMemory>
     ensures { IfOk result (λ found. found.items ≡ writes log.now) }
 {
     let mut found = Vec::new(alloc);
-    for thread in 0..THREADS {
+    for thread in 0..MOST_THREADS as u32 {
         add_thread(&mut found, log, thread)?;
     }
     Ok(found)

@@ -1,7 +1,7 @@
 //! Why a schedule is refused.
 
-use std::alloc::{AllocError, AllocFailed};
 use thiserror::Error;
+use wasm_types::NoMemory;
 
 /// Why a schedule was not read. Lines are numbered from 1.
 #[derive(Clone, Copy, Debug, PartialEq, Eq, Error)]
@@ -14,24 +14,13 @@ pub enum ScheduleFault {
     NoMemory,
 }
 
-impl From<AllocError> for ScheduleFault {
+impl From<NoMemory> for ScheduleFault {
     ghost use Rattle.std.specs.Prelude.{◌≡◌};
     ghost use Rattle.pick_schedule.specs.declared.fault.ScheduleFault.TheVariants as schedule;
 
     ghost from_gives = { λ _ fault. fault ≡ schedule.NoMemory };
 
-    fn from(_error: AllocError) -> ScheduleFault {
-        ScheduleFault::NoMemory
-    }
-}
-
-impl<T: Drop> From<AllocFailed<T>> for ScheduleFault {
-    ghost use Rattle.std.specs.Prelude.{◌≡◌};
-    ghost use Rattle.pick_schedule.specs.declared.fault.ScheduleFault.TheVariants as schedule;
-
-    ghost from_gives = { λ _ fault. fault ≡ schedule.NoMemory };
-
-    fn from(_error: AllocFailed<T>) -> ScheduleFault {
+    fn from(_error: NoMemory) -> ScheduleFault {
         ScheduleFault::NoMemory
     }
 }

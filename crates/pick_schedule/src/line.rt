@@ -5,7 +5,9 @@ ghost use Rattle.text_lines.specs.Parts.{words};
 ghost use Rattle.pick_schedule.specs.Schedule.{number_in, picks_of};
 
 use event_core::{Input, Pick};
+use schedules::{MOST_PICKS, Stretch};
 use text_lines::{Parts, bits_32, is_integer};
+use wasm_types::LAST_THREAD;
 
 /// The word of a line by which a thread goes on.
 const GO: &[u8] = b"go";
@@ -13,24 +15,10 @@ const GO: &[u8] = b"go";
 /// The word of a line by which the wait of a thread times out.
 const OUT: &[u8] = b"out";
 
-/// The greatest number of a thread.
-const LAST_THREAD: u32 = 15;
-
-/// The most picks of a line, and of a schedule.
-pub(crate) const MOST_PICKS: u32 = 1_000_000;
-
-/// Equal picks, one after the other.
-#[derive(Clone, Copy, Debug)]
-pub(crate) struct Stretch {
-    pub(crate) pick: Pick,
-    /// How many there are, at least one.
-    pub(crate) count: u32,
-}
-
 /// The picks of a line; None where it is no line of a schedule.
 pub(crate) fn stretch_of(line: &[u8]) -> Option<Stretch>
-    ensures picks { option_map (λ s. replicate s.count s.pick) result ≡ picks_of (words line.now) }
-    ensures some { IfSome result (λ s. 0 < s.count) }
+    ensures picks { option_map (λ s. replicate s.times s.pick) result ≡ picks_of (words line.now) }
+    ensures some { IfSome result (λ s. 0 < s.times) }
 {
     let mut parts = Parts::new(line, b' ');
     let word = parts.take_part()?;
@@ -46,8 +34,8 @@ pub(crate) fn stretch_of(line: &[u8]) -> Option<Stretch>
 
 // The pick of `out T`.
 fn time_out(word: &[u8], thread: &[u8]) -> Option<Stretch>
-    ensures picks { option_map (λ s. replicate s.count s.pick) result ≡ picks_of (word.now ∷ thread.now ∷ []) }
-    ensures some { IfSome result (λ s. 0 < s.count) }
+    ensures picks { option_map (λ s. replicate s.times s.pick) result ≡ picks_of (word.now ∷ thread.now ∷ []) }
+    ensures some { IfSome result (λ s. 0 < s.times) }
 {
     if word != OUT {
         return None;
@@ -56,24 +44,24 @@ fn time_out(word: &[u8], thread: &[u8]) -> Option<Stretch>
     let input = Input::TimeOut;
     Some(Stretch {
         pick: Pick { thread, input },
-        count: 1,
+        times: 1,
     })
 }
 
 // The picks of `go T N`.
 fn go(word: &[u8], thread: &[u8], count: &[u8]) -> Option<Stretch>
-    ensures picks { option_map (λ s. replicate s.count s.pick) result ≡ picks_of (word.now ∷ thread.now ∷ count.now ∷ []) }
-    ensures some { IfSome result (λ s. 0 < s.count) }
+    ensures picks { option_map (λ s. replicate s.times s.pick) result ≡ picks_of (word.now ∷ thread.now ∷ count.now ∷ []) }
+    ensures some { IfSome result (λ s. 0 < s.times) }
 {
     if word != GO {
         return None;
     }
     let thread = number(thread, 0, LAST_THREAD)?;
-    let count = number(count, 1, MOST_PICKS)?;
+    let times = number(count, 1, MOST_PICKS)?;
     let input = Input::Go;
     Some(Stretch {
         pick: Pick { thread, input },
-        count,
+        times,
     })
 }
 

@@ -1,12 +1,12 @@
 //! Schedules.
 
-ghost use Rattle.std.specs.Prelude.{◌≡◌, ◌++◌, Ok, IfOk, IfErr, OnOk, replicate};
+ghost use Rattle.std.specs.Prelude.{◌≡◌, Ok, IfOk, IfErr};
 ghost use Rattle.pick_schedule.specs.Schedule.{schedule_of, IsFaultOf};
 
 use crate::fault::ScheduleFault;
-use crate::line::{MOST_PICKS, Stretch, stretch_of};
-use event_core::Pick;
-use std::alloc::{AllocError, Global};
+use crate::line::stretch_of;
+use schedules::Schedule;
+use std::alloc::Global;
 use text_lines::{Parts, without_end};
 
 /// Reads the picks of a schedule.
@@ -14,11 +14,11 @@ use text_lines::{Parts, without_end};
 /// Each line is `go T N`, thread T goes on N times, or `out T`, the wait of thread T times out: T from 0 to 15, N from 1 to
 /// 1,000,000, in decimal, with a single space between two words. The last line may lack its line end, and a text of no
 /// bytes has no line. The first line that is of another form, or brings the picks above 1,000,000, is answered.
-pub fn schedule(alloc: Global, text: &[u8]) -> Result<Vec<Pick>, ScheduleFault>
-    ensures ok { IfOk result (λ picks. schedule_of text.now ≡ Ok picks.items) }
+pub fn schedule(alloc: Global, text: &[u8]) -> Result<Schedule, ScheduleFault>
+    ensures ok { IfOk result (λ picks. schedule_of text.now ≡ Ok picks) }
     ensures err { IfErr result (λ fault. IsFaultOf (schedule_of text.now) fault) }
 {
-    let mut picks = Vec::new(alloc);
+    let mut picks = Schedule::new(alloc);
     if text.is_empty() {
         return Ok(picks);
     }
@@ -28,21 +28,11 @@ pub fn schedule(alloc: Global, text: &[u8]) -> Result<Vec<Pick>, ScheduleFault>
         let Some(stretch) = stretch_of(line) else {
             return Err(ScheduleFault::BadLine { line: number });
         };
-        if stretch.count as usize > MOST_PICKS as usize - picks.len() {
+        if stretch.times > picks.room() {
             return Err(ScheduleFault::BadLine { line: number });
         }
-        put(&mut picks, stretch)?;
+        picks.push(stretch.pick, stretch.times)?;
         number += 1;
     }
     Ok(picks)
-}
-
-// Puts equal picks behind others.
-fn put(picks: &mut Vec<Pick>, stretch: Stretch) -> Result<(), AllocError>
-    ensures { OnOk result (picks.new.items ≡ picks.old.items ++ replicate stretch.count stretch.pick) }
-{
-    for _ in 0..stretch.count {
-        picks.push(stretch.pick)?;
-    }
-    Ok(())
 }

@@ -1,5 +1,6 @@
 use crate::*;
 use event_core::{Input, Pick};
+use schedules::Stretch;
 use std::alloc::Global;
 use std::test::Fail;
 
@@ -23,7 +24,14 @@ fn a_schedule_is_read(rt: HostRuntime) -> Result<(), Fail> {
         thread: 15,
         input: Input::TimeOut,
     };
-    assert!(rt; picks.as_slice() == [go, go, out].as_slice());
+    let stretches = [
+        Stretch { pick: go, times: 2 },
+        Stretch {
+            pick: out,
+            times: 1,
+        },
+    ];
+    assert!(rt; picks.stretches() == stretches.as_slice());
     Ok(())
 }
 

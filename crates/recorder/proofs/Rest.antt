@@ -1,5 +1,6 @@
 -- What is left of a recording.
-use Rattle.std.proofs.Common.{◌≡◌, ◌≢◌, ℕ, zero, suc, ◌+◌, ◌<◌, ◌==◌, ◌&&◌, Bool, true, false, cond, List, [], ◌∷◌, ◌++◌, length, Option, Some, None, slice_get, replicate, get_or, drop, drop-cons, add-one, sym, ap, ◌∙◌, refl, arith, inl, inr}
+use Rattle.std.proofs.Common.{slice_set, get_or, ◌≡◌, ◌≢◌, ℕ, zero, suc, ◌+◌, ◌<◌, ◌==◌, ◌&&◌, Bool, true, false, cond, List, [], ◌∷◌, ◌++◌, length, Option, Some, None, slice_get, replicate, sym, ap, ◌∙◌, refl, arith, inl, inr}
+use Rattle.std.specs.Prelude.{Result, Ok, Err, OnOk, OnErr}
 use Rattle.std.proofs.lemmas.List.{append-nil}
 use Rattle.std.proofs.lemmas.Bool.Decides.{eqb_tells}
 use Rattle.rw_objects.specs.Code.{Code}
@@ -64,6 +65,28 @@ module _ {State Op Reply Value Fixed : Type 0} (space : Space Op Reply Value Fix
   passed_step steps w v p ps true e is = let k : count_passed (if_ok (answer_of_step space code w (step_of_pick space code w p))) ≡ 0 = taken_counts_none w (step_of_pick space code w p) (second (has_steps_left code steps (slice_get w.threads p.thread)) (is_enabled (step_of_pick space code w p)) e) in rw (e, is) (omega (arith, k))
   passed_step steps w v p ps false e is = rw (e, is) refl
 
+  some_taken : (w : WorldAt State Value Fixed) (j : PickStep Op) → is_enabled j ≡ true → if_ok (answer_of_step space code w j) ≡ None → ⊥
+  some_taken w (step.Refused f) h e = cc
+  some_taken w step.Local h e = cc
+  some_taken w (step.Event op) h e = cc
+
+  is_passed_by : (steps : ℕ) (w : WorldAt State Value Fixed) (p : Pick) (b : Bool) → is_taken space code steps w p ≡ b → cond b (if_ok (answer_of_step space code w (step_of_pick space code w p))) None ≡ None → is_taken space code steps w p ≡ false
+  is_passed_by steps w p true e none = absurd (some_taken w (step_of_pick space code w p) (second (has_steps_left code steps (slice_get w.threads p.thread)) (is_enabled (step_of_pick space code w p)) e) none)
+  is_passed_by steps w p false e none = e
+
+  -- a pick that has no step is passed over
+  pub is_passed : (steps : ℕ) (w : WorldAt State Value Fixed) (p : Pick) → step_taken space code steps w p ≡ None → is_taken space code steps w p ≡ false
+  is_passed steps w p none = is_passed_by steps w p (is_taken space code steps w p) refl none
+
+  -- and so are those that follow it
+  pub none_taken : (steps : ℕ) (w : WorldAt State Value Fixed) (p : Pick) (n : ℕ) → is_taken space code steps w p ≡ false → picks_taken space code steps w (replicate n p) ≡ []
+  none_taken steps w p zero e = refl
+  none_taken steps w p (suc n) e = rw e (none_taken steps w p n e)
+
+  pub all_passed : (steps : ℕ) (w : WorldAt State Value Fixed) (p : Pick) (n : ℕ) → is_taken space code steps w p ≡ false → picks_passed space code steps w (replicate n p) ≡ n
+  all_passed steps w p zero e = refl
+  all_passed steps w p (suc n) e = let more = all_passed steps w p n e in rw e (omega (arith, more))
+
   below_within : (steps : ℕ) (ts : List (ThreadAt State)) (t : ℕ) (o : Option (ThreadAt State)) → slice_get ts t ≡ o → has_steps_left code steps o ≡ true → t < length ts
   below_within steps ts t None e h = absurd (cc)
   below_within steps ts t (Some th) e h = slice_get_within ts t th e
@@ -110,15 +133,27 @@ list_length f [] by = refl
 list_length f (x ∷ xs) zero = refl
 list_length f (x ∷ xs) (suc by) = ap suc (list_length f xs by)
 
-pub noted_none : (lists : List (List Entry)) (passed by : ℕ) → IsNoted lists lists passed (passed + 1) by None
-noted_none lists passed by = record { logs = λ t h. sym (append-nil _); passed = refl; len = refl }
+pub noted_local : (lists : List (List Entry)) (by : ℕ) → IsNoted lists lists by (Some stepped.Local)
+noted_local lists by = record { logs = λ t h. sym (append-nil _); len = refl }
 
-pub noted_local : (lists : List (List Entry)) (passed by : ℕ) → IsNoted lists lists passed passed by (Some stepped.Local)
-noted_local lists passed by = record { logs = λ t h. sym (append-nil _); passed = omega arith; len = refl }
+pub noted_event : (lists news : List (List Entry)) (by : ℕ) (e : Entry) → news ≡ change_at lists by (λ es. es ++ e ∷ []) → IsNoted lists news by (Some (stepped.Event e))
+noted_event lists news by e is = record { logs = λ t h. rw is (list_push lists by t e h); len = ap length is ∙ list_length _ lists by }
 
-pub noted_event : (lists news : List (List Entry)) (passed by : ℕ) (e : Entry) → news ≡ change_at lists by (λ es. es ++ e ∷ []) → IsNoted lists news passed passed by (Some (stepped.Event e))
-noted_event lists news passed by e is = record { logs = λ t h. rw is (list_push lists by t e h); passed = omega arith; len = ap length is ∙ list_length _ lists by }
+-- lists of which one is written
+pub list_written : (f : List Entry → List Entry) (lists : List (List Entry)) (i : ℕ) (x y : List Entry) → i < length lists → x ≡ get_or lists i x → y ≡ f x → slice_set lists i y ≡ change_at lists i f
+list_written f [] i x y h e is = absurd (omega arith)
+list_written f (l ∷ ls) zero x y h e is = ap (λ z. z ∷ ls) (is ∙ ap f e)
+list_written f (l ∷ ls) (suc i) x y h e is = ap (λ zs. l ∷ zs) (list_written f ls i x y (omega (arith, h)) e is)
 
--- the picks that are left, from one that is read on
-pub picks_here : (ps : List Pick) (i : ℕ) (d : Pick) → i < length ps → drop i ps ≡ get_or ps i d ∷ drop (i + 1) ps
-picks_here ps i d h = rw add-one (drop-cons ps i d h)
+pub list_stays : (lists : List (List Entry)) (i : ℕ) (x y : List Entry) → i < length lists → x ≡ get_or lists i x → y ≡ x → slice_set lists i y ≡ lists
+list_stays [] i x y h e is = absurd (omega arith)
+list_stays (l ∷ ls) zero x y h e is = ap (λ z. z ∷ ls) (is ∙ e)
+list_stays (l ∷ ls) (suc i) x y h e is = ap (λ zs. l ∷ zs) (list_stays ls i x y (omega (arith, h)) e is)
+
+pub where_ok : {E : Type 0} (P Q : Type 0) (r : Result (Unit {0}) E) → (P → Q) → OnOk r P → OnOk r Q
+where_ok P Q (Ok x) f p = f p
+where_ok P Q (Err e) f p = tt
+
+pub where_err : {E : Type 0} (P Q : Type 0) (r : Result (Unit {0}) E) → (P → Q) → OnErr r P → OnErr r Q
+where_err P Q (Ok x) f p = tt
+where_err P Q (Err e) f p = f p

@@ -1,7 +1,8 @@
 -- Picks that are recorded one behind the other.
-use Rattle.std.proofs.Common.{◌≡◌, ℕ, zero, suc, ◌+◌, ◌<◌, ◌≤◌, Bool, true, false, cond, List, [], ◌∷◌, ◌++◌, length, take, drop, replicate, Option, refl, sym, ap, ◌∙◌, subst, arith, append_assoc}
-use Rattle.std.proofs.Math.Seq.{take-add}
-use Rattle.std.proofs.lemmas.List.{append-nil, replicate_more}
+use Rattle.std.proofs.Common.{◌≡◌, ℕ, zero, suc, ◌+◌, ◌<◌, ◌≤◌, Bool, true, false, cond, List, [], ◌∷◌, ◌++◌, length, take, get_or, replicate, Some, None, refl, sym, ap, ◌∙◌, subst, arith, append_assoc}
+use Rattle.std.proofs.Math.Seq.{take-suc}
+use Rattle.std.proofs.lemmas.List.{append-nil, take_all}
+use Rattle.std.proofs.lemmas.Grind.{flat_map-append}
 use Rattle.event_core.proofs.Places.{length_run}
 use Rattle.rw_objects.specs.declared.entry.Entry.{Entry}
 use Rattle.rw_objects.specs.Code.{Code, CodeLaws}
@@ -14,26 +15,20 @@ use Rattle.replay_laws.proofs.Orders.{world_joined}
 use Rattle.recorder.specs.Picks.{is_taken, step_taken, picks_taken, picks_passed}
 use Rattle.recorder.specs.Recorded.{list_at, count_passed, entries_added, IsNoted, IsBatch, AreRecorded}
 use Rattle.recorder.proofs.Batches.{batch_recorded}
-use Rattle.recorder.proofs.Rest.{entries_step, world_step, passed_step}
-
--- a stretch with one pick more
-pub stretch_more : (xs ds : List Pick) (n at : ℕ) (p : Pick) → ds ≡ replicate n p ++ drop at xs → drop at xs ≡ p ∷ drop (at + 1) xs → ds ≡ replicate (n + 1) p ++ drop (at + 1) xs
-stretch_more xs ds n at p e next =
-    e ∙ (ap (λ l. replicate n p ++ l) next ∙ (sym (append_assoc (replicate n p) (p ∷ []) (drop (at + 1) xs)) ∙ ap (λ l. l ++ drop (at + 1) xs) (replicate_more n p)))
+use Rattle.recorder.proofs.Rest.{entries_step, world_step, passed_step, is_passed, none_taken, all_passed}
+use Rattle.schedules.specs.declared.schedule.Stretch.{Stretch}
+use Rattle.schedules.specs.Stretches.{picks_of, picks_in}
 
 -- a stretch in two parts
 pub stretch_parts : (m n : ℕ) (p : Pick) → replicate m p ++ replicate n p ≡ replicate (m + n) p
 stretch_parts zero n p = let z : n ≡ 0 + n = omega arith in ap (λ k. replicate k p) z
 stretch_parts (suc m) n p = let z : suc (m + n) ≡ suc m + n = omega arith in ap (λ l. p ∷ l) (stretch_parts m n p) ∙ ap (λ k. replicate k p) z
 
--- the first picks of a list that goes on so
-beginning : (n : ℕ) (p : Pick) (rest : List Pick) → take n (replicate n p ++ rest) ≡ replicate n p
-beginning zero p rest = refl
-beginning (suc n) p rest = ap (λ l. p ∷ l) (beginning n p rest)
-
--- the picks up to the end of a stretch
-pub stretch_taken : (xs : List Pick) (at n : ℕ) (p : Pick) (rest : List Pick) → drop at xs ≡ replicate n p ++ rest → take at xs ++ replicate n p ≡ take (at + n) xs
-stretch_taken xs at n p rest e = sym (take-add at n xs ∙ ap (λ l. take at xs ++ l) (ap (take n) e ∙ beginning n p rest))
+-- the picks of one stretch more
+stretches_more : (ss : List Stretch) (d : Stretch) (i : ℕ) (s : Stretch) → i < length ss → s ≡ get_or ss i d → picks_in (take i ss) ++ replicate s.times s.pick ≡ picks_in (take (suc i) ss)
+stretches_more ss d i s l is =
+    ap (λ x. picks_in (take i ss) ++ picks_of x) is ∙ ap (λ l. picks_in (take i ss) ++ l) (sym (append-nil (picks_of (get_or ss i d))))
+    ∙ sym (flat_map-append picks_of (take i ss) (get_or ss i d ∷ [])) ∙ ap picks_in (sym (take-suc ss i d l))
 
 module _ {State Op Reply Value Fixed : Type 0} (space : Space Op Reply Value Fixed) (code : Code State Op Reply Fixed) (steps : ℕ) where
   -- the picks that are taken of a list in two parts
@@ -103,10 +98,10 @@ module _ {State Op Reply Value Fixed : Type 0} (space : Space Op Reply Value Fix
       }
 
   -- one pick, whose step was noted
-  pub one_recorded : (p : Pick) (w v : WorldAt State Value Fixed) (lists news : List (List Entry)) (before after : ℕ) (o : Option Stepped)
-      → o ≡ step_taken space code steps w p → v ≡ cond (is_taken space code steps w p) (world_after space code w p) w → IsNoted lists news before after p.thread o
-      → AreRecorded space code steps (p ∷ []) w v lists news before after
-  one_recorded p w v lists news before after o is moved noted =
+  pub one_recorded : (p : Pick) (w v : WorldAt State Value Fixed) (lists news : List (List Entry)) (passed : ℕ) (s : Stepped)
+      → Some s ≡ step_taken space code steps w p → v ≡ cond (is_taken space code steps w p) (world_after space code w p) w → IsNoted lists news p.thread (Some s)
+      → AreRecorded space code steps (p ∷ []) w v lists news passed passed
+  one_recorded p w v lists news passed s is moved noted =
       let b = is_taken space code steps w p in
       record {
         world = sym (world_step space code steps w v p [] b refl moved);
@@ -114,10 +109,25 @@ module _ {State Op Reply Value Fixed : Type 0} (space : Space Op Reply Value Fix
             noted.logs t h ∙ ap (λ l. list_at lists t ++ l)
             (sym (entries_step space code steps w v p [] t b refl moved ∙ append-nil _ ∙ ap (entries_added p.thread t) (sym is)));
         passed =
-            let x = noted.passed ∙ ap (λ s. before + count_passed s) is in
+            let x : count_passed (step_taken space code steps w p) ≡ 0 = ap count_passed (sym is) in
             let y = passed_step space code steps w v p [] b refl moved in
             omega (arith, x, y);
         len = noted.len;
+      }
+
+  -- a pick that is passed over changes nothing, however often it comes
+  pub passed_recorded : (p : Pick) (n : ℕ) (w v : WorldAt State Value Fixed) (lists : List (List Entry)) (passed : ℕ)
+      → None ≡ step_taken space code steps w p → v ≡ cond (is_taken space code steps w p) (world_after space code w p) w
+      → AreRecorded space code steps (replicate n p) w v lists lists passed (passed + n)
+  passed_recorded p n w v lists passed is moved =
+      let over = is_passed space code steps w p (sym is) in
+      let none = none_taken space code steps w p n over in
+      let stays : v ≡ w = moved ∙ ap (λ b. cond b (world_after space code w p) w) over in
+      record {
+        world = stays ∙ ap (world_run space code w) (sym none);
+        logs = λ t h. sym (ap (λ ps. list_at lists t ++ entries space code w ps t) none ∙ append-nil (list_at lists t));
+        passed = let all = all_passed space code steps w p n over in omega (arith, all);
+        len = refl;
       }
 
   -- a stretch in two parts
@@ -130,10 +140,18 @@ module _ {State Op Reply Value Fixed : Type 0} (space : Space Op Reply Value Fix
       → AreRecorded space code steps (replicate m p) w v one two a b → IsBatch space code steps p n v u → AreRecorded space code steps (replicate (m + n) p) w u one two a b
   batch_joined rules p m n w v u one two a b r batch = stretch_joined p m n w v u one two two a b b r (batch_recorded space code rules steps p n v u two b batch)
 
-  pub one_more_recorded : (p : Pick) (m : ℕ) (w v u : WorldAt State Value Fixed) (one two three : List (List Entry)) (a b c : ℕ)
-      → AreRecorded space code steps (replicate m p) w v one two a b → AreRecorded space code steps (p ∷ []) v u two three b c → AreRecorded space code steps (replicate (m + 1) p) w u one three a c
-  one_more_recorded p m w v u one two three a b c r s =
-      subst (λ ps. AreRecorded space code steps ps w u one three a c) (replicate_more m p) (recorded_joined (replicate m p) (p ∷ []) w v u one two three a b c r s)
+  -- the stretches of a list, and one more
+  pub one_more_stretch : (ss : List Stretch) (d : Stretch) (i : ℕ) (s : Stretch) (w v u : WorldAt State Value Fixed) (one two three : List (List Entry)) (a b c : ℕ) → i < length ss → s ≡ get_or ss i d
+      → AreRecorded space code steps (picks_in (take i ss)) w v one two a b → AreRecorded space code steps (replicate s.times s.pick) v u two three b c
+      → AreRecorded space code steps (picks_in (take (suc i) ss)) w u one three a c
+  one_more_stretch ss d i s w v u one two three a b c l is r more =
+      subst (λ ps. AreRecorded space code steps ps w u one three a c) (stretches_more ss d i s l is)
+      (recorded_joined (picks_in (take i ss)) (replicate s.times s.pick) w v u one two three a b c r more)
+
+  -- all stretches of a list
+  pub all_stretches : (ss : List Stretch) (i : ℕ) (ps : List Pick) (w v : WorldAt State Value Fixed) (lists news : List (List Entry)) (a b : ℕ) → length ss ≤ i → picks_in ss ≡ ps
+      → AreRecorded space code steps (picks_in (take i ss)) w v lists news a b → AreRecorded space code steps ps w v lists news a b
+  all_stretches ss i ps w v lists news a b past are r = subst (λ qs. AreRecorded space code steps qs w v lists news a b) (ap picks_in (take_all i ss past) ∙ are) r
 
   -- each thread has a list, as before
   pub still_threads : (ps : List Pick) (w v : WorldAt State Value Fixed) (lists news : List (List Entry)) (a b : ℕ) → AreRecorded space code steps ps w v lists news a b → length lists ≡ length w.threads → length news ≡ length v.threads

@@ -34,9 +34,8 @@ IsThread n thread (Some stepped.Local) = Unit {0}
 IsThread n thread (Some (stepped.Event e)) = thread < n
 
 -- the step of a pick of thread by was noted
-pub record IsNoted (lists news : List (List Entry)) (before after by : ℕ) (o : Option Stepped) : Type 0 where
+pub record IsNoted (lists news : List (List Entry)) (by : ℕ) (o : Option Stepped) : Type 0 where
   pub logs : (t : ℕ) → t < length lists → list_at news t ≡ list_at lists t ++ entries_added by t o
-  pub passed : after ≡ before + count_passed o
   pub len : length news ≡ length lists
 
 module _ {State Op Reply Value Fixed : Type 0} (space : Space Op Reply Value Fixed) (code : Code State Op Reply Fixed) (steps : ℕ) where

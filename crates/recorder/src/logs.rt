@@ -1,26 +1,27 @@
 //! The entries of each thread, while a run is recorded.
 
-ghost use Rattle.std.specs.Prelude.{◌≡◌, ◌<◌, ◌∷◌, [], ◌++◌, length, map, replicate, IfOk, OnOk};
+ghost use Rattle.std.specs.Prelude.{◌≡◌, ◌<◌, ◌∷◌, [], ◌++◌, length, replicate, IfOk, OnOk, OnErr};
 ghost use Rattle.event_core.specs.Threads.{change_at};
 
+use packed_entries::PackedEntries;
 use rw_objects::Entry;
 use std::alloc::Global;
 use std::marker::Model;
 use wasm_types::NoMemory;
 
-/// A list of entries for each thread. Contracts see the lists.
+/// The entries of each thread. Contracts see the lists.
 #[derive(Drop)]
 pub struct Logs {
-    lists: Vec<Vec<Entry>>,
+    lists: Vec<PackedEntries>,
 }
 
 impl Model for Logs {
-    ghost use Rattle.std.specs.Prelude.{List, map};
+    ghost use Rattle.std.specs.Prelude.{List};
     ghost use Rattle.rw_objects.specs.declared.entry.Entry.{Entry};
 
     ghost Value = { List (List Entry) };
 
-    ghost view = { λ l. map (λ v. v.items) l.lists.items };
+    ghost view = { λ l. l.lists.items };
 }
 
 impl Logs {
@@ -32,39 +33,38 @@ impl Logs {
         Ok(Logs { lists })
     }
 
-    /// Puts an entry behind the others of its thread.
-    pub fn push(&mut self, thread: u32, entry: Entry) -> Result<(), NoMemory>
+    /// Puts an entry behind the others of its thread. Where memory is wanted the lists stay as they were.
+    pub fn push(&mut self, thread: u32, entry: &Entry) -> Result<(), NoMemory>
         requires { thread < length self.old }
-        ensures ok { OnOk result (self.new ≡ change_at self.old thread (λ entries. entries ++ entry ∷ [])) }
+        ensures ok { OnOk result (self.new ≡ change_at self.old thread (λ entries. entries ++ entry.now ∷ [])) }
+        ensures err { OnErr result (self.new ≡ self.old) }
     {
         push_at(&mut self.lists, thread as usize, entry)
     }
 
     /// The lists.
-    pub fn into_lists(self) -> Vec<Vec<Entry>>
-        ensures { map (λ v. v.items) result.items ≡ self }
+    pub fn into_lists(self) -> Vec<PackedEntries>
+        ensures { result.items ≡ self }
     {
         let Logs { lists } = self;
         lists
     }
 }
 
-fn push_at(lists: &mut Vec<Vec<Entry>>, at: usize, entry: Entry) -> Result<(), NoMemory>
+fn push_at(lists: &mut Vec<PackedEntries>, at: usize, entry: &Entry) -> Result<(), NoMemory>
     requires { at < length lists.old.items }
-    ensures ok { OnOk result (map (λ v. v.items) lists.new.items ≡ change_at (map (λ v. v.items) lists.old.items) at (λ entries. entries ++ entry ∷ [])) }
+    ensures ok { OnOk result (lists.new.items ≡ change_at lists.old.items at (λ entries. entries ++ entry.now ∷ [])) }
+    ensures err { OnErr result (lists.new.items ≡ lists.old.items) }
 {
-    let Ok(()) = lists[at].push(entry) else {
-        return Err(NoMemory);
-    };
-    Ok(())
+    lists[at].push(entry)
 }
 
-fn empty_lists(alloc: Global, threads: usize) -> Result<Vec<Vec<Entry>>, NoMemory>
-    ensures { IfOk result (λ lists. map (λ v. v.items) lists.items ≡ replicate threads []) }
+fn empty_lists(alloc: Global, threads: usize) -> Result<Vec<PackedEntries>, NoMemory>
+    ensures { IfOk result (λ lists. lists.items ≡ replicate threads []) }
 {
     let mut lists = Vec::new(alloc);
     for _ in 0..threads {
-        lists.push(Vec::new(alloc))?;
+        lists.push(PackedEntries::new(alloc))?;
     }
     Ok(lists)
 }

@@ -4,13 +4,13 @@ ghost use Rattle.std.specs.Prelude.{◌≡◌};
 
 use event_core::Ended;
 use log_pieces::End;
-use rw_objects::Entry;
+use packed_entries::PackedEntries;
 use std::marker::Model;
 
 /// What a thread logged: its entries by place, and where it ends. Contracts see the list of the entries.
 #[derive(Debug, Drop)]
 pub struct ThreadLog {
-    entries: Vec<Entry>,
+    entries: PackedEntries,
     end: End,
 }
 
@@ -19,22 +19,22 @@ impl Model for ThreadLog {
 
     ghost Value = { ThreadLogAt };
 
-    ghost view = { λ l. record { entries = l.entries.items; end = l.end } };
+    ghost view = { λ l. record { entries = l.entries; end = l.end } };
 }
 
 impl ThreadLog {
-    pub(crate) fn new(entries: Vec<Entry>, end: End) -> ThreadLog
-        ensures entries { result.entries ≡ entries.items }
+    pub(crate) fn new(entries: PackedEntries, end: End) -> ThreadLog
+        ensures entries { result.entries ≡ entries }
         ensures end { result.end ≡ end }
     {
         ThreadLog { entries, end }
     }
 
     /// The entries, by place.
-    pub fn entries(&self) -> &[Entry]
+    pub fn entries(&self) -> &PackedEntries
         ensures { result.now ≡ self.now.entries }
     {
-        self.entries.as_slice()
+        &self.entries
     }
 
     /// Where the thread ends.

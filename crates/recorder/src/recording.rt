@@ -1,6 +1,6 @@
-//! Recording by a list of picks.
+//! Recording by a schedule.
 
-ghost use Rattle.std.specs.Prelude.{◌≡◌, ◌+◌, ◌++◌, ◌^◌, ◌<◌, ◌≤◌, IfOk, OnOk, drop, length, map, cond, replicate, slice_get, option_map};
+ghost use Rattle.std.specs.Prelude.{◌≡◌, ◌+◌, ◌^◌, ◌<◌, ◌≤◌, Some, IfOk, OnOk, length, map, cond, replicate, slice_get, option_map};
 ghost use Rattle.event_core.specs.World.{world_of, world_after};
 ghost use Rattle.event_core.specs.Run.{run_end, IsRun};
 ghost use Rattle.replay_laws.specs.RunLog.{run_log, end_of_thread};
@@ -12,7 +12,9 @@ use crate::logs::Logs;
 use crate::recorded::{Recorded, ThreadLog};
 use event_core::{Input, Pick, StepFault, Stepped, World};
 use log_pieces::End;
-use rw_objects::{Entry, Machine, ObjectSpace};
+use packed_entries::PackedEntries;
+use rw_objects::{Machine, ObjectSpace};
+use schedules::{Schedule, Stretch};
 use std::alloc::Global;
 use wasm_types::NoMemory;
 
@@ -35,23 +37,15 @@ fn try_pick<M: Machine<S>, S: ObjectSpace>(
     }
 }
 
-/// Notes the step of a pick, or that the pick was passed over.
-fn note(
-    logs: &mut Logs,
-    passed: &mut u64,
-    thread: u32,
-    stepped: Option<Stepped>,
-) -> Result<(), NoMemory>
-    requires within { IsThread (length logs.old) thread stepped }
-    requires room { passed.old + 1 < 2 ^ 64 }
-    ensures { OnOk result (IsNoted logs.old logs.new passed.old passed.new thread stepped) }
+/// Notes a step.
+fn note(logs: &mut Logs, thread: u32, stepped: Stepped) -> Result<(), NoMemory>
+    requires { IsThread (length logs.old) thread (Some stepped) }
+    ensures { OnOk result (IsNoted logs.old logs.new thread (Some stepped)) }
 {
     match stepped {
-        None => *passed += 1,
-        Some(Stepped::Local) => {}
-        Some(Stepped::Event(entry)) => logs.push(thread, entry)?,
+        Stepped::Local => Ok(()),
+        Stepped::Event(entry) => logs.push(thread, &entry),
     }
-    Ok(())
 }
 
 /// Where a thread stands, as an end.
@@ -76,10 +70,10 @@ fn end_of<M: Machine<S>, S: ObjectSpace>(world: &World<M, S>, thread: u32) -> Op
 fn thread_logs<M: Machine<S>, S: ObjectSpace>(
     alloc: Global,
     world: &World<M, S>,
-    lists: Vec<Vec<Entry>>,
+    lists: Vec<PackedEntries>,
 ) -> Result<Vec<ThreadLog>, NoMemory>
     requires { length lists.items ≡ length (world_of world.now).threads }
-    ensures entries { IfOk result (λ logs. map (λ l. l.entries) logs.items ≡ map (λ v. v.items) lists.items) }
+    ensures entries { IfOk result (λ logs. map (λ l. l.entries) logs.items ≡ lists.items) }
     ensures ends { IfOk result (λ logs. map (λ l. l.end) logs.items ≡ map (end_of_thread M.code) (world_of world.now).threads) }
 {
     let mut logs = Vec::new(alloc);
@@ -94,39 +88,13 @@ fn thread_logs<M: Machine<S>, S: ObjectSpace>(
     Ok(logs)
 }
 
-/// A pick that comes several times in a row.
-#[derive(Clone, Copy)]
-struct Stretch {
-    pick: Pick,
-    times: usize,
-}
-
-/// The pick at this place, with how often it comes from there on.
-fn stretch_at(picks: &[Pick], at: usize) -> Stretch
-    requires { at < length picks.now }
-    ensures same { drop at picks.now ≡ replicate result.times result.pick ++ drop (at + result.times) picks.now }
-    ensures some { 0 < result.times }
-    ensures within { at + result.times ≤ length picks.now }
-    ensures fits { at + result.times < 2 ^ 64 }
-{
-    let pick = picks[at];
-    let mut end = at + 1;
-    while end < picks.len() && picks[end] == pick {
-        end += 1;
-    }
-    Stretch {
-        pick,
-        times: end - at,
-    }
-}
-
 /// Makes local steps by a pick that comes so many times, as many as come one behind the other and as the thread has left.
 /// Answers how many.
 fn local_steps<M: Machine<S>, S: ObjectSpace>(
     world: &mut World<M, S>,
     stretch: Stretch,
     steps: u32,
-) -> Result<usize, NoMemory>
+) -> Result<u32, NoMemory>
     ensures batch { IfOk result (λ made. IsBatch S.meaning M.code steps stretch.pick made (world_of world.old) (world_of world.new)) }
     ensures few { IfOk result (λ made. made ≤ stretch.times) }
 {
@@ -140,8 +108,36 @@ fn local_steps<M: Machine<S>, S: ObjectSpace>(
     if steps <= made {
         return Ok(0);
     }
-    let most = stretch.times.min((steps - made) as usize);
-    Ok(world.local_run(thread, most as u32)? as usize)
+    let most = stretch.times.min(steps - made);
+    world.local_run(thread, most)
+}
+
+/// Tries a pick that comes so many times: makes its step and notes it, or passes the pick over each time, since a pick that
+/// is passed over changes nothing. Answers how often the pick was tried.
+fn try_stretch<M: Machine<S>, S: ObjectSpace>(
+    world: &mut World<M, S>,
+    logs: &mut Logs,
+    passed: &mut u64,
+    stretch: Stretch,
+    steps: u32,
+) -> Result<u32, NoMemory>
+    requires some { 0 < stretch.times }
+    requires threads { length logs.old ≡ length (world_of world.old).threads }
+    requires room { passed.old + stretch.times < 2 ^ 64 }
+    ensures recorded { IfOk result (λ tried. AreRecorded S.meaning M.code steps (replicate tried stretch.pick) (world_of world.old) (world_of world.new) logs.old logs.new passed.old passed.new) }
+    ensures some { IfOk result (λ tried. 0 < tried) }
+    ensures few { IfOk result (λ tried. tried ≤ stretch.times) }
+{
+    match try_pick(world, stretch.pick, steps)? {
+        Some(stepped) => {
+            note(logs, stretch.pick.thread, stepped)?;
+            Ok(1)
+        }
+        None => {
+            *passed += stretch.times as u64;
+            Ok(stretch.times)
+        }
+    }
 }
 
 /// Tries a pick so many times in a row.
@@ -162,9 +158,8 @@ fn record_stretch<M: Machine<S>, S: ObjectSpace>(
         let made = local_steps(world, Stretch { pick, times }, steps)?;
         times -= made;
         if times > 0 {
-            let stepped = try_pick(world, pick, steps)?;
-            note(logs, passed, pick.thread, stepped)?;
-            times -= 1;
+            let tried = try_stretch(world, logs, passed, Stretch { pick, times }, steps)?;
+            times -= tried;
         }
     }
     Ok(())
@@ -175,7 +170,7 @@ fn record_stretch<M: Machine<S>, S: ObjectSpace>(
 pub fn record<M: Machine<S> + Drop, S: ObjectSpace + Drop>(
     alloc: Global,
     mut world: World<M, S>,
-    picks: &[Pick],
+    picks: &Schedule,
     steps: u32,
 ) -> Result<Recorded, NoMemory>
     ensures run { OnOk result (IsRun S.meaning M.code (world_of world) (picks_taken S.meaning M.code steps (world_of world) picks.now)) }
@@ -185,11 +180,9 @@ pub fn record<M: Machine<S> + Drop, S: ObjectSpace + Drop>(
 {
     let mut logs = Logs::new(alloc, world.count())?;
     let mut passed: u64 = 0;
-    let mut at = 0;
-    while at < picks.len() {
-        let stretch = stretch_at(picks, at);
-        record_stretch(&mut world, &mut logs, &mut passed, stretch, steps)?;
-        at += stretch.times;
+    let stretches = picks.stretches();
+    for stretch in stretches {
+        record_stretch(&mut world, &mut logs, &mut passed, *stretch, steps)?;
     }
     let threads = thread_logs(alloc, &world, logs.into_lists())?;
     let end = world.end(alloc)?;

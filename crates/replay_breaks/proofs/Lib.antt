@@ -6,3 +6,4 @@ pub mod Rounds
 pub mod Recorded
 pub mod LocalRounds
 pub mod RoundsOn
+pub mod OneStop

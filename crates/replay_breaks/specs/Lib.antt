@@ -4,3 +4,4 @@ pub mod Tests
 pub mod Stops
 pub mod Rounds
 pub mod Clear
+pub mod OneStop

@@ -3,8 +3,10 @@
 
 mod ahead;
 mod breaks;
+mod laws;
 mod marks;
 mod running;
 
 pub use breaks::{Break, Every, ObjectRange, Stopped};
+pub use laws::stops_once;
 pub use running::run_to;

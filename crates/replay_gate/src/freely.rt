@@ -12,7 +12,7 @@ use join_laws::Flat;
 use log_pieces::End;
 use rw_objects::{Machine, ObjectSpace};
 use std::alloc::Global;
-use wasm_types::NoMemory;
+use wasm_types::{MOST_STEPS, NoMemory};
 
 /// Makes the local steps that come next for a thread, as far as its logged end, and the event behind them, where the log
 /// lets it pass. Answers whether it made a step.
@@ -59,7 +59,7 @@ fn run_thread<M: Machine<S>, S: ObjectSpace, L: ReadLog>(
     ensures ok { OnOk result (Leads S.meaning M.code (L.log log.now) (world_of world.old) (world_of world.new)) }
     ensures err { OnErr result (Leads S.meaning M.code (L.log log.now) (world_of world.old) (world_of world.new)) }
 {
-    for times in 0..1_000_000_000u32 {
+    for times in 0..MOST_STEPS {
         match advance(alloc, world, log, reader, thread) {
             Ok(true) => {}
             Ok(false) => return Ok(times > 0),

@@ -3,6 +3,7 @@
 use crate::logs::SCRIPTS;
 use event_core::{Input, Pick, StepFault};
 use recorder::record;
+use schedules::Schedule;
 use scripted::{Cell, CellOp, ScriptStep, open_scripts};
 use std::test::Fail;
 use wasm_types::{Outcome, Value};
@@ -138,18 +139,18 @@ static ROWS: [Row; 12] = [
     },
 ];
 
+/// The pick by which a thread goes on.
+const fn go(thread: u32) -> Pick {
+    let input = Input::Go;
+    Pick { thread, input }
+}
+
 #[test]
 fn twelve_schedules(rt: HostRuntime) -> Result<(), Fail> {
     let alloc = rt.alloc();
     let scripts = [&SCRIPTS[0][..], &SCRIPTS[1][..], &SCRIPTS[2][..]];
     for row in &ROWS {
-        let mut picks = Vec::new(alloc);
-        for thread in row.schedule {
-            picks.push(Pick {
-                thread,
-                input: Input::Go,
-            })?;
-        }
+        let picks = Schedule::of(alloc, &row.schedule.map(go))?;
         let world = open_scripts(alloc, &scripts, [0, 0, 0])?;
         let recorded = record(alloc, world, &picks, 1_000_000_000)?;
         assert_eq!(rt; recorded.passed(), 0);
@@ -169,7 +170,7 @@ fn twelve_schedules(rt: HostRuntime) -> Result<(), Fail> {
             assert_eq!(rt; log.end().steps, 2);
             assert_eq!(rt; log.end().places, 2);
             assert_eq!(rt; log.end().outcome, *outcome);
-            let entries = log.entries();
+            let entries = log.entries().reader().next_entries(alloc, 3)?;
             assert_eq!(rt; entries.len(), 2);
             let written = format!(in alloc; "{}, {}", entries[0], entries[1])?;
             assert_eq!(rt; written.as_str(), *text);
@@ -187,10 +188,7 @@ fn refused_steps_are_made_again(rt: HostRuntime) -> Result<(), Fail> {
     let row = &ROWS[1];
     let mut world = open_scripts(alloc, &scripts, [0, 0, 0])?;
     for thread in row.schedule {
-        let pick = Pick {
-            thread,
-            input: Input::Go,
-        };
+        let pick = go(thread);
         let places = world.places(thread);
         if let Err(fault) = world.step(pick) {
             assert_eq!(rt; fault, StepFault::NoMemory);
@@ -214,12 +212,10 @@ fn rests_are_steps_without_places(rt: HostRuntime) -> Result<(), Fail> {
         ScriptStep::Make(CellOp::Add(Cell::C, 3)),
         ScriptStep::Rest,
     ];
-    let go = Pick {
-        thread: 0,
-        input: Input::Go,
-    };
+    let mut picks = Schedule::new(alloc);
+    picks.push(go(0), 4)?;
     let world = open_scripts(alloc, &[&script[..]], [0, 0, 4])?;
-    let recorded = record(alloc, world, &[go, go, go, go], 1_000_000_000)?;
+    let recorded = record(alloc, world, &picks, 1_000_000_000)?;
     assert_eq!(rt; recorded.passed(), 1);
     assert_eq!(rt; recorded.log().len(), 1);
     for log in recorded.log() {

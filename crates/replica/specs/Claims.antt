@@ -5,6 +5,7 @@ use Rattle.rw_objects.specs.declared.entry.Entry.{Entry}
 use Rattle.log_pieces.specs.declared.end.End.{End}
 use Rattle.join_laws.specs.declared.flat.Flat.{Flat}
 use Rattle.join_laws.specs.declared.flat.Flat.TheVariants.{Known}
+use Rattle.wasm_types.specs.declared.sizes.TheConstants.{MOST_STEPS}
 use Rattle.replica.specs.declared.thread_log.ThreadLog.{ThreadLog}
 use Rattle.replica.specs.declared.log.Log.{Log}
 use Rattle.replica.specs.Flats.{few_steps}
@@ -20,13 +21,13 @@ claims_of log = record { entry = entry_at log; end = end_at log }
 
 -- no thread's known end has more than 1,000,000,000 steps
 abbrev pub HasLimits : Claims → Type 0
-HasLimits claims = (thread : ℕ) (end : End) → claims.end thread ≡ Some (Known end) → end.steps ≤ 1000000000
+HasLimits claims = (thread : ℕ) (end : End) → claims.end thread ≡ Some (Known end) → end.steps ≤ MOST_STEPS
 
 few_of : (thread : Option ThreadLog) (end : End) → end_of thread ≡ Some (Known end) → IsTrue (few_steps (Some (Known end)))
 few_of None end h = absurd (let bad : None ≡ Some (Known end) = h in cc)
 few_of (Some thread) end h = subst (λ (o : Option (Flat End)). IsTrue (few_steps o)) h thread.few
 
-at_most : (n : ℕ) → IsTrue (nat_le n 1000000000) → n ≤ 1000000000
+at_most : (n : ℕ) → IsTrue (nat_le n MOST_STEPS) → n ≤ MOST_STEPS
 at_most n h = grind arith
 
 pub has_limits : (log : Log) → HasLimits (claims_of log)

@@ -3,6 +3,7 @@ use Rattle.std.specs.Prelude.{Bool, true, false, nat_le, Option, Some, None}
 use Rattle.log_pieces.specs.declared.end.End.{End}
 use Rattle.join_laws.specs.declared.flat.Flat.{Flat}
 use Rattle.join_laws.specs.declared.flat.Flat.TheVariants.{Known, Clash}
+use Rattle.wasm_types.specs.declared.sizes.TheConstants.{MOST_STEPS}
 
 -- the end, where one is claimed and no two differ
 abbrev pub known_end : Option (Flat End) → Option End
@@ -17,5 +18,5 @@ is_clash Clash = true
 -- an end that is known has at most 1,000,000,000 steps
 abbrev pub few_steps : Option (Flat End) → Bool
 few_steps None = true
-few_steps (Some (Known end)) = nat_le end.steps 1000000000
+few_steps (Some (Known end)) = nat_le end.steps MOST_STEPS
 few_steps (Some Clash) = true

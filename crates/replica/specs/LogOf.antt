@@ -12,6 +12,7 @@ use Rattle.join_laws.specs.declared.flat.Flat.TheVariants.{Known}
 use Rattle.join_laws.specs.Flat.{flat_joined}
 use Rattle.join_laws.specs.Keyed.{value_at, option_joined}
 use Rattle.join_laws.specs.Agreed.{IsAgreed}
+use Rattle.wasm_types.specs.declared.sizes.TheConstants.{MOST_THREADS}
 use Rattle.replica.specs.declared.thread_log.ThreadLog.{ThreadLog}
 use Rattle.replica.specs.declared.log.Log.{Log}
 use Rattle.replica.specs.Log.{key_of, entry_at, end_at}
@@ -60,7 +61,7 @@ first_items count piece = record piece { entries = take count piece.entries; end
 
 -- there are 16 threads, and the items of each stand by rising place
 pub record IsOrdered (log : Log) : Type 0 where
-  pub sixteen : length log.threads ≡ 16
+  pub sixteen : length log.threads ≡ MOST_THREADS
   pub rising : (i : ℕ) (thread : ThreadLog) → slice_get log.threads i ≡ Some thread → IsStrictlySortedBy nat_cmp (keys_of thread.entries)
 
 -- the same items everywhere

@@ -1,9 +1,10 @@
 -- One piece more, and one thread more.
-use Rattle.std.proofs.Common.{◌≡◌, ℕ, ◌+◌, ◌<◌, ◌≤◌, List, [], ◌∷◌, ◌++◌, length, map, drop, get_or, drop-cons, add-one, append_assoc, sym, ap, ◌∙◌, arith}
+use Rattle.std.proofs.Common.{◌≡◌, ℕ, zero, suc, ◌+◌, ◌*◌, ◌<◌, ◌≤◌, List, [], ◌∷◌, ◌++◌, length, map, drop, get_or, drop-cons, add-one, append_assoc, refl, sym, ap, ◌∙◌, arith}
 use Rattle.std.specs.List.{range_with_len}
 use Rattle.std.proofs.lemmas.List.{append-nil, drop_all}
 use Rattle.std.proofs.lemmas.List.FromFn.{map-range_with_len_more}
 use Rattle.wasm_types.specs.declared.key.RunKey.{RunKey}
+use Rattle.rw_objects.specs.declared.entry.Entry.{Entry}
 use Rattle.log_pieces.specs.Piece.{PieceValue}
 use Rattle.recorder.specs.ThreadLogAt.{ThreadLogAt}
 use Rattle.run_pieces.specs.Cut.{thread_pieces, pieces_from, pieces_of}
@@ -33,3 +34,18 @@ module _ (key : RunKey) (size : ℕ) (logs : List ThreadLogAt) where
 
   pub all_threads : (pieces : List PieceValue) (t : ℕ) → length logs ≤ t → pieces ++ pieces_from key t (drop t logs) size ≡ pieces_of key logs size → pieces ≡ pieces_of key logs size
   all_threads pieces t l so_far = sym (append-nil pieces) ∙ ap (λ l. pieces ++ pieces_from key t l size) (sym (drop_all t logs l)) ∙ so_far
+
+none_left : (n : ℕ) → drop {A = Entry} n [] ≡ []
+none_left zero = refl
+none_left (suc n) = refl
+
+drop_twice : (xs : List Entry) (m n : ℕ) → drop n (drop m xs) ≡ drop (m + n) xs
+drop_twice [] m n = ap (λ (l : List Entry). drop n l) (none_left m) ∙ none_left n ∙ sym (none_left (m + n))
+drop_twice (x ∷ xs) zero n = let z : n ≡ 0 + n = omega arith in ap (λ k. drop k (x ∷ xs)) z
+drop_twice (x ∷ xs) (suc m) n = drop_twice xs m n ∙ ap (λ k. drop k (x ∷ xs)) (let z : suc (m + n) ≡ suc m + n = omega arith in z)
+
+-- what is left behind one part more
+pub part_behind : (es left news : List Entry) (index size : ℕ) → news ≡ drop size left → left ≡ drop (index * size) es → news ≡ drop ((index + 1) * size) es
+part_behind es left news index size e is =
+    let more : index * size + size ≡ (index + 1) * size = omega arith in
+    e ∙ ap (drop size) is ∙ drop_twice es (index * size) size ∙ ap (λ k. drop k es) more

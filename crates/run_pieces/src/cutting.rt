@@ -1,35 +1,17 @@
 //! A recorded run, cut into pieces.
 
-ghost use Rattle.std.specs.Prelude.{◌≡◌, ◌<◌, ◌≤◌, ◌++◌, drop, length, take, IfOk, IfErr, OnOk};
+ghost use Rattle.std.specs.Prelude.{◌≡◌, ◌<◌, ◌≤◌, ◌*◌, ◌++◌, drop, length, IfOk, IfErr, OnOk};
 ghost use Rattle.recorder.specs.ThreadLogAt.{log_of};
 ghost use Rattle.run_pieces.specs.PieceOf.{ArePiecesOf};
 ghost use Rattle.run_pieces.specs.Cut.{IsPiecesFault, end_at, piece_at, piece_count, pieces_of, thread_pieces};
-ghost use Rattle.run_pieces.specs.Keeps.{KeepsRules, KeepsThread};
+ghost use Rattle.run_pieces.specs.Keeps.{IsCut, KeepsRules};
 
 use crate::fault::PiecesFault;
-use log_pieces::{End, Entry, MOST_ENTRIES, Piece};
+use log_pieces::{End, MOST_ENTRIES, Piece};
+use packed_entries::EntriesReader;
 use recorder::{Recorded, ThreadLog};
 use std::alloc::Global;
-use wasm_types::{NoMemory, RunKey, Same};
-
-fn copied(alloc: Global, entries: &[Entry]) -> Result<Vec<Entry>, NoMemory>
-    ensures { IfOk result (λ copies. copies.items ≡ entries.now) }
-{
-    let mut copies = Vec::new(alloc);
-    for entry in entries {
-        copies.push(entry.copy(alloc)?)?;
-    }
-    Ok(copies)
-}
-
-/// At most `size` entries from a place on.
-fn part(entries: &[Entry], start: usize, size: usize) -> &[Entry]
-    requires { start ≤ length entries.now }
-    ensures { result.now ≡ take size (drop start entries.now) }
-{
-    let rest = &entries[start..];
-    &rest[..size.min(rest.len())]
-}
+use wasm_types::{NoMemory, RunKey};
 
 /// How many pieces a thread of so many entries gives.
 fn piece_count(size: usize, entries: usize) -> usize
@@ -53,48 +35,47 @@ fn end_at(log: &ThreadLog, size: usize, index: usize) -> Option<End>
     }
 }
 
-/// One of the pieces of a thread.
-fn piece_at(
-    alloc: Global,
-    key: &RunKey,
+/// A thread of a recorded run, which is cut into pieces of `size` entries.
+#[derive(Clone, Copy)]
+struct ThreadCut<'a> {
+    key: &'a RunKey,
     thread: u32,
-    log: &ThreadLog,
+    log: &'a ThreadLog,
     size: usize,
+}
+
+/// The next piece of a thread, whose entries are read up to it.
+fn next_piece(
+    alloc: Global,
+    cut: &ThreadCut<'_>,
+    entries: &mut EntriesReader<'_>,
     index: usize,
 ) -> Result<Piece, NoMemory>
-    requires thread { thread ≤ 15 }
-    requires keeps { KeepsThread key.now.profile log.now }
-    requires some { 0 < size }
-    requires few { size ≤ 4096 }
-    requires index { index < piece_count size (length log.now.entries) }
-    ensures { IfOk result (λ piece. piece ≡ piece_at key.now thread log.now size index) }
+    requires rules { IsCut cut.now.key.now cut.now.thread cut.now.log.now cut.now.size }
+    requires index { index < piece_count cut.now.size (length cut.now.log.now.entries) }
+    requires at { entries.old ≡ drop (index * cut.now.size) cut.now.log.now.entries }
+    ensures piece { IfOk result (λ piece. piece ≡ piece_at cut.now.key.now cut.now.thread cut.now.log.now cut.now.size index) }
+    ensures left { OnOk result (entries.new ≡ drop cut.now.size entries.old) }
 {
-    let start = index * size;
-    let entries = copied(alloc, part(log.entries(), start, size))?;
-    let end = end_at(log, size, index);
-    match Piece::new(*key, thread, start as u32, entries, end) {
+    let start = index * cut.size;
+    let part = entries.next_entries(alloc, cut.size)?;
+    let end = end_at(cut.log, cut.size, index);
+    match Piece::new(*cut.key, cut.thread, start as u32, part, end) {
         Ok(piece) => Ok(piece),
         Err(_) => unreachable!(),
     }
 }
 
 /// Puts the pieces of a thread behind others.
-fn put_pieces(
-    alloc: Global,
-    pieces: &mut Vec<Piece>,
-    key: &RunKey,
-    thread: u32,
-    log: &ThreadLog,
-    size: usize,
-) -> Result<(), NoMemory>
-    requires thread { thread ≤ 15 }
-    requires keeps { KeepsThread key.now.profile log.now }
-    requires some { 0 < size }
-    requires few { size ≤ 4096 }
-    ensures { OnOk result (pieces.new.items ≡ pieces.old.items ++ thread_pieces key.now thread log.now size) }
+fn put_pieces(alloc: Global, pieces: &mut Vec<Piece>, cut: &ThreadCut<'_>) -> Result<(), NoMemory>
+    requires { IsCut cut.now.key.now cut.now.thread cut.now.log.now cut.now.size }
+    ensures { OnOk result (pieces.new.items ≡ pieces.old.items ++ thread_pieces cut.now.key.now cut.now.thread cut.now.log.now cut.now.size) }
 {
-    for index in 0..piece_count(size, log.entries().len()) {
-        pieces.push(piece_at(alloc, key, thread, log, size, index)?)?;
+    let log = cut.log.entries();
+    let mut entries = log.reader();
+    for index in 0..piece_count(cut.size, log.len()) {
+        let piece = next_piece(alloc, cut, &mut entries, index)?;
+        pieces.push(piece)?;
     }
     Ok(())
 }
@@ -112,7 +93,14 @@ fn all_pieces(
 {
     let mut pieces = Vec::new(alloc);
     for (thread, log) in logs.iter().enumerate() {
-        put_pieces(alloc, &mut pieces, key, thread as u32, log, size)?;
+        let thread = thread as u32;
+        let cut = ThreadCut {
+            key,
+            thread,
+            log,
+            size,
+        };
+        put_pieces(alloc, &mut pieces, &cut)?;
     }
     Ok(pieces)
 }

@@ -1,6 +1,7 @@
 -- Waiter queues that are made, among all.
-use Rattle.std.proofs.Common.{◌≡◌, ℕ, suc, ◌+◌, ◌-◌, ◌<◌, ◌≤◌, List, [], ◌∷◌, ◌++◌, length, replicate, get_or, slice_set, sym, ap, ◌∙◌, arith, append_assoc}
-use Rattle.std.proofs.lemmas.List.{length-append, length-set, length-replicate, set-append_left, get_or_append_left, get_or_default}
+use Rattle.std.proofs.Common.{◌≡◌, ℕ, zero, suc, refl, ◌+◌, ◌-◌, ◌<◌, ◌≤◌, List, [], ◌∷◌, ◌++◌, length, replicate, get_or, slice_set, sym, ap, ◌∙◌, arith, append_assoc}
+use Rattle.std.proofs.lemmas.List.{length-append, length-set, length-replicate, set-append_left, get_or_append_left, get_or_default, set-get_or}
+use Rattle.std.proofs.Math.Seq.{get_or-append_right}
 use Rattle.block_objects.specs.Objects.{QueueAt}
 use Rattle.block_objects.specs.Queues.{no_waiters}
 use Rattle.waiter_queues.specs.Made.{all_queues}
@@ -37,3 +38,14 @@ pub below_count : (count block : ℕ) (made all : List QueueAt) → all_queues c
 below_count count block made all e few l =
     let sum : length all ≡ length made + (count - length made) = ap length (sym e) ∙ (length-append made (replicate (count - length made) no_waiters) ∙ ap (λ n. length made + n) (length-replicate (count - length made) no_waiters)) in
     omega (arith, sum, few, l)
+
+no_one : (n b : ℕ) → get_or (replicate n no_waiters) b no_waiters ≡ no_waiters
+no_one zero b = refl
+no_one (suc n) zero = refl
+no_one (suc n) (suc b) = no_one n b
+
+-- where nobody stands in a queue that is not made, nothing changes
+pub put_nobody : (count block : ℕ) (made : List QueueAt) (q : QueueAt) → length made ≤ block → q ≡ no_waiters → all_queues count made ≡ slice_set (all_queues count made) block q
+put_nobody count block made q past is =
+    let there : get_or (all_queues count made) block no_waiters ≡ no_waiters = get_or-append_right made (replicate (count - length made) no_waiters) block no_waiters past ∙ no_one (count - length made) (block - length made) in
+    sym (ap (slice_set (all_queues count made) block) (is ∙ sym there) ∙ set-get_or (all_queues count made) block no_waiters)

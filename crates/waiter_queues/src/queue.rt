@@ -1,6 +1,6 @@
 //! One waiter queue.
 
-ghost use Rattle.std.specs.Prelude.{◌≡◌, ◌+◌, ◌≤◌, ◌==◌, [], ◌++◌, length};
+ghost use Rattle.std.specs.Prelude.{◌≡◌, ◌+◌, ◌≤◌, ◌==◌, true, [], ◌++◌, length};
 ghost use Rattle.std.specs.List.{list_any};
 ghost use Rattle.block_objects.specs.Queues.{no_waiters, is_woken, waits_at, stands_in, after_wait, chosen, left_waiting, after_notify, after_resume, after_time_out};
 
@@ -69,6 +69,28 @@ impl Queue {
         self.waits(thread) || self.is_woken(thread)
     }
 
+    /// Whether nobody stands in it.
+    pub fn is_empty(&self) -> bool
+        ensures { result ≡ true → self.now ≡ no_waiters }
+    {
+        self.waiting.is_empty() && self.woken.is_empty()
+    }
+
+    /// The same queue once more. It takes no memory.
+    pub fn copy(&self) -> Queue
+        ensures { result ≡ self.now }
+    {
+        let mut waiting = ArrayVec::new();
+        let mut woken = ArrayVec::new();
+        let (Ok(()), Ok(())) = (
+            waiting.try_extend_from_slice(self.waiting.as_slice()),
+            woken.try_extend_from_slice(self.woken.as_slice()),
+        ) else {
+            unreachable!()
+        };
+        Queue { waiting, woken }
+    }
+
     /// A thread comes to wait at an address, behind the others. A thread above 15, or one that stands in one of the
     /// lists already, changes nothing.
     pub fn wait(&mut self, thread: u32, address: u32)
@@ -94,6 +116,14 @@ impl Queue {
         );
         self.waiting = waiting;
         woken
+    }
+
+    /// How many threads a notify would wake: the first waiters at an address, at most `count` of them.
+    pub fn would_wake(&self, address: u32, count: u32) -> u32
+        ensures { result ≡ length (chosen address count self.now.waiting) }
+    {
+        let mut copy = self.copy();
+        copy.notify(address, count)
     }
 
     /// A woken thread goes on.

@@ -75,6 +75,18 @@ impl Queues {
         }
     }
 
+    /// Puts a queue in the place of that of a block.
+    pub fn put(&mut self, block: usize, queue: Queue)
+        requires { block < length self.old }
+        ensures { self.new ≡ slice_set self.old block queue }
+    {
+        if block >= self.made.len() && queue.is_empty() {
+            return;
+        }
+        make_up_to(&mut self.made, block);
+        self.made[block] = queue;
+    }
+
     /// A thread comes to wait in the queue of a block.
     pub fn wait(&mut self, block: usize, thread: u32, address: u32)
         requires { block < length self.old }

@@ -56,6 +56,25 @@ impl SharedSpace {
         Ok(SharedSpace { blocks, queues })
     }
 
+    /// A memory of these blocks and queues.
+    pub fn of(blocks: Blocks, queues: Queues) -> SharedSpace
+        requires { length queues ≡ blocks_in blocks.limits.block blocks.limits.capacity }
+        ensures blocks { result.blocks ≡ blocks }
+        ensures queues { result.queues ≡ queues }
+    {
+        SharedSpace { blocks, queues }
+    }
+
+    /// Its blocks and its queues.
+    pub fn into_parts(self) -> (Blocks, Queues)
+        ensures blocks { result.0 ≡ self.blocks }
+        ensures queues { result.1 ≡ self.queues }
+        ensures sized { length self.queues ≡ blocks_in self.blocks.limits.block self.blocks.limits.capacity }
+    {
+        let SharedSpace { blocks, queues } = self;
+        (blocks, queues)
+    }
+
     /// The numbers that stay.
     pub fn limits(&self) -> MemoryLimits
         ensures { result ≡ self.now.blocks.limits }

@@ -6,10 +6,10 @@ ghost use Rattle.wasm_types.specs.declared.key.Profile.TheVariants.{Two};
 ghost use Rattle.run_pieces.specs.Cut.{IsPiecesFault, pieces_of};
 ghost use Rattle.wasm_record.specs.Recordings.{ArePiecesOfRun, IsKeyOf, RecordsRun};
 
-use event_core::Pick;
 use log_pieces::Piece;
 use recorder::{Recorded, record};
 use run_pieces::{PiecesFault, pieces};
+use schedules::Schedule;
 use std::alloc::Global;
 use std::marker::Model;
 use thread_plan::Plan;
@@ -72,7 +72,7 @@ pub fn record_schedule(
     plan: &Plan,
     run: u64,
     block: Block,
-    picks: &[Pick],
+    picks: &Schedule,
     steps: u32,
 ) -> Result<Recording, NoMemory>
     requires { IsPlanOf valid.now plan.now }

@@ -1,5 +1,5 @@
-use Rattle.std.proofs.Common.{◌≡◌, [], map, replicate}
+use Rattle.std.proofs.Common.{◌≡◌, [], replicate}
 use Rattle.recorder.proofs.logs.empty_lists.Given as goal
 
 abbrev pub invariant-loop : goal.invariant-loop
-invariant-loop l = map (λ v. v.items) l.lists.items ≡ replicate l.counter []
+invariant-loop l = l.lists.items ≡ replicate l.counter []

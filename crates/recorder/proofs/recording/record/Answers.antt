@@ -1,45 +1,50 @@
-use Rattle.std.proofs.Common.{◌≡◌, ◌+◌, ◌<◌, ◌++◌, [], length, map, take, drop, replicate, sym, ap, ◌∙◌, subst, arith}
-use Rattle.std.proofs.lemmas.List.{length-replicate, length-map, length-take-le}
+use Rattle.std.proofs.Common.{◌≡◌, ◌<◌, ◌++◌, [], length, map, take, get_or, add-one, refl, sym, ap, ◌∙◌, subst, arith}
+use Rattle.std.proofs.lemmas.List.{length-replicate}
+use Rattle.std.proofs.lemmas.List.Folds.{length-flat_map-take}
+use Rattle.event_core.specs.declared.pick.Input.TheVariants.{Go}
 use Rattle.event_core.specs.World.{world_of}
-use Rattle.event_core.specs.Run.{entries}
+use Rattle.event_core.specs.Run.{entries, end_of_world}
+use Rattle.schedules.specs.declared.schedule.Stretch.{Stretch}
+use Rattle.schedules.specs.Stretches.{picks_of, picks_in}
 use Rattle.recorder.specs.Picks.{picks_taken}
-use Rattle.recorder.specs.Recorded.{list_at, AreRecorded}
-use Rattle.recorder.proofs.Ends.{take_whole}
+use Rattle.recorder.specs.Recorded.{list_at}
 use Rattle.recorder.proofs.Rest.{taken_is_run, list_none}
-use Rattle.recorder.proofs.Stretches.{stretch_taken, recorded_joined, still_threads, few_counted}
+use Rattle.recorder.proofs.Stretches.{one_more_stretch, all_stretches, still_threads, few_counted}
 use Rattle.recorder.proofs.RecordedLog.{recorded_log}
 use Rattle.recorder.proofs.recording.record.Goals as goal
 
+nothing : Stretch
+nothing = record { pick = record { thread = 0; input = Go }; times = 0 }
+
 pub record_stretch-requires-clause-threads : goal.record_stretch-requires-clause-threads
 record_stretch-requires-clause-threads g c =
-    still_threads g.S.ObjectSpace.meaning g.M.Machine.code c.args.steps _ _ (world_of c.loop-at.world) _ _ _ _ c.loop-at.invariant.recorded
+    still_threads g.S.ObjectSpace.meaning g.M.Machine.code c.args.steps _ _ (world_of c.loop-stretch.world) _ _ _ _ c.loop-stretch.invariant
     (ap length c.in_ok-logs.ensures ∙ length-replicate c.count.result [] ∙ c.count.ensures.count)
 
 pub record_stretch-requires-clause-room : goal.record_stretch-requires-clause-room
+unfolding nothing
 record_stretch-requires-clause-room g c =
-    let xs = c.args.picks.now in
-    let few = few_counted g.S.ObjectSpace.meaning g.M.Machine.code c.args.steps (take c.loop-at.at xs) (world_of c.args.world) (world_of c.loop-at.world) c.in_ok-logs.logs c.loop-at.logs 0 c.loop-at.passed c.loop-at.invariant.recorded in
-    let many = length-take-le c.loop-at.at xs c.loop-at.invariant.within in
-    let within = c.loop-at.invariant.within in
-    let fits = c.stretch_at-stretch.ensures.fits in
-    omega (arith, few, many, within, fits)
+    let xs = c.stretches-stretches.result.now in
+    let i = c.loop-stretch.stretch-index in
+    let few = few_counted g.S.ObjectSpace.meaning g.M.Machine.code c.args.steps (picks_in (take i xs)) (world_of c.args.world) (world_of c.loop-stretch.world) c.in_ok-logs.logs c.loop-stretch.logs 0 c.loop-stretch.passed c.loop-stretch.invariant in
+    let part = length-flat_map-take picks_of xs i nothing c.loop-stretch-test.true in
+    let many = length-replicate (get_or xs i nothing).times (get_or xs i nothing).pick in
+    let all = ap length c.stretches-stretches.ensures.picks in
+    let most = c.stretches-stretches.ensures.few in
+    omega (arith, few, part, many, all, most)
 
-pub loop-at-preserved : goal.loop-at-preserved
-loop-at-preserved g c =
-    let s = c.stretch_at-stretch.result in
-    let xs = c.args.picks.now in
-    record {
-      within = c.stretch_at-stretch.ensures.within;
-      recorded = subst (λ ps. AreRecorded g.S.ObjectSpace.meaning g.M.Machine.code c.args.steps ps (world_of c.args.world) (world_of c.record_stretch.new.world) c.in_ok-logs.logs c.record_stretch.new.logs 0 c.record_stretch.new.passed)
-          (stretch_taken xs c.loop-at.at s.times s.pick (drop (c.loop-at.at + s.times) xs) c.stretch_at-stretch.ensures.same)
-          (recorded_joined g.S.ObjectSpace.meaning g.M.Machine.code c.args.steps (take c.loop-at.at xs) (replicate s.times s.pick) (world_of c.args.world) (world_of c.loop-at.world) (world_of c.record_stretch.new.world) c.in_ok-logs.logs c.loop-at.logs c.record_stretch.new.logs 0 c.loop-at.passed c.record_stretch.new.passed
-          c.loop-at.invariant.recorded c.in_ok-record_stretch.ensures);
-    }
+pub loop-stretch-preserved : goal.loop-stretch-preserved
+unfolding nothing
+loop-stretch-preserved g c =
+    let xs = c.stretches-stretches.result.now in
+    let i = c.loop-stretch.stretch-index in
+    rw add-one (one_more_stretch g.S.ObjectSpace.meaning g.M.Machine.code c.args.steps xs nothing i (get_or xs i nothing) (world_of c.args.world) (world_of c.loop-stretch.world) (world_of c.record_stretch.new.world) c.in_ok-logs.logs c.loop-stretch.logs c.record_stretch.new.logs 0 c.loop-stretch.passed c.record_stretch.new.passed
+    c.loop-stretch-test.true refl c.loop-stretch.invariant c.in_ok-record_stretch.ensures)
 
 pub thread_logs-requires : goal.thread_logs-requires
 thread_logs-requires g c =
-    sym (length-map _ _) ∙ ap length c.into_lists.ensures
-    ∙ still_threads g.S.ObjectSpace.meaning g.M.Machine.code c.args.steps _ _ (world_of c.loop-at.world) _ _ _ _ c.loop-at.invariant.recorded
+    ap length c.into_lists.ensures
+    ∙ still_threads g.S.ObjectSpace.meaning g.M.Machine.code c.args.steps _ _ (world_of c.loop-stretch.world) _ _ _ _ c.loop-stretch.invariant
     (ap length c.in_ok-logs.ensures ∙ length-replicate c.count.result [] ∙ c.count.ensures.count)
 
 pub returns-clause-run : goal.returns-clause-run
@@ -51,15 +56,27 @@ returns-clause-log g c =
     let code = g.M.Machine.code in
     let xs = c.args.picks.now in
     let start = world_of c.args.world in
-    let within = c.loop-at.invariant.within in
-    let past = c.loop-at-test.false in
-    let at_end : c.loop-at.at ≡ length xs = omega (arith, within, past) in
-    let r : AreRecorded space code c.args.steps xs start (world_of c.loop-at.world) c.in_ok-logs.logs c.loop-at.logs 0 c.loop-at.passed =
-    subst (λ ps. AreRecorded space code c.args.steps ps start (world_of c.loop-at.world) c.in_ok-logs.logs c.loop-at.logs 0 c.loop-at.passed) (take_whole xs c.loop-at.at at_end) c.loop-at.invariant.recorded in
+    let r = all_stretches space code c.args.steps c.stretches-stretches.result.now c.loop-stretch.stretch-index c.args.picks.now (world_of c.args.world) (world_of c.loop-stretch.world) c.in_ok-logs.logs c.loop-stretch.logs 0 c.loop-stretch.passed c.loop-stretch-test.false c.stretches-stretches.ensures.picks c.loop-stretch.invariant in
     let lists_are : length c.in_ok-logs.logs ≡ length start.threads = ap length c.in_ok-logs.ensures ∙ length-replicate c.count.result [] ∙ c.count.ensures.count in
     let seen = c.new-2.ensures.threads in
-    recorded_log space code start (world_of c.loop-at.world) (picks_taken space code c.args.steps start xs) r.world c.loop-at.logs c.new-2.result.threads
+    recorded_log space code start (world_of c.loop-stretch.world) (picks_taken space code c.args.steps start xs) r.world c.loop-stretch.logs c.new-2.result.threads
     (ap (map (λ l. l.entries)) seen ∙ (c.in_ok-threads.ensures.entries ∙ c.into_lists.ensures))
     (ap (map (λ l. l.end)) seen ∙ c.in_ok-threads.ensures.ends)
     (λ t h. r.logs t (subst (λ n. t < n) (sym lists_are) h) ∙ ap (λ l. l ++ entries space code start (picks_taken space code c.args.steps start xs) t) (ap (λ ls. list_at ls t) c.in_ok-logs.ensures ∙ list_none c.count.result t))
     (r.len ∙ lists_are)
+
+pub returns-clause-end : goal.returns-clause-end
+returns-clause-end g c =
+    let space = g.S.ObjectSpace.meaning in
+    let code = g.M.Machine.code in
+    let r = all_stretches space code c.args.steps c.stretches-stretches.result.now c.loop-stretch.stretch-index c.args.picks.now (world_of c.args.world) (world_of c.loop-stretch.world) c.in_ok-logs.logs c.loop-stretch.logs 0 c.loop-stretch.passed c.loop-stretch-test.false c.stretches-stretches.ensures.picks c.loop-stretch.invariant in
+    c.new-2.ensures.end ∙ c.in_ok-end.ensures ∙ ap (end_of_world space code) r.world
+
+pub returns-clause-passed : goal.returns-clause-passed
+returns-clause-passed g c =
+    let space = g.S.ObjectSpace.meaning in
+    let code = g.M.Machine.code in
+    let r = all_stretches space code c.args.steps c.stretches-stretches.result.now c.loop-stretch.stretch-index c.args.picks.now (world_of c.args.world) (world_of c.loop-stretch.world) c.in_ok-logs.logs c.loop-stretch.logs 0 c.loop-stretch.passed c.loop-stretch-test.false c.stretches-stretches.ensures.picks c.loop-stretch.invariant in
+    let seen = c.new-2.ensures.passed in
+    let count = r.passed in
+    omega (arith, seen, count)

@@ -1,9 +1,8 @@
-use Rattle.std.proofs.Common.{◌≡◌, ◌+◌, ◌-◌, length, replicate, sym, subst, arith}
+use Rattle.std.proofs.Common.{◌≡◌, ◌+◌, ◌-◌, replicate, subst, arith}
 use Rattle.std.proofs.lemmas.List.{length-replicate}
 use Rattle.event_core.specs.World.{world_of}
-use Rattle.recorder.specs.Recorded.{IsThread, AreRecorded}
-use Rattle.recorder.proofs.Rest.{taken_within}
-use Rattle.recorder.proofs.Stretches.{none_recorded, one_recorded, batch_joined, one_more_recorded, still_threads, few_counted}
+use Rattle.recorder.specs.Recorded.{AreRecorded}
+use Rattle.recorder.proofs.Stretches.{none_recorded, batch_joined, stretch_joined, still_threads, few_counted}
 use Rattle.recorder.proofs.recording.record_stretch.Goals as goal
 
 pub loop-times-init : goal.loop-times-init
@@ -14,19 +13,15 @@ loop-times-init g c =
       recorded = rw none (none_recorded g.S.ObjectSpace.meaning g.M.Machine.code c.args.steps (world_of c.args.world.now) c.args.logs.now c.args.passed.now);
     }
 
-pub note-requires-clause-within : goal.note-requires-clause-within
-note-requires-clause-within g c =
+pub try_stretch-requires-clause-threads : goal.try_stretch-requires-clause-threads
+try_stretch-requires-clause-threads g c =
     let space = g.S.ObjectSpace.meaning in
     let code = g.M.Machine.code in
-    let v = world_of c.loop-times.world in
-    let w = world_of c.local_steps.new.world in
-    let p = c.args.stretch.pick in
-    let batch = batch_joined space code c.args.steps g.met.M.Machine.laws p (c.args.stretch.times - c.loop-times.times) c.in_ok-made.made (world_of c.args.world.now) v w c.args.logs.now c.loop-times.logs c.args.passed.now c.loop-times.passed c.loop-times.invariant.recorded c.in_ok-made.ensures.batch in
-    let same = still_threads space code c.args.steps _ _ w _ _ _ _ batch c.requires.threads in
-    subst (λ n. IsThread n p.thread c.in_ok-stepped.stepped) (sym same) (subst (IsThread (length w.threads) p.thread) (sym c.in_ok-stepped.ensures.taken) (taken_within space code c.args.steps w p))
+    let batch = batch_joined space code c.args.steps g.met.M.Machine.laws c.args.stretch.pick (c.args.stretch.times - c.loop-times.times) c.in_ok-made.made (world_of c.args.world.now) (world_of c.loop-times.world) (world_of c.local_steps.new.world) c.args.logs.now c.loop-times.logs c.args.passed.now c.loop-times.passed c.loop-times.invariant.recorded c.in_ok-made.ensures.batch in
+    still_threads space code c.args.steps _ _ (world_of c.local_steps.new.world) _ _ _ _ batch c.requires.threads
 
-pub note-requires-clause-room : goal.note-requires-clause-room
-note-requires-clause-room g c =
+pub try_stretch-requires-clause-room : goal.try_stretch-requires-clause-room
+try_stretch-requires-clause-room g c =
     let few = few_counted g.S.ObjectSpace.meaning g.M.Machine.code c.args.steps _ _ _ _ _ _ _ c.loop-times.invariant.recorded in
     let many = length-replicate (c.args.stretch.times - c.loop-times.times) c.args.stretch.pick in
     let left = c.loop-times.invariant.left in
@@ -41,18 +36,17 @@ loop-times-preserved-then-times-gt0 g c =
     let start = world_of c.args.world.now in
     let v = world_of c.loop-times.world in
     let w = world_of c.local_steps.new.world in
-    let u = world_of c.try_pick.new.world in
+    let u = world_of c.try_stretch.new.world in
     let p = c.args.stretch.pick in
     let before = c.args.stretch.times - c.loop-times.times in
     let left = c.loop-times.invariant.left in
     let few = c.in_ok-made.ensures.few in
-    let some = c.if-times-gt0.true in
-    let more : c.args.stretch.times - (c.loop-times.times - c.in_ok-made.made - 1) ≡ before + c.in_ok-made.made + 1 = omega (arith, left, few, some) in
+    let tried = c.in_ok-tried.ensures.few in
+    let more : c.args.stretch.times - (c.loop-times.times - c.in_ok-made.made - c.in_ok-tried.tried) ≡ before + c.in_ok-made.made + c.in_ok-tried.tried = omega (arith, left, few, tried) in
     let batch = batch_joined space code c.args.steps g.met.M.Machine.laws p before c.in_ok-made.made start v w c.args.logs.now c.loop-times.logs c.args.passed.now c.loop-times.passed c.loop-times.invariant.recorded c.in_ok-made.ensures.batch in
-    let one = one_recorded space code c.args.steps p w u c.loop-times.logs c.note.new.logs c.loop-times.passed c.note.new.passed c.in_ok-stepped.stepped c.in_ok-stepped.ensures.taken c.in_ok-stepped.ensures.world c.in_ok-note.ensures in
     record {
       left = omega (arith, left);
-      recorded = rw more (one_more_recorded space code c.args.steps p (before + c.in_ok-made.made) start w u c.args.logs.now c.loop-times.logs c.note.new.logs c.args.passed.now c.loop-times.passed c.note.new.passed batch one);
+      recorded = rw more (stretch_joined space code c.args.steps p (before + c.in_ok-made.made) c.in_ok-tried.tried start w u c.args.logs.now c.loop-times.logs c.try_stretch.new.logs c.args.passed.now c.loop-times.passed c.try_stretch.new.passed batch c.in_ok-tried.ensures.recorded);
     }
 
 pub loop-times-preserved : goal.loop-times-preserved

@@ -1,8 +1,8 @@
 -- The threads and their lists are gone over together.
-use Rattle.std.proofs.Common.{◌≡◌, ◌<◌, length, map, take, drop, Some, slice_get, sym, ap, ◌∙◌, arith}
+use Rattle.std.proofs.Common.{◌≡◌, ◌<◌, length, map, take, drop, Some, slice_get, refl, sym, ap, ◌∙◌, arith}
 use Rattle.event_core.specs.World.{world_of}
 use Rattle.replay_laws.specs.RunLog.{end_of_thread}
-use Rattle.recorder.proofs.Ends.{drop_more, map_more, map_push, length_more, take_one_more, made_of, made_of_none}
+use Rattle.recorder.proofs.Ends.{drop_more, map_push, length_more, take_one_more, made_of, made_of_none}
 use Rattle.recorder.proofs.recording.thread_logs.Goals as goal
 
 pub unreachable-requires : goal.unreachable-requires
@@ -26,6 +26,6 @@ loop-entries-preserved g c =
     record {
       rest = left.1 ∙ ap (λ k. drop k c.args.lists.items) (sym more);
       thread = omega (arith, inv.thread, more);
-      entries = map_push (λ e. e.entries) c.push.new.self.items c.loop-entries.logs.items log _ _ _ c.in_ok-push.ensures.items c.new.ensures.entries inv.entries (sym (map_more (λ v. v.items) c.loop-entries.yielded c.in-Some.entries));
+      entries = map_push (λ e. e.entries) c.push.new.self.items c.loop-entries.logs.items log _ _ _ c.in_ok-push.ensures.items c.new.ensures.entries inv.entries refl;
       ends = map_push (λ e. e.end) c.push.new.self.items c.loop-entries.logs.items log _ _ _ c.in_ok-push.ensures.items (c.new.ensures.end ∙ sym th.2) inv.ends (sym (take_one_more (end_of_thread code) threads n th.0 at) ∙ ap (λ k. map (end_of_thread code) (take k threads)) (sym more));
     }

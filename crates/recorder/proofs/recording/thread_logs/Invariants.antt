@@ -9,6 +9,6 @@ abbrev pub invariant-loop-entries : goal.invariant-loop-entries
 invariant-loop-entries g l = record {
   rest : into_iter_items l.entries-iterator ≡ drop (length l.yielded) l.fn.lists.items;
   thread : l.thread ≡ length l.yielded;
-  entries : map (λ e. e.entries) l.logs.items ≡ map (λ v. v.items) l.yielded;
+  entries : map (λ e. e.entries) l.logs.items ≡ l.yielded;
   ends : map (λ e. e.end) l.logs.items ≡ map (end_of_thread g.M.Machine.code) (take (length l.yielded) (world_of l.world).threads);
 }

@@ -1,13 +1,20 @@
 -- One thread more is cut.
-use Rattle.std.proofs.Common.{length, refl}
+use Rattle.std.proofs.Common.{length, refl, arith}
 use Rattle.std.proofs.lemmas.Option.{slice_get_read}
 use Rattle.run_pieces.proofs.Loops.{thread_more, all_threads}
 use Rattle.run_pieces.proofs.cutting.all_pieces.Goals as goal
 
-pub put_pieces-requires-clause-keeps : goal.put_pieces-requires-clause-keeps
-put_pieces-requires-clause-keeps c =
+pub put_pieces-requires : goal.put_pieces-requires
+put_pieces-requires c =
     let log = c.index-logs-thread.result in
-    c.requires.keeps.each c.loop-thread.thread log (slice_get_read c.args.logs.now (length c.args.logs.now) c.loop-thread.thread log refl c.loop-thread-test.true c.index-logs-thread.is)
+    let inside = c.loop-thread-test.true in
+    let few = c.requires.keeps.few in
+    record {
+      numbered = omega (arith, inside, few);
+      keeps = c.requires.keeps.each c.loop-thread.thread log (slice_get_read c.args.logs.now (length c.args.logs.now) c.loop-thread.thread log refl inside c.index-logs-thread.is);
+      some = c.requires.some;
+      few = c.requires.few;
+    }
 
 pub loop-thread-preserved : goal.loop-thread-preserved
 loop-thread-preserved c =

@@ -2,6 +2,7 @@ use Rattle.std.proofs.Common.{arith, ◌≡◌, ◌≤◌, ◌+◌, ◌++◌, ma
 use Rattle.std.specs.Vec.Iter.{into_iter_items}
 use Rattle.std.proofs.lemmas.List.{append-nil}
 use Rattle.rw_objects.specs.Counts.{count_at}
+use Rattle.striped_objects.specs.Cut.{AllSound}
 use Rattle.striped_objects.proofs.Wholes.{one_whole}
 use Rattle.shared_parts.specs.Calls.{AreWithin, calls_of, memory_after_calls, entries_in}
 use Rattle.shared_parts.proofs.Writes.{fixed_after}
@@ -25,6 +26,15 @@ returns-clause-parts g c =
     let long = ap length c.held.view_is in
     let enough : length c.args.held ≤ calls_of c.args.seats.items = omega (arith, whole, inv.1, ap calls_of none, c.held.invariant.total, long) in
     parts_whole c.args.seats.items c.args.held c.requires.numbered all enough
+
+pub unite-requires : goal.unite-requires
+unite-requires g c =
+    let space = g.S.ObjectSpace.meaning in
+    let m = g.J.Opening.named.memory in
+    let after = memory_after_calls space m c.loop-seat.tail in
+    let sound : AllSound g.S.Striped.cut m.fixed after.values =
+    subst (λ l. AllSound g.S.Striped.cut m.fixed (memory_after_calls space m l).values) (c.held.view_is ∙ sym c.loop-seat.invariant.5) c.held.invariant.sound in
+    (m.fixed, after.values, sound, c.gather-whole.ensures.parts)
 
 pub returns-clause-memory : goal.returns-clause-memory
 returns-clause-memory g c =

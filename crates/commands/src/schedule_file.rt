@@ -1,0 +1,31 @@
+//! The schedules in files.
+
+ghost use Rattle.std.specs.Prelude.{ℕ, List, IfOk, IfErr};
+ghost use Rattle.commands.specs.Records.{IsScheduleFile, IsScheduleRefused};
+
+use crate::fault::Fault;
+use crate::files::{Files, read_file};
+use log::Log;
+use pick_schedule::schedule;
+use schedules::Schedule;
+use std::alloc::Global;
+
+/// The picks of the schedule in a file.
+pub(crate) fn read_schedule<L: Log, F: Files>(
+    rt: &L,
+    alloc: Global,
+    files: &mut F,
+    path: &str,
+) -> Result<Schedule, Fault>
+    ensures found { IfOk result (λ picks. IsScheduleFile (F.holds files.old path.now) picks) }
+    ensures refused { IfErr result (λ fault. IsScheduleRefused (F.holds files.old path.now) (F.fails files.old path.now) fault) }
+{
+    let bytes = match read_file(rt, alloc, files, path, None) {
+        Ok(bytes) => bytes,
+        Err(fault) => return Err(Fault::File(fault)),
+    };
+    match schedule(alloc, &bytes) {
+        Ok(picks) => Ok(picks),
+        Err(fault) => Err(Fault::Schedule(fault)),
+    }
+}

@@ -1,0 +1,77 @@
+//! Entries in the bytes by which pieces spell them.
+
+ghost use Rattle.std.specs.Prelude.{◌≡◌, ◌++◌, ◌∷◌, ◌==◌, [], length, OnOk, OnErr};
+
+use crate::reader::EntriesReader;
+use log_pieces::Packed;
+use rw_objects::Entry;
+use std::alloc::Global;
+use std::marker::Model;
+use wasm_types::NoMemory;
+
+/// Entries, one behind the other, each as a piece spells it. Contracts see their list.
+#[derive(Debug, Drop)]
+pub struct PackedEntries {
+    bytes: Vec<u8>,
+    count: usize,
+    /// Where the bytes of an entry are put together.
+    room: Vec<u8>,
+}
+
+impl Model for PackedEntries {
+    ghost use Rattle.std.specs.Prelude.{List};
+    ghost use Rattle.rw_objects.specs.declared.entry.Entry.{Entry};
+    ghost use Rattle.packed_entries.specs.EntriesIn.{entries_in, ArePacked};
+
+    ghost Value = { List Entry };
+
+    ghost view = { λ p. entries_in p.count p.bytes.items };
+
+    ghost invariant = { λ p. ArePacked p.count p.bytes.items };
+}
+
+impl PackedEntries {
+    /// No entry. It takes no memory.
+    pub fn new(alloc: Global) -> PackedEntries
+        ensures { result ≡ [] }
+    {
+        PackedEntries {
+            bytes: Vec::new(alloc),
+            count: 0,
+            room: Vec::new(alloc),
+        }
+    }
+
+    /// How many entries there are.
+    pub fn len(&self) -> usize
+        ensures { result ≡ length self.now }
+    {
+        self.count
+    }
+
+    /// Whether there is no entry.
+    pub fn is_empty(&self) -> bool
+        ensures { result ≡ (length self.now == 0) }
+    {
+        self.count == 0
+    }
+
+    /// Puts an entry behind the others. Where memory is wanted the entries stay as they were.
+    pub fn push(&mut self, entry: &Entry) -> Result<(), NoMemory>
+        ensures ok { OnOk result (self.new ≡ self.old ++ entry.now ∷ []) }
+        ensures err { OnErr result (self.new ≡ self.old) }
+    {
+        self.room.clear();
+        entry.put(&mut self.room)?;
+        self.bytes.extend_from_slice(&self.room)?;
+        self.count += 1;
+        Ok(())
+    }
+
+    /// A reader of the entries, from the first on.
+    pub fn reader(&self) -> EntriesReader<'_>
+        ensures { result ≡ self.now }
+    {
+        EntriesReader::new(&self.bytes, self.count)
+    }
+}

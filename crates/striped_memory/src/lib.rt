@@ -1,0 +1,13 @@
+//! A shared memory that can stand in eight parts, each read and changed by itself.
+#![tactic(auto)]
+
+mod change;
+mod decide;
+mod look;
+mod part;
+mod space;
+mod split;
+mod unite;
+
+pub use part::{BlockPart, MemoryPart, QueuePart};
+pub use space::StripedMemory;
