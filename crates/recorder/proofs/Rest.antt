@@ -11,19 +11,14 @@ use Rattle.event_core.specs.declared.step.PickStep.{PickStep}
 use Rattle.event_core.specs.declared.step.PickStep.TheVariants as step
 use Rattle.event_core.specs.declared.step.Stepped.{Stepped}
 use Rattle.event_core.specs.declared.step.Stepped.TheVariants as stepped
-use Rattle.event_core.specs.Threads.{ThreadAt, change_at}
+use Rattle.event_core.specs.Threads.{change_at}
 use Rattle.event_core.specs.World.{WorldAt, step_of_pick, world_after, answer_of_step}
-use Rattle.std.proofs.lemmas.Option.{slice_get_within}
 use Rattle.recorder.specs.Picks.{is_taken, picks_taken, picks_passed}
 use Rattle.event_core.specs.Run.{entries, entries_of_step, world_run, IsRun}
 use Rattle.event_core.specs.PickStep.{is_enabled}
 use Rattle.event_core.specs.World.{has_steps_left}
 use Rattle.recorder.specs.Picks.{step_taken, if_ok}
-use Rattle.recorder.specs.Recorded.{list_at, entries_added, count_passed, IsNoted, IsThread}
-
-first : (b c : Bool) → (b && c) ≡ true → b ≡ true
-first true c h = refl
-first false c h = h
+use Rattle.recorder.specs.Recorded.{list_at, entries_added, IsNoted}
 
 second : (b c : Bool) → (b && c) ≡ true → c ≡ true
 second true c h = h
@@ -55,30 +50,7 @@ module _ {State Op Reply Value Fixed : Type 0} (space : Space Op Reply Value Fix
   world_step steps w v p ps true e is = rw (e, is)
   world_step steps w v p ps false e is = rw (e, is)
 
-  taken_counts_none : (w : WorldAt State Value Fixed) (j : PickStep Op) → is_enabled j ≡ true → count_passed (if_ok (answer_of_step space code w j)) ≡ 0
-  taken_counts_none w (step.Refused f) h = absurd (cc)
-  taken_counts_none w step.Local h = refl
-  taken_counts_none w (step.Event op) h = refl
-
-  pub passed_step : (steps : ℕ) (w v : WorldAt State Value Fixed) (p : Pick) (ps : List Pick) (b : Bool) → is_taken space code steps w p ≡ b → v ≡ cond b (world_after space code w p) w
-      → picks_passed space code steps w (p ∷ ps) ≡ picks_passed space code steps v ps + count_passed (step_taken space code steps w p)
-  passed_step steps w v p ps true e is = let k : count_passed (if_ok (answer_of_step space code w (step_of_pick space code w p))) ≡ 0 = taken_counts_none w (step_of_pick space code w p) (second (has_steps_left code steps (slice_get w.threads p.thread)) (is_enabled (step_of_pick space code w p)) e) in rw (e, is) (omega (arith, k))
-  passed_step steps w v p ps false e is = rw (e, is) refl
-
-  some_taken : (w : WorldAt State Value Fixed) (j : PickStep Op) → is_enabled j ≡ true → if_ok (answer_of_step space code w j) ≡ None → ⊥
-  some_taken w (step.Refused f) h e = cc
-  some_taken w step.Local h e = cc
-  some_taken w (step.Event op) h e = cc
-
-  is_passed_by : (steps : ℕ) (w : WorldAt State Value Fixed) (p : Pick) (b : Bool) → is_taken space code steps w p ≡ b → cond b (if_ok (answer_of_step space code w (step_of_pick space code w p))) None ≡ None → is_taken space code steps w p ≡ false
-  is_passed_by steps w p true e none = absurd (some_taken w (step_of_pick space code w p) (second (has_steps_left code steps (slice_get w.threads p.thread)) (is_enabled (step_of_pick space code w p)) e) none)
-  is_passed_by steps w p false e none = e
-
-  -- a pick that has no step is passed over
-  pub is_passed : (steps : ℕ) (w : WorldAt State Value Fixed) (p : Pick) → step_taken space code steps w p ≡ None → is_taken space code steps w p ≡ false
-  is_passed steps w p none = is_passed_by steps w p (is_taken space code steps w p) refl none
-
-  -- and so are those that follow it
+  -- a pick that is passed over is so however often it comes
   pub none_taken : (steps : ℕ) (w : WorldAt State Value Fixed) (p : Pick) (n : ℕ) → is_taken space code steps w p ≡ false → picks_taken space code steps w (replicate n p) ≡ []
   none_taken steps w p zero e = refl
   none_taken steps w p (suc n) e = rw e (none_taken steps w p n e)
@@ -86,22 +58,6 @@ module _ {State Op Reply Value Fixed : Type 0} (space : Space Op Reply Value Fix
   pub all_passed : (steps : ℕ) (w : WorldAt State Value Fixed) (p : Pick) (n : ℕ) → is_taken space code steps w p ≡ false → picks_passed space code steps w (replicate n p) ≡ n
   all_passed steps w p zero e = refl
   all_passed steps w p (suc n) e = let more = all_passed steps w p n e in rw e (omega (arith, more))
-
-  below_within : (steps : ℕ) (ts : List (ThreadAt State)) (t : ℕ) (o : Option (ThreadAt State)) → slice_get ts t ≡ o → has_steps_left code steps o ≡ true → t < length ts
-  below_within steps ts t None e h = absurd (cc)
-  below_within steps ts t (Some th) e h = slice_get_within ts t th e
-
-  within_any : (n t : ℕ) (o : Option Stepped) → t < n → IsThread n t o
-  within_any n t None h = tt
-  within_any n t (Some stepped.Local) h = tt
-  within_any n t (Some (stepped.Event e)) h = h
-
-  taken_within_ : (steps : ℕ) (w : WorldAt State Value Fixed) (p : Pick) (b : Bool) → is_taken space code steps w p ≡ b → IsThread (length w.threads) p.thread (cond b (if_ok (answer_of_step space code w (step_of_pick space code w p))) None)
-  taken_within_ steps w p true e = within_any _ _ _ (below_within steps w.threads p.thread _ refl (first _ _ e))
-  taken_within_ steps w p false e = tt
-
-  pub taken_within : (steps : ℕ) (w : WorldAt State Value Fixed) (p : Pick) → IsThread (length w.threads) p.thread (step_taken space code steps w p)
-  taken_within steps w p = taken_within_ steps w p (is_taken space code steps w p) refl
 
 list_same : (f : List Entry → List Entry) (lists : List (List Entry)) (t : ℕ) → t < length lists → list_at (change_at lists t f) t ≡ f (list_at lists t)
 list_same f [] t h = absurd (omega arith)
@@ -132,9 +88,6 @@ list_length : (f : List Entry → List Entry) (lists : List (List Entry)) (by : 
 list_length f [] by = refl
 list_length f (x ∷ xs) zero = refl
 list_length f (x ∷ xs) (suc by) = ap suc (list_length f xs by)
-
-pub noted_local : (lists : List (List Entry)) (by : ℕ) → IsNoted lists lists by (Some stepped.Local)
-noted_local lists by = record { logs = λ t h. sym (append-nil _); len = refl }
 
 pub noted_event : (lists news : List (List Entry)) (by : ℕ) (e : Entry) → news ≡ change_at lists by (λ es. es ++ e ∷ []) → IsNoted lists news by (Some (stepped.Event e))
 noted_event lists news by e is = record { logs = λ t h. rw is (list_push lists by t e h); len = ap length is ∙ list_length _ lists by }

@@ -8,14 +8,13 @@ use Rattle.rw_objects.specs.declared.entry.Entry.{Entry}
 use Rattle.rw_objects.specs.Code.{Code, CodeLaws}
 use Rattle.rw_objects.specs.Space.{Space}
 use Rattle.event_core.specs.declared.pick.Pick.{Pick}
-use Rattle.event_core.specs.declared.step.Stepped.{Stepped}
 use Rattle.event_core.specs.World.{WorldAt, step_of_pick, world_after}
 use Rattle.event_core.specs.Run.{entries, entries_of_step, world_run}
 use Rattle.replay_laws.proofs.Orders.{world_joined}
 use Rattle.recorder.specs.Picks.{is_taken, step_taken, picks_taken, picks_passed}
-use Rattle.recorder.specs.Recorded.{list_at, count_passed, entries_added, IsNoted, IsBatch, AreRecorded}
+use Rattle.recorder.specs.Recorded.{list_at, IsNoted, IsBatch, AreRecorded}
 use Rattle.recorder.proofs.Batches.{batch_recorded}
-use Rattle.recorder.proofs.Rest.{entries_step, world_step, passed_step, is_passed, none_taken, all_passed}
+use Rattle.recorder.proofs.Rest.{entries_step, world_step, none_taken, all_passed}
 use Rattle.schedules.specs.declared.schedule.Stretch.{Stretch}
 use Rattle.schedules.specs.Stretches.{picks_of, picks_in}
 
@@ -98,29 +97,23 @@ module _ {State Op Reply Value Fixed : Type 0} (space : Space Op Reply Value Fix
       }
 
   -- one pick, whose step was noted
-  pub one_recorded : (p : Pick) (w v : WorldAt State Value Fixed) (lists news : List (List Entry)) (passed : ℕ) (s : Stepped)
-      → Some s ≡ step_taken space code steps w p → v ≡ cond (is_taken space code steps w p) (world_after space code w p) w → IsNoted lists news p.thread (Some s)
+  pub one_recorded : (p : Pick) (w v : WorldAt State Value Fixed) (lists news : List (List Entry)) (passed : ℕ)
+      → is_taken space code steps w p ≡ true → v ≡ cond (is_taken space code steps w p) (world_after space code w p) w → IsNoted lists news p.thread (step_taken space code steps w p)
       → AreRecorded space code steps (p ∷ []) w v lists news passed passed
-  one_recorded p w v lists news passed s is moved noted =
+  one_recorded p w v lists news passed is moved noted =
       let b = is_taken space code steps w p in
       record {
         world = sym (world_step space code steps w v p [] b refl moved);
-        logs = λ t h.
-            noted.logs t h ∙ ap (λ l. list_at lists t ++ l)
-            (sym (entries_step space code steps w v p [] t b refl moved ∙ append-nil _ ∙ ap (entries_added p.thread t) (sym is)));
-        passed =
-            let x : count_passed (step_taken space code steps w p) ≡ 0 = ap count_passed (sym is) in
-            let y = passed_step space code steps w v p [] b refl moved in
-            omega (arith, x, y);
+        logs = λ t h. noted.logs t h ∙ ap (λ l. list_at lists t ++ l) (sym (entries_step space code steps w v p [] t b refl moved ∙ append-nil _));
+        passed = let x : picks_passed space code steps w (p ∷ []) ≡ 0 = ap (λ b. cond b 0 (0 + 1)) is in omega (arith, x);
         len = noted.len;
       }
 
   -- a pick that is passed over changes nothing, however often it comes
   pub passed_recorded : (p : Pick) (n : ℕ) (w v : WorldAt State Value Fixed) (lists : List (List Entry)) (passed : ℕ)
-      → None ≡ step_taken space code steps w p → v ≡ cond (is_taken space code steps w p) (world_after space code w p) w
+      → is_taken space code steps w p ≡ false → v ≡ cond (is_taken space code steps w p) (world_after space code w p) w
       → AreRecorded space code steps (replicate n p) w v lists lists passed (passed + n)
-  passed_recorded p n w v lists passed is moved =
-      let over = is_passed space code steps w p (sym is) in
+  passed_recorded p n w v lists passed over moved =
       let none = none_taken space code steps w p n over in
       let stays : v ≡ w = moved ∙ ap (λ b. cond b (world_after space code w p) w) over in
       record {

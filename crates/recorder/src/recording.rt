@@ -1,16 +1,16 @@
 //! Recording by a schedule.
 
-ghost use Rattle.std.specs.Prelude.{◌≡◌, ◌+◌, ◌^◌, ◌<◌, ◌≤◌, Some, IfOk, OnOk, length, map, cond, replicate, slice_get, option_map};
+ghost use Rattle.std.specs.Prelude.{◌≡◌, ◌+◌, ◌^◌, ◌<◌, ◌≤◌, true, false, IfOk, OnOk, length, map, cond, replicate, slice_get, option_map};
 ghost use Rattle.event_core.specs.World.{world_of, world_after};
 ghost use Rattle.event_core.specs.Run.{run_end, IsRun};
 ghost use Rattle.replay_laws.specs.RunLog.{run_log, end_of_thread};
 ghost use Rattle.recorder.specs.Picks.{is_taken, step_taken, picks_taken, picks_passed};
-ghost use Rattle.recorder.specs.Recorded.{IsNoted, IsThread, IsBatch, AreRecorded};
+ghost use Rattle.recorder.specs.Recorded.{IsNoted, IsBatch, AreRecorded};
 ghost use Rattle.recorder.specs.ThreadLogAt.{log_of};
 
 use crate::logs::Logs;
 use crate::recorded::{Recorded, ThreadLog};
-use event_core::{Input, Pick, StepFault, Stepped, World};
+use event_core::{Input, Pick, PickStep, World};
 use log_pieces::End;
 use packed_entries::PackedEntries;
 use rw_objects::{Machine, ObjectSpace};
@@ -18,33 +18,34 @@ use schedules::{Schedule, Stretch};
 use std::alloc::Global;
 use wasm_types::NoMemory;
 
-/// Makes the step of a pick, if it is enabled and its thread has made fewer steps.
+/// Makes the step of a pick, if it is enabled and its thread has made fewer steps, and notes the entry of an event. Answers
+/// whether it is made. An entry goes from the event into the log, and by no other value between them.
 fn try_pick<M: Machine<S>, S: ObjectSpace>(
     world: &mut World<M, S>,
+    logs: &mut Logs,
     pick: Pick,
     steps: u32,
-) -> Result<Option<Stepped>, NoMemory>
-    ensures taken { IfOk result (λ stepped. stepped ≡ step_taken S.meaning M.code steps (world_of world.old) pick) }
+) -> Result<bool, NoMemory>
+    requires { length logs.old ≡ length (world_of world.old).threads }
+    ensures taken { IfOk result (λ taken. taken ≡ is_taken S.meaning M.code steps (world_of world.old) pick) }
     ensures world { OnOk result (world_of world.new ≡ cond (is_taken S.meaning M.code steps (world_of world.old) pick) (world_after S.meaning M.code (world_of world.old) pick) (world_of world.old)) }
+    ensures noted { IfOk result (λ taken. taken ≡ true → IsNoted logs.old logs.new pick.thread (step_taken S.meaning M.code steps (world_of world.old) pick)) }
+    ensures kept { IfOk result (λ taken. taken ≡ false → logs.new ≡ logs.old) }
 {
     if !world.has_steps_left(pick.thread, steps) {
-        return Ok(None);
+        return Ok(false);
     }
-    match world.step(pick) {
-        Ok(stepped) => Ok(Some(stepped)),
-        Err(StepFault::NoMemory) => Err(NoMemory),
-        Err(_) => Ok(None),
-    }
-}
-
-/// Notes a step.
-fn note(logs: &mut Logs, thread: u32, stepped: Stepped) -> Result<(), NoMemory>
-    requires { IsThread (length logs.old) thread (Some stepped) }
-    ensures { OnOk result (IsNoted logs.old logs.new thread (Some stepped)) }
-{
-    match stepped {
-        Stepped::Local => Ok(()),
-        Stepped::Event(entry) => logs.push(thread, &entry),
+    match world.step_of(pick) {
+        PickStep::Refused(_) => Ok(false),
+        PickStep::Local => {
+            world.local(pick)?;
+            Ok(true)
+        }
+        PickStep::Event(op) => {
+            let entry = world.event(pick, op)?;
+            logs.push(pick.thread, &entry)?;
+            Ok(true)
+        }
     }
 }
 
@@ -128,16 +129,11 @@ fn try_stretch<M: Machine<S>, S: ObjectSpace>(
     ensures some { IfOk result (λ tried. 0 < tried) }
     ensures few { IfOk result (λ tried. tried ≤ stretch.times) }
 {
-    match try_pick(world, stretch.pick, steps)? {
-        Some(stepped) => {
-            note(logs, stretch.pick.thread, stepped)?;
-            Ok(1)
-        }
-        None => {
-            *passed += stretch.times as u64;
-            Ok(stretch.times)
-        }
+    if try_pick(world, logs, stretch.pick, steps)? {
+        return Ok(1);
     }
+    *passed += stretch.times as u64;
+    Ok(stretch.times)
 }
 
 /// Tries a pick so many times in a row.
