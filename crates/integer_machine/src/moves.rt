@@ -102,6 +102,7 @@ pub(crate) fn next_of(valid: &Valid, instance: &Instance, m: &Stacks) -> Next<Op
 }
 
 /// Makes a local step. Where memory is wanted the thread stays as it was.
+#[inline(never)]
 pub(crate) fn local_of(valid: &Valid, instance: &Instance, m: &mut Stacks) -> Result<(), NoMemory>
     requires sound { Sound valid.now instance.now m.old }
     requires next { IsNextLocal valid.now instance.now m.old }

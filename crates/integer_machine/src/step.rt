@@ -43,6 +43,7 @@ fn plain_step(m: &mut Stacks, valid: &Valid, op: Plain) -> bool
 
 /// Makes the step of an instruction with one index, and answers whether the same function is known to go on. Where
 /// memory is wanted, all stays as it was.
+#[inline(always)]
 fn index_step(m: &mut Stacks, valid: &Valid, op: IndexOp, index: u32) -> Result<bool, NoMemory>
     requires { CanStepIn valid.now (IndexInstr op index) m.old }
     ensures ok { OnOk result (StepsIn valid.now (IndexInstr op index) m.old m.new) }
@@ -68,6 +69,7 @@ fn index_step(m: &mut Stacks, valid: &Valid, op: IndexOp, index: u32) -> Result<
 
 /// Makes the step of an instruction that touches no object, and answers whether the same function is known to go on.
 /// Where memory is wanted, all stays as it was.
+#[inline(always)]
 pub(crate) fn step(
     m: &mut Stacks,
     valid: &Valid,

@@ -26,6 +26,7 @@ fn type_of_narrow(narrow: Narrow) -> ValType
 }
 
 /// A value in the place of operands, or a trap. Answers whether the thread is known to go on.
+#[inline(always)]
 fn finish(m: &mut Stacks, taken: usize, computed: Result<Value, Trap>) -> bool
     requires place { m.old.here.place + 1 < 2 ^ 32 }
     requires some { 0 < taken }
