@@ -25,13 +25,6 @@ take_one_more f [] n x e = absurd (cc)
 take_one_more f (y ∷ ys) zero x e = let s : y ≡ x = cc in ap (λ z. f z ∷ []) s
 take_one_more f (y ∷ ys) (suc n) x e = ap (λ l. f y ∷ l) (take_one_more f ys n x e)
 
-pub take_whole : {A : Type 0} (xs : List A) (n : ℕ) → n ≡ length xs → take n xs ≡ xs
-take_whole xs n e = rw e (whole xs)
-  where
-    whole : {A : Type 0} (xs : List A) → take (length xs) xs ≡ xs
-    whole [] = refl
-    whole (x ∷ xs) = ap (λ l. x ∷ l) (whole xs)
-
 -- what was made of an item says which it is
 pub made_of : {A B : Type 0} (f : A → B) (o : Option A) (b : B) → option_map f o ≡ Some b → (a : A) × (o ≡ Some a) × (f a ≡ b)
 made_of f None b e = absurd (cc)
