@@ -10,7 +10,8 @@ use crate::journal::Journal;
 use crate::parts::{Parts, gather};
 use crate::shared::Shared;
 use call_chain::{Head, Tail};
-use rw_objects::{Entry, ObjectSpace, Versioned};
+use packed_entries::PackedEntries;
+use rw_objects::{ObjectSpace, Versioned};
 use shared_journal::{Held, Seat};
 use shared_parts::{Call, Count, Opening};
 use std::alloc::Global;
@@ -24,23 +25,23 @@ pub struct History<S: ObjectSpace> {
     /// The thread of each call.
     pub order: Vec<u8>,
     /// The entries of each thread's calls, by thread.
-    pub entries: Vec<Vec<Entry>>,
+    pub entries: Vec<PackedEntries>,
     /// The space with its versions.
     pub memory: Versioned<S>,
 }
 
 /// Takes a seat in. Its calls are among those of its thread.
-fn hand_in<S: ObjectSpace, J: Opening<S>>(
+fn hand_in<S: Striped, J: Opening<S>>(
     seat: Seat<S, J>,
     head: &Head<Call<S::Op, S::Reply>, J>,
     tail: &mut Tail<Call<S::Op, S::Reply>, J>,
     all: &mut Share<Count<S, J>>,
-) -> Vec<Entry>
+) -> PackedEntries
     ensures tail { tail.new ≡ tail.old }
     ensures within { IsWithin seat.calls (part_of seat.thread tail.old) }
     ensures parts { all.new.parts ≡ all.old.parts + 1 }
     ensures amount { all.new.amount ≡ all.old.amount + length seat.calls }
-    ensures entries { result.items ≡ entries_in seat.calls }
+    ensures entries { result ≡ entries_in seat.calls }
 {
     let Seat {
         thread: _,
@@ -48,6 +49,7 @@ fn hand_in<S: ObjectSpace, J: Opening<S>>(
         calls: _,
         share,
         told,
+        seen: _,
     } = seat;
     tail.meet(head, &told);
     all.merge(share);
@@ -67,7 +69,7 @@ pub(crate) fn end<S: Striped + Drop, J: Opening<S>>(
     ensures memory { IfOk result (λ h. memory_of h.memory ≡ memory_after_calls S.meaning J.named.memory held) }
     ensures order { IfOk result (λ h. h.order.items ≡ threads_in held) }
     ensures parts { IfOk result (λ h. AreParts held seats.items) }
-    ensures entries { IfOk result (λ h. map (λ v. v.items) h.entries.items ≡ map (λ s. entries_in s.calls) seats.items) }
+    ensures entries { IfOk result (λ h. h.entries.items ≡ map (λ s. entries_in s.calls) seats.items) }
 {
     let Held {
         versions,
@@ -97,7 +99,7 @@ impl<S: Striped + Drop, J: Opening<S>> Shared<S, J> {
     pub fn close(self, alloc: Global, seats: Vec<Seat<S, J>>) -> Result<History<S>, NoMemory>
         requires all { length seats.items ≡ J.named.threads }
         requires numbered { IsNumbered 0 seats.items }
-        ensures { IfOk result (λ h. (calls : List (Call S.Op S.Reply)) × IsLegalHistory S.meaning J.named.memory calls × (memory_of h.memory ≡ memory_after_calls S.meaning J.named.memory calls) × (h.order.items ≡ threads_in calls) × AreParts calls seats.items × (map (λ v. v.items) h.entries.items ≡ map (λ s. entries_in s.calls) seats.items)) }
+        ensures { IfOk result (λ h. (calls : List (Call S.Op S.Reply)) × IsLegalHistory S.meaning J.named.memory calls × (memory_of h.memory ≡ memory_after_calls S.meaning J.named.memory calls) × (h.order.items ≡ threads_in calls) × AreParts calls seats.items × (h.entries.items ≡ map (λ s. entries_in s.calls) seats.items)) }
     {
         let Shared {
             parts,

@@ -6,13 +6,14 @@ ghost use Rattle.shared_parts.specs.Eights.{totals_by};
 ghost use Rattle.shared_core.specs.Begins.{names_of, ledger_names, AreSingle};
 ghost use Rattle.rw_objects.specs.Counts.{no_counts};
 ghost use Rattle.rw_objects.specs.Memory.{memory_with};
-ghost use Rattle.shared_parts.specs.Calls.{IsNumbered};
+ghost use Rattle.shared_parts.specs.Calls.{IsNumbered, AreNew};
 
 use crate::journal::Journal;
 use crate::parts::Parts;
 use crate::resting::Resting;
 use crate::shared::Shared;
 use call_chain::{Pile, Told, Unnamed};
+use packed_entries::PackedEntries;
 use rw_objects::{ObjectSpace, Versions};
 use shared_journal::{Held, Seat};
 use shared_parts::{Books, Call, Count, Lane, Opening, Stripe};
@@ -125,7 +126,7 @@ fn stripes<S: Striped, J: Opening<S>>(
 }
 
 /// A seat for each thread, with its share of the ledger of calls. The rest of the share is answered too.
-fn seats<S: ObjectSpace, J: Opening<S>>(
+fn seats<S: Striped, J: Opening<S>>(
     alloc: Global,
     threads: u8,
     share: Share<Count<S, J>>,
@@ -134,7 +135,7 @@ fn seats<S: ObjectSpace, J: Opening<S>>(
     requires parts { share.parts ≡ threads + 1 }
     requires amount { share.amount ≡ 0 }
     requires told { told.now ≡ [] }
-    ensures seats { IfOk result (λ r. (length r.0.items ≡ threads) × IsNumbered 0 r.0.items) }
+    ensures seats { IfOk result (λ r. (length r.0.items ≡ threads) × IsNumbered 0 r.0.items × AreNew r.0.items) }
     ensures rest { IfOk result (λ r. (r.1.parts ≡ 1) × (r.1.amount ≡ 0)) }
 {
     let mut share = share;
@@ -143,10 +144,11 @@ fn seats<S: ObjectSpace, J: Opening<S>>(
         let own = share.split_off(1, 0);
         seats.push(Seat {
             thread,
-            entries: Vec::new(alloc),
+            entries: PackedEntries::new(alloc),
             calls: Pile::new(),
             share: own,
             told: told.again(),
+            seen: Vec::new(alloc),
         })?;
     }
     Ok((seats, share))
@@ -160,7 +162,7 @@ impl<S: Striped + Drop, J: Opening<S>> Shared<S, J> {
     ) -> Result<(Shared<S, J>, Vec<Seat<S, J>>), NoMemory>
         requires chain { opened.chain ≡ J.chain }
         requires named { names_of (S.fixed opened.space) (S.values opened.space) opened.count.name (ledger_names opened.lanes) opened.threads ≡ J.named }
-        ensures seats { IfOk result (λ r. (length r.1.items ≡ J.named.threads) × IsNumbered 0 r.1.items) }
+        ensures seats { IfOk result (λ r. (length r.1.items ≡ J.named.threads) × IsNumbered 0 r.1.items × AreNew r.1.items) }
     {
         let Opened {
             space,

@@ -19,7 +19,7 @@ use std::marker::Model;
 use std::snapshot::Snapshot;
 use std::sync::ledger::{Book, Share};
 use striped_objects::Striped;
-use wasm_types::{NoMemory, Same};
+use wasm_types::NoMemory;
 
 /// The versions of all objects and the journal. At run time the journal is the thread of each call, a byte each: what was
 /// asked and answered is known to proofs alone. Contracts see the list of its calls.
@@ -156,8 +156,8 @@ impl<S: Striped, J: Opening<S>> Held<S, J> {
         ensures kept { (IsDone result ≡ false) → (self.new ≡ self.old) × (seat.new ≡ seat.old) }
         ensures thread { seat.new.thread ≡ seat.old.thread }
     {
-        let mut seen = Vec::new(alloc);
-        self.look(lents, touches, &op, &mut seen)?;
+        seat.seen.clear();
+        self.look(lents, touches, &op, &mut seat.seen)?;
         let entry = Entry {
             kind: S::kind(&op),
             found: find(alloc, &self.versions, touches),
@@ -167,13 +167,12 @@ impl<S: Striped, J: Opening<S>> Held<S, J> {
                 return Ok(Tried::Shut);
             }
         }
-        let decision = S::decide(&op, seen.as_slice());
+        let decision = S::decide(&op, seat.seen.as_slice());
         if !S::is_ready(&decision) {
             return Ok(Tried::NotReady);
         }
-        let told = entry.copy(alloc)?;
         self.order.reserve(1)?;
-        seat.entries.reserve(1)?;
+        seat.entries.push(&entry)?;
         let reply = S::reply(&decision);
         let made = Call {
             thread: u32::from(seat.thread),
@@ -194,7 +193,6 @@ impl<S: Striped, J: Opening<S>> Held<S, J> {
             reply,
             entry,
         } = made;
-        seat.entries.push_reserved(entry);
         self.versions.touch_all(touches);
         lents.advance(
             &mut self.books,
@@ -204,6 +202,6 @@ impl<S: Striped, J: Opening<S>> Held<S, J> {
             &op,
             &decision,
         );
-        Ok(Tried::Done(reply, told))
+        Ok(Tried::Done(reply, entry))
     }
 }

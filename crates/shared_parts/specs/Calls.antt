@@ -39,6 +39,11 @@ abbrev pub IsNumbered : {Op Reply : Type 0} → ℕ → List (Part Op Reply) →
 IsNumbered b [] = Unit {0}
 IsNumbered b (s ∷ ss) = (s.thread ≡ b) × IsNumbered (b + 1) ss
 
+-- no seat has calls
+abbrev pub AreNew : {Op Reply : Type 0} → List (Part Op Reply) → Type 0
+AreNew [] = Unit {0}
+AreNew (s ∷ ss) = (s.calls ≡ []) × AreNew ss
+
 -- each seat has the calls of its thread
 abbrev pub AreParts : {Op Reply : Type 0} → List (Call Op Reply) → List (Part Op Reply) → Type 0
 AreParts all [] = Unit {0}

@@ -51,5 +51,5 @@ pub returns-clause-entries : goal.returns-clause-entries
 returns-clause-entries g c =
     let inv = c.loop-seat.invariant in
     let none : into_iter_items c.loop-seat.seat-iterator ≡ [] = empty (into_iter_items c.loop-seat.seat-iterator) (sym inv.3 ∙ c.in-None.ensures.steps.0) in
-    let made = map (λ v. v.items) c.loop-seat.entries.items in
+    let made = c.loop-seat.entries.items in
     sym (append-nil made) ∙ (ap (λ r. made ++ map (λ s. entries_in s.calls) r) (sym none) ∙ inv.4)

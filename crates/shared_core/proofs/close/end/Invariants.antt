@@ -11,5 +11,5 @@ invariant-loop-seat g l =
     × (l.all.amount + calls_of rest ≡ calls_of seats)
     × (AreWithin l.tail rest → AreWithin l.tail seats)
     × (into_iter_len l.seat-iterator ≡ length rest)
-    × (map (λ v. v.items) l.entries.items ++ map (λ s. entries_in s.calls) rest ≡ map (λ s. entries_in s.calls) seats)
+    × (l.entries.items ++ map (λ s. entries_in s.calls) rest ≡ map (λ s. entries_in s.calls) seats)
     × (l.tail ≡ l.fn.held)

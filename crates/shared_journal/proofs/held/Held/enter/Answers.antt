@@ -19,7 +19,7 @@ entry_with k f = record { kind = k; found = f }
 
 pub advance-requires-clause-grown : goal.advance-requires-clause-grown
 advance-requires-clause-grown g c =
-    (c.of.result.value, c.push.ensures ∙ ap (λ l. l ++ c.of.result.value ∷ []) (c.meet.ensures.same ∙ sym c.told-before.ensures), ap (λ x. x.op) c.of.ensures)
+    (c.of.result.value, c.push-2.ensures ∙ ap (λ l. l ++ c.of.result.value ∷ []) (c.meet.ensures.same ∙ sym c.told-before.ensures), ap (λ x. x.op) c.of.ensures)
 
 pub advance-requires-clause-sound : goal.advance-requires-clause-sound
 advance-requires-clause-sound g c =
@@ -37,7 +37,7 @@ invariant_of-self-2 g c =
     let fits = c.requires.fits in
     let before = memory_after_calls space m cs in
     let made = c.of.ensures in
-    let grown : c.push.new.self ≡ cs ++ c.of.result.value ∷ [] = c.push.ensures ∙ ap (λ l. l ++ c.of.result.value ∷ []) c.meet.ensures.same in
+    let grown : c.push-2.new.self ≡ cs ++ c.of.result.value ∷ [] = c.push-2.ensures ∙ ap (λ l. l ++ c.of.result.value ∷ []) c.meet.ensures.same in
     let op_is : c.of.result.value.op ≡ op = ap (λ x. x.op) made in
     let seen : c.as_slice.result.now ≡ sights space cut m.fixed (memory_after_calls space m c.args.self.now).values op = search rules in
     let decided : c.decide-decision.result ≡ decision_at space cut m.fixed before.values op = c.decide-decision.ensures ∙ ap (cut.decision op) (seen ∙ ap (λ l. sights space cut m.fixed (memory_after_calls space m l).values op) (sym (c.self.view_is ∙ c.look.ensures.kept))) in
@@ -46,16 +46,16 @@ invariant_of-self-2 g c =
     let replied : c.reply-reply.result ≡ reply_of space m.fixed before.values op = c.reply-reply.ensures ∙ (ap cut.reply decided ∙ laws.reply m.fixed op before.values fits inv.sound) in
     let found : c.find.result ≡ all_found (space.touches op) before.counts = c.find.ensures ∙ (ap (λ ts. all_found ts (count_at c.self.inside.versions)) c.requires.touches ∙ ap (all_found (space.touches op)) inv.counts) in
     let entered : entry_with c.kind.result c.find.result ≡ entry_of space before op = ap (λ k. entry_with k c.find.result) c.kind.ensures ∙ ap (entry_with (space.kind op)) found in
-    let then : memory_after_calls space m c.push.new.self ≡ memory_after space before op = memory_with_call space m cs c.push.new.self c.of.result.value op grown op_is in
+    let then : memory_after_calls space m c.push-2.new.self ≡ memory_after space before op = memory_with_call space m cs c.push-2.new.self c.of.result.value op grown op_is in
     let few = few_after (space.touches op) (count_at c.self.inside.versions) (length c.self.inside.order.items) inv.few_versions inv.few_reads in
     let counts : count_at c.touch_all.new.self ≡ counts_after (space.touches op) (count_at c.self.inside.versions) = c.touch_all.ensures.counts ∙ ap (λ ts. counts_after ts (count_at c.self.inside.versions)) c.requires.touches in
     let pushed : c.push_reserved.new.self.items ≡ c.self.inside.order.items ++ c.seat.inside.thread ∷ [] = search rules in
     let longer = ap length pushed ∙ length-append c.self.inside.order.items (c.seat.inside.thread ∷ []) in record {
-      legal = legal_with space m cs c.push.new.self c.of.result.value m.fixed (fixed_after space m cs) grown inv.legal
+      legal = legal_with space m cs c.push-2.new.self c.of.result.value m.fixed (fixed_after space m cs) grown inv.legal
           (ap (is_ready space m.fixed before.values) op_is ∙ ready)
           (ap (λ x. x.reply) made ∙ (replied ∙ ap (reply_of space m.fixed before.values) (sym op_is)))
           (ap (λ x. x.entry) made ∙ (entered ∙ ap (entry_of space before) (sym op_is)));
-      sound = subst (AllSound cut m.fixed) (sym (values_with_call space m cs c.push.new.self c.of.result.value op grown op_is)) (sound_after space cut laws m.fixed before.values op fits inv.sound);
+      sound = subst (AllSound cut m.fixed) (sym (values_with_call space m cs c.push-2.new.self c.of.result.value op grown op_is)) (sound_after space cut laws m.fixed before.values op fits inv.sound);
       counts = counts ∙ (ap (counts_after (space.touches op)) inv.counts ∙ sym (ap (λ x. x.counts) then));
       sized = c.touch_all.ensures.len ∙ inv.sized;
       few_versions = λ o. subst (λ f. (f o).version ≤ length c.push_reserved.new.self.items) (sym counts) (let h = (few o).0 in omega (arith, longer, h));
@@ -75,14 +75,14 @@ invariant_of-seat-2 g c =
     let calls = c.seat.inside.calls in
     let made = c.of.ensures in
     let same : c.of-2.result.value ≡ c.of.result.value = c.of-2.ensures ∙ sym made in
-    let grown : c.push.new.self ≡ cs ++ c.of.result.value ∷ [] = c.push.ensures ∙ ap (λ l. l ++ c.of.result.value ∷ []) c.meet.ensures.same in
-    let mine : c.push-2.new.self ≡ calls ++ c.of.result.value ∷ [] = c.push-2.ensures ∙ ap (λ x. calls ++ x ∷ []) same in
-    let noted : c.push_reserved-2.new.self.items ≡ c.seat.inside.entries.items ++ entry_with c.kind.result c.find.result ∷ [] = search rules in
+    let grown : c.push-2.new.self ≡ cs ++ c.of.result.value ∷ [] = c.push-2.ensures ∙ ap (λ l. l ++ c.of.result.value ∷ []) c.meet.ensures.same in
+    let mine : c.push-3.new.self ≡ calls ++ c.of.result.value ∷ [] = c.push-3.ensures ∙ ap (λ x. calls ++ x ∷ []) same in
+    let noted : c.push.new.self ≡ c.seat.inside.entries ++ entry_with c.kind.result c.find.result ∷ [] = search rules in
     let longer = ap length mine ∙ length-append calls (c.of.result.value ∷ []) in (
       c.add.ensures.parts ∙ own.0,
       omega (arith, c.add.ensures.amount, own.1, longer),
       noted ∙ (ap (λ l. l ++ entry_with c.kind.result c.find.result ∷ []) own.2 ∙ (ap (λ e. entries_in calls ++ e ∷ []) (sym (ap (λ x. x.entry) made)) ∙ (sym (entries-push calls c.of.result.value) ∙ ap entries_in (sym mine)))),
-      seat_grows c.seat.inside.thread calls c.push-2.new.self c.seat.inside.told cs c.told.result c.of.result.value c.meet.ensures.begins own.3 mine (c.told.ensures ∙ grown) (ap (λ x. x.thread) made ∙ c.from.ensures),
+      seat_grows c.seat.inside.thread calls c.push-3.new.self c.seat.inside.told cs c.told.result c.of.result.value c.meet.ensures.begins own.3 mine (c.told.ensures ∙ grown) (ap (λ x. x.thread) made ∙ c.from.ensures),
     )
 
 pub returns-clause-done : goal.returns-clause-done
@@ -97,7 +97,7 @@ returns-clause-done g c =
     let fits = c.requires.fits in
     let before = memory_after_calls space m cs in
     let made = c.of.ensures in
-    let grown : c.push.new.self ≡ cs ++ c.of.result.value ∷ [] = c.push.ensures ∙ ap (λ l. l ++ c.of.result.value ∷ []) c.meet.ensures.same in
+    let grown : c.push-2.new.self ≡ cs ++ c.of.result.value ∷ [] = c.push-2.ensures ∙ ap (λ l. l ++ c.of.result.value ∷ []) c.meet.ensures.same in
     let op_is : c.of.result.value.op ≡ op = ap (λ x. x.op) made in
     let seen : c.as_slice.result.now ≡ sights space cut m.fixed (memory_after_calls space m c.args.self.now).values op = search rules in
     let decided : c.decide-decision.result ≡ decision_at space cut m.fixed before.values op = c.decide-decision.ensures ∙ ap (cut.decision op) (seen ∙ ap (λ l. sights space cut m.fixed (memory_after_calls space m l).values op) (sym (c.self.view_is ∙ c.look.ensures.kept))) in
@@ -106,11 +106,10 @@ returns-clause-done g c =
     let replied : c.reply-reply.result ≡ reply_of space m.fixed before.values op = c.reply-reply.ensures ∙ (ap cut.reply decided ∙ laws.reply m.fixed op before.values fits inv.sound) in
     let found : c.find.result ≡ all_found (space.touches op) before.counts = c.find.ensures ∙ (ap (λ ts. all_found ts (count_at c.self.inside.versions)) c.requires.touches ∙ ap (all_found (space.touches op)) inv.counts) in
     let entered : entry_with c.kind.result c.find.result ≡ entry_of space before op = ap (λ k. entry_with k c.find.result) c.kind.ensures ∙ ap (entry_with (space.kind op)) found in
-    let then : memory_after_calls space m c.push.new.self ≡ memory_after space before op = memory_with_call space m cs c.push.new.self c.of.result.value op grown op_is in
-    let copied : c.in_ok-told.told ≡ entry_with c.kind.result c.find.result = search rules in
+    let then : memory_after_calls space m c.push-2.new.self ≡ memory_after space before op = memory_with_call space m cs c.push-2.new.self c.of.result.value op grown op_is in
     let at : cs ≡ c.args.self.now = c.self.view_is ∙ c.look.ensures.kept in (
       subst (λ l. is_ready space m.fixed (memory_after_calls space m l).values op ≡ true) at ready,
       replied ∙ ap (λ l. reply_of space m.fixed (memory_after_calls space m l).values op) at,
-      copied ∙ (entered ∙ ap (λ l. entry_of space (memory_after_calls space m l) op) at),
+      entered ∙ ap (λ l. entry_of space (memory_after_calls space m l) op) at,
       then ∙ ap (λ l. memory_after space (memory_after_calls space m l) op) at,
     )
