@@ -1,0 +1,38 @@
+//! What the threads of a shared space do.
+
+ghost use Rattle.std.specs.Prelude.{◌≡◌, []};
+
+use shared_core::Shared;
+use shared_journal::Seat;
+use shared_parts::Opening;
+use std::alloc::Global;
+use std::sync::Wait;
+use striped_objects::Striped;
+
+/// What each thread over a shared space does with its seat. All threads have the same value of it.
+pub trait Work<S: Striped> {
+    ghost use Rattle.std.specs.Prelude.{List};
+    ghost use Rattle.shared_parts.specs.declared.call.Call.{Call};
+
+    /// What a thread has to itself.
+    type State;
+
+    ghost begins: { S.Fixed → Self.State → Type 0 };
+
+    ghost leads: { Self.State → List (Call S.Op S.Reply) → Self.State → Type 0 };
+
+    /// The work of one thread, from what it has to what it then has. `begins` says with what it may begin over a space with
+    /// these fixed numbers, `leads` what its calls lead to. The seat is left for it, once it is done.
+    fn work<J: Opening<S>, R: Wait>(
+        &self,
+        rt: &R,
+        alloc: Global,
+        shared: &Shared<S, J>,
+        seat: &mut Seat<S, J>,
+        state: Self::State,
+    ) -> Self::State
+        requires begins { begins J.named.memory.fixed state }
+        requires new { seat.old.calls ≡ [] }
+        ensures thread { seat.new.thread ≡ seat.old.thread }
+        ensures leads { leads state seat.new.calls result };
+}
