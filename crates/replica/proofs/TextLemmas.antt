@@ -1,5 +1,5 @@
 -- Where a piece line stands in a text.
-use Rattle.std.proofs.Common.{◌≡◌, ℕ, suc, ◌+◌, ◌<◌, ◌≤◌, List, [], ◌∷◌, ◌++◌, length, refl, sym, ap, subst, ◌∙◌, arith, inl, append_assoc}
+use Rattle.std.proofs.Common.{◌≡◌, ◌≢◌, ℕ, suc, ◌+◌, ◌<◌, ◌≤◌, List, [], ◌∷◌, ◌++◌, length, refl, sym, ap, subst, ◌∙◌, arith, inl, append_assoc}
 use Rattle.std.specs.Prelude.{slice_index}
 use Rattle.std.proofs.Math.ListN.{get_or-append, length-append}
 use Rattle.std.proofs.Math.Seq.{get_or-append_seam}
@@ -44,3 +44,18 @@ bad_long ended rest front tail no_end parts long = inl (λ piece line more behin
     sym (append_assoc front tail more) ∙ ap (λ l. l ++ more) (sym parts) ∙ same ∙ ap (λ l. l ++ behind) digits.2 ∙ append_assoc digits.0 (10 ∷ []) behind in
     no_end (length digits.0) within
     (sym (get_or-append front (tail ++ more) 0 (length digits.0) within) ∙ ap (λ l. slice_index l (length digits.0)) whole ∙ get_or-append_seam digits.0 10 behind 0))
+
+-- a line that is longer than any piece line is of no piece
+pub long_bad : (front tail : List ℕ) (piece : PieceValue) → 532621 < length front → IsLineOf (front ++ tail ++ 10 ∷ []) piece → ⊥
+long_bad front tail piece long is =
+    let short : length (front ++ tail ++ 10 ∷ []) ≤ 532621 = length-line (front ++ tail ++ 10 ∷ []) piece is in
+    let all = length-append (front ++ tail) (10 ∷ []) in
+    let parts = length-append front tail in
+    omega arith
+
+pub long_some : (front tail : List ℕ) → 532621 < length front → front ++ tail ≢ []
+long_some front tail long none = let parts = length-append front tail in let zero = ap length none in omega arith
+
+-- what came first, and what came then
+pub got_both : (held got front chunk more tail : List ℕ) → held ++ got ≡ front ++ chunk → chunk ++ more ≡ tail → held ++ (got ++ more) ≡ front ++ tail
+got_both held got front chunk more tail first then = sym (append_assoc held got more) ∙ ap (λ l. l ++ more) first ∙ append_assoc front chunk more ∙ ap (λ l. front ++ l) then

@@ -112,11 +112,12 @@ pub(crate) fn next_line<R: Source>(
     requires { R.failed source.old < 2 ^ 64 - 1 }
     ensures whole { result ≡ Ok LineEnd.Whole → ((got front : List ℕ) × R.brings source.old got source.new × HasNoEnd front × (chunk.old ++ got ≡ front ++ 10 ∷ chunk.new) × (line.new.items ≡ front ++ 10 ∷ [])) }
     ensures last { result ≡ Ok LineEnd.Last → ((got : List ℕ) × R.brings source.old got source.new × R.ended source.new × HasNoEnd line.new.items × (chunk.old ++ got ≡ line.new.items)) }
-    ensures too_long { result ≡ Ok LineEnd.TooLong → ((got front rest : List ℕ) × R.brings source.old got source.new × HasNoEnd front × (chunk.old ++ got ≡ front ++ rest) × (LONGEST_LINE < length front)) }
+    ensures too_long { result ≡ Ok LineEnd.TooLong → ((got front : List ℕ) × R.brings source.old got source.new × HasNoEnd front × (chunk.old ++ got ≡ front ++ chunk.new) × (LONGEST_LINE < length front)) }
     ensures source_failed { result ≡ Err GatherFault.SourceFailed → ((got : List ℕ) × R.brings source.old got source.new × HasNoEnd (chunk.old ++ got)) × (R.failed source.new ≡ R.failed source.old + 1) }
     ensures none_failed { (result ≡ Err GatherFault.SourceFailed → ⊥) → R.failed source.new ≡ R.failed source.old }
     ensures errors { IfErr result IsReadFault }
     ensures fewer { result ≡ Ok LineEnd.Whole → pending (R.calls source.new) chunk.new < pending (R.calls source.old) chunk.old }
+    ensures no_more { result ≡ Ok LineEnd.TooLong → pending (R.calls source.new) chunk.new ≤ pending (R.calls source.old) chunk.old }
 {
     line.clear();
     loop {
@@ -132,6 +133,35 @@ pub(crate) fn next_line<R: Source>(
         }
         if chunk.is_empty() {
             return Ok(LineEnd::Last);
+        }
+    }
+}
+
+/// Passes over the rest of a line: up to its end, and answers `true`, or to the end of the source. No byte of it is kept.
+pub(crate) fn pass_line<R: Source>(
+    source: &mut R,
+    chunk: &mut Chunk,
+    line: &mut Vec<u8>,
+) -> Result<bool, GatherFault>
+    requires { R.failed source.old < 2 ^ 64 - 1 }
+    ensures whole { result ≡ Ok true → ((got front : List ℕ) × R.brings source.old got source.new × HasNoEnd front × (chunk.old ++ got ≡ front ++ 10 ∷ chunk.new)) }
+    ensures last { result ≡ Ok false → ((got : List ℕ) × R.brings source.old got source.new × R.ended source.new × HasNoEnd (chunk.old ++ got)) }
+    ensures source_failed { result ≡ Err GatherFault.SourceFailed → R.failed source.new ≡ R.failed source.old + 1 }
+    ensures none_failed { (result ≡ Err GatherFault.SourceFailed → ⊥) → R.failed source.new ≡ R.failed source.old }
+    ensures errors { IfErr result IsReadFault }
+    ensures fewer { result ≡ Ok true → pending (R.calls source.new) chunk.new < pending (R.calls source.old) chunk.old }
+{
+    loop {
+        line.clear();
+        if chunk.take_line(line)? {
+            return Ok(true);
+        }
+        match chunk.refill(source) {
+            Ok(()) => {}
+            Err(Failed) => return Err(GatherFault::SourceFailed),
+        }
+        if chunk.is_empty() {
+            return Ok(false);
         }
     }
 }

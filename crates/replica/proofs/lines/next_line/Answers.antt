@@ -17,7 +17,12 @@ returns-then-len-gt-LONGEST_LINE-clause-too_long g c _ =
     let b = c.loop-line.invariant.begun in
     let w = c.in_ok-take_line.ensures.open (cc (c.if-branch.false)) in
     let l = line_more (c.args.chunk.now ++ b.0) c.loop-line.line.items c.loop-line.chunk c.take_line.new.self c.take_line.new.line.items b.2 b.3 w.0 w.2 in
-    (b.0, c.take_line.new.line.items, [], b.1, l.0, l.1 ∙ sym (append-nil c.take_line.new.line.items), search rules)
+    (b.0, c.take_line.new.line.items, b.1, l.0, l.1 ∙ sym (append-nil c.take_line.new.line.items) ∙ ap (λ (r : List ℕ). c.take_line.new.line.items ++ r) (sym w.1), search rules)
+
+pub returns-then-len-gt-LONGEST_LINE-clause-no_more : goal.returns-then-len-gt-LONGEST_LINE-clause-no_more
+returns-then-len-gt-LONGEST_LINE-clause-no_more g c _ =
+    let w = c.in_ok-take_line.ensures.open (cc (c.if-branch.false)) in
+    omega (arith, c.loop-line.invariant.fewer, ap length w.1)
 
 pub returns-in-Err-clause-source_failed : goal.returns-in-Err-clause-source_failed
 returns-in-Err-clause-source_failed g c _ =

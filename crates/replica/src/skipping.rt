@@ -1,0 +1,141 @@
+//! Piece lines in, the listing of their joined log out, where lines that cannot be joined are passed over.
+
+ghost use Rattle.std.specs.Prelude.{◌≡◌, ℕ, ◌+◌, ◌-◌, ◌^◌, ◌<◌, List, Option, [], ◌∷◌, ◌++◌, Err, IfOk, OnOk, OnErr, IfErr};
+ghost use Rattle.log_pieces.specs.Piece.{PieceValue};
+ghost use Rattle.replica.specs.Lines.{IsReadFault, IsDeviceFault};
+ghost use Rattle.replica.specs.Judged.{HasFound, Finds, Skips};
+ghost use Rattle.replica.specs.declared.skipping.Skipped.{Skipped};
+ghost use Rattle.replica.specs.declared.fault.GatherFault.TheVariants as faults;
+
+use crate::fault::{GatherFault, ReplicaFault};
+use crate::gathering::{replica_of, write_found};
+use crate::judging::{Judged, next_whole};
+use crate::lines::Chunk;
+use crate::replica::Replica;
+use crate::sink::Sink;
+use crate::source::Source;
+use log_pieces::Piece;
+use std::alloc::Global;
+use wasm_types::NoMemory;
+
+/// How many lines were passed over. Both numbers stay at the greatest u64.
+#[derive(Clone, Copy, Debug, PartialEq, Eq)]
+pub struct Skipped {
+    /// Lines that are no piece lines.
+    pub bad: u64,
+    /// Piece lines of another run than the first piece line's.
+    pub foreign: u64,
+}
+
+/// What was found in lines: a replica of the first piece line's run, and how many lines were passed over.
+#[derive(Drop)]
+struct Found {
+    replica: Option<Replica>,
+    skipped: Skipped,
+}
+
+impl Found {
+    ghost use Rattle.std.specs.Prelude.{◌≡◌, ◌++◌, ◌∷◌, []};
+
+    /// Nothing, in no lines.
+    fn new() -> Found
+        ensures { HasFound [] result.replica result.skipped }
+    {
+        Found {
+            replica: None,
+            skipped: Skipped { bad: 0, foreign: 0 },
+        }
+    }
+
+    /// Joins a piece, or counts it where it is of another run than the first.
+    fn join(&mut self, alloc: Global, piece: &Piece) -> Result<(), NoMemory>
+        ensures { OnOk result ((lines : List (Option PieceValue)) → HasFound lines self.old.replica self.old.skipped → HasFound (lines ++ Some piece.now ∷ []) self.new.replica self.new.skipped) }
+    {
+        match &mut self.replica {
+            Some(replica) => match replica.deliver(alloc, piece) {
+                Ok(()) => Ok(()),
+                Err(ReplicaFault::OtherRun) => {
+                    self.skipped.foreign = self.skipped.foreign.saturating_add(1);
+                    Ok(())
+                }
+                Err(ReplicaFault::NoMemory) => Err(NoMemory),
+            },
+            None => match replica_of(alloc, piece) {
+                Ok(replica) => {
+                    self.replica = Some(replica);
+                    Ok(())
+                }
+                Err(_) => Err(NoMemory),
+            },
+        }
+    }
+
+    /// Takes in a line that was judged.
+    fn put(&mut self, alloc: Global, judged: &Option<Piece>) -> Result<(), NoMemory>
+        ensures { OnOk result ((lines : List (Option PieceValue)) → HasFound lines self.old.replica self.old.skipped → HasFound (lines ++ judged.now ∷ []) self.new.replica self.new.skipped) }
+    {
+        match judged {
+            Some(piece) => self.join(alloc, piece),
+            None => {
+                self.skipped.bad = self.skipped.bad.saturating_add(1);
+                Ok(())
+            }
+        }
+    }
+}
+
+/// Finds what the lines up to the source's end have.
+fn find<R: Source>(alloc: Global, source: &mut R) -> Result<Found, GatherFault>
+    requires { R.failed source.old < 2 ^ 64 - 1 }
+    ensures finds { IfOk result (λ found. Finds (R.brings source.old) (R.ended source.new) source.new found.replica found.skipped) }
+    ensures source_failed { result ≡ Err faults.SourceFailed → R.failed source.new ≡ R.failed source.old + 1 }
+    ensures none_failed { (result ≡ Err faults.SourceFailed → ⊥) → R.failed source.new ≡ R.failed source.old }
+    ensures errors { IfErr result IsReadFault }
+{
+    let mut chunk = Chunk::new(alloc)?;
+    let mut line = Vec::new(alloc);
+    let mut found = Found::new();
+    loop {
+        match next_whole(alloc, source, &mut chunk, &mut line) {
+            Err(fault) => return Err(fault),
+            Ok(Judged::Line(judged)) => found.put(alloc, &judged)?,
+            Ok(Judged::Last(judged)) => {
+                found.put(alloc, &judged)?;
+                return Ok(found);
+            }
+            Ok(Judged::End) => return Ok(found),
+            Ok(Judged::TooLong) => return Ok(found),
+        }
+    }
+}
+
+/// Gathers as `gather` does, but passes over lines that are no piece lines, and piece lines of another run than the first
+/// one's, and counts them. A line that is longer than any piece line is passed over without being kept.
+pub fn gather_skipping<R: Source, W: Sink>(
+    alloc: Global,
+    source: &mut R,
+    sink: &mut W,
+) -> Result<Skipped, GatherFault>
+    requires source { R.failed source.old < 2 ^ 64 - 1 }
+    requires sink { W.failed sink.old < 2 ^ 64 - 1 }
+    // The sink took the listing of the log of the set of the pieces of the first piece line's run, and so many of the
+    // lines that the source brought are no piece lines, so many of other runs.
+    ensures listed { IfOk result (λ skipped. Skips (R.brings source.old) (R.ended source.new) source.new skipped (λ listed. W.takes sink.old listed sink.new)) }
+    // Source and sink failed exactly where their counts of failures grew; after a failing sink a beginning of the listing was taken.
+    ensures source_failed { result ≡ Err faults.SourceFailed → R.failed source.new ≡ R.failed source.old + 1 }
+    ensures sink_failed { result ≡ Err faults.SinkFailed → ((skipped : Skipped) × Skips (R.brings source.old) (R.ended source.new) source.new skipped (λ listed. (part rest : List ℕ) × (listed ≡ part ++ rest) × W.takes sink.old part sink.new)) × (W.failed sink.new ≡ W.failed sink.old + 1) }
+    ensures source_worked { (result ≡ Err faults.SourceFailed → ⊥) → R.failed source.new ≡ R.failed source.old }
+    ensures sink_worked { (result ≡ Err faults.SinkFailed → ⊥) → W.failed sink.new ≡ W.failed sink.old }
+    // Otherwise nothing was written.
+    ensures unwritten { OnErr result ((result ≡ Err faults.SinkFailed → ⊥) → sink.new ≡ sink.old) }
+    // No line is refused.
+    ensures errors { IfErr result IsDeviceFault }
+{
+    match find(alloc, source) {
+        Ok(found) => match write_found(alloc, sink, &found.replica) {
+            Ok(()) => Ok(found.skipped),
+            Err(fault) => Err(fault),
+        },
+        Err(fault) => Err(fault),
+    }
+}
