@@ -239,6 +239,24 @@ for name in sorted({file.split('.')[0] for file in os.listdir(ROWS)}):
     for order in ORDERS:
         command('replay %s.wasm %s.plan %s.pieces%s' % (name, name, name, ' --order ' + order if order else ''), row(name, 'report').decode())
 
+# lines that are passed over: one that is no piece line, and one of another run
+TWO_WRITES = (
+    '49525001' + 'aa' * 32 + '%02d' + '00' * 7 + '0000000000020001' + '000101000000010000000000000000' + '0000000000000000'
+    + '000101000000010100000000000000' + '0000000000000000' + '08000000020000000301000000\n')
+FIRST_WRITE = '49525001' + 'aa' * 32 + '0100000000000000' + '0000000000010000' + '000101000000010000000000000000' + '0000000000000000\n'
+SECOND_WRITE = (
+    '49525001' + 'aa' * 32 + '0100000000000000' + '0001000000010001' + '000101000000010100000000000000' + '0000000000000000'
+    + '08000000020000000301000000\n')
+LISTED = 'run %s:1\n0.0 access w1@0/0\n0.1 access w1@1/0\n0 end steps=8 places=2 i32 1\nends 1 missing 0 strays 0 clashes 0\n' % ('aa' * 32)
+NO_PIECES = 'run none\nends 0 missing 0 strays 0 clashes 0\n'
+keep('mixed.pieces', 'zz\n' + SECOND_WRITE + TWO_WRITES % 2 + FIRST_WRITE)
+command('gather --skip < mixed.pieces', LISTED, 'skipped 1 1\n')
+refused('gather < mixed.pieces', '43 BadLine 1')
+keep('twice.pieces', TWO_WRITES % 1 + '\n' + TWO_WRITES % 1 + 'z' * 1000)
+command('gather --skip < twice.pieces', LISTED, 'skipped 2 0\n')
+command('gather --skip < counter.plan', NO_PIECES, 'skipped 3 0\n')
+command('gather --skip', NO_PIECES, 'skipped 0 0\n')
+
 keep('commands', '\n'.join(script) + '\n')
 with open(os.path.join(TARGET, 'stdout'), 'w') as file: file.write(''.join(expected))
 print(len(script), 'commands', len(os.listdir(DATA)), 'files', len(''.join(expected)), 'bytes')

@@ -20,7 +20,7 @@ abbrev pub flag_rule : Text → Rule
 flag_rule name = record (new_rule name) { long = Some name; action = Some SetTrue }
 
 abbrev pub gather : App
-gather = new_app (codes "gather")
+gather = with_rule (new_app (codes "gather")) (flag_rule (codes "skip"))
 
 abbrev pub check : App
 check = with_rule (new_app (codes "check")) (file_rule (codes "MODULE"))

@@ -251,14 +251,16 @@ fn view_command<'a>(alloc: Global) -> Result<Command<'a>, AllocError>
 }
 
 /// The command `gather`.
-fn gather_command<'a>(alloc: Global) -> Command<'a>
-    ensures app { app_of result ≡ gather }
-    ensures local { (out-Command result).has_globals ≡ false }
+fn gather_command<'a>(alloc: Global) -> Result<Command<'a>, AllocError>
+    ensures app { IfOk result (λ c. app_of c ≡ gather) }
+    ensures local { IfOk result (λ c. (out-Command c).has_globals ≡ false) }
 {
-    Command::new(alloc, "gather")
+    let command = Command::new(alloc, "gather")
         .about("Join piece lines into one log, and list it")
         .long_about(help::GATHER_ABOUT)
-        .after_help(help::GATHER_REFUSALS)
+        .after_help(help::GATHER_REFUSALS);
+    let skip = "Pass over lines that cannot be joined, and count them";
+    with_argument(command, flag(alloc, "skip", skip))
 }
 
 /// The command lines that there are.
@@ -269,6 +271,7 @@ fn commands<'a>(alloc: Global) -> Result<Command<'a>, AllocError>
     let record = record_command(alloc)?;
     let replay = replay_command(alloc)?;
     let view = view_command(alloc)?;
+    let gather = gather_command(alloc)?;
     let command = Command::new(alloc, "wreplay")
         .version("0.1.0")
         .about("Record and replay runs of threaded WebAssembly modules")
@@ -279,7 +282,7 @@ fn commands<'a>(alloc: Global) -> Result<Command<'a>, AllocError>
     let command = with_command(command, record)?;
     let command = with_command(command, replay)?;
     let command = with_command(command, view)?;
-    with_command(command, gather_command(alloc))
+    with_command(command, gather)
 }
 
 /// What the words ask for that the parser took.

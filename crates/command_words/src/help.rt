@@ -30,6 +30,10 @@ Reads piece lines from standard input and writes the listing of their joined log
 to standard output. The order of the lines and repeats make no difference. The
 first line names the run.
 
+With --skip, lines that are no piece lines, and piece lines of another run than
+the first piece line's, are passed over. Standard error then has the line
+`skipped B F`: B lines were no piece lines, F lines were of other runs.
+
 The listing has the run's key, then by rising thread its items by place and its
 end, then four counts:
 
@@ -50,9 +54,10 @@ A whole log has as many ends as the run has threads, and 0 in the other counts."
 /// How `gather` refuses.
 pub(crate) const GATHER_REFUSALS: &str = "\
 Refusals (exit status 1):
-  refused 41 OtherRun N    line N is of another run than the lines before it
+  refused 41 OtherRun N    line N is of another run than the lines before it,
+                           without --skip
   refused 42 NoMemory      the log does not fit into memory
-  refused 43 BadLine N     line N is no piece line
+  refused 43 BadLine N     line N is no piece line, without --skip
   refused 44 SourceFailed  reading failed; nothing was written
   refused 45 SinkFailed    writing failed; a beginning of the listing was
                            written

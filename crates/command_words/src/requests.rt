@@ -59,8 +59,8 @@ pub struct ViewRequest<'a> {
 /// What a command line asks for.
 #[derive(Drop)]
 pub enum Request<'a> {
-    /// The listing of piece lines.
-    Gather,
+    /// The listing of piece lines, and whether those that cannot be joined are passed over.
+    Gather { skips: bool },
     /// The summary of the module in the file at this path.
     Check(&'a str),
     /// The pieces or the report of a recording.

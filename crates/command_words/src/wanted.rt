@@ -221,7 +221,9 @@ pub(crate) fn request_of<'a>(
     ensures none { IfOk result (λ wanted. OnErr wanted ((r : Request) → IsAsked name.now (rows_of (found_of matches.now)) r → ⊥)) }
 {
     match name {
-        "gather" => Ok(Ok(Request::Gather)),
+        "gather" => Ok(Ok(Request::Gather {
+            skips: has_text(matches, "skip", "true"),
+        })),
         "check" => match value(matches, "MODULE") {
             Some(path) => Ok(Ok(Request::Check(path))),
             None => Ok(Err(MISSING)),

@@ -1,4 +1,5 @@
--- The texts of faults: `refused`, the number, the name, and perhaps numbers in decimal, each after one space.
+-- The texts of faults: `refused`, the number, the name, and perhaps numbers in decimal, each after one space; and the text of
+-- lines that were passed over.
 use Rattle.std.specs.Prelude.{ℕ, List, ◌++◌, ◌∷◌, codes, Some, None}
 use Rattle.std.specs.Fmt.{decimal}
 use Rattle.byte_reader.specs.declared.fault.DecodeFault.{DecodeFault}
@@ -11,6 +12,7 @@ use Rattle.pick_schedule.specs.declared.fault.ScheduleFault.{ScheduleFault}
 use Rattle.pick_schedule.specs.declared.fault.ScheduleFault.TheVariants as scheduling
 use Rattle.replica.specs.declared.fault.GatherFault.{GatherFault}
 use Rattle.replica.specs.declared.fault.GatherFault.TheVariants as gathering
+use Rattle.replica.specs.declared.skipping.Skipped.{Skipped}
 use Rattle.replay_gate.specs.declared.answers.ReplayFault.{ReplayFault}
 use Rattle.replay_gate.specs.declared.answers.ReplayFault.TheVariants as replaying
 use Rattle.wasm_replay.specs.declared.replaying.WasmReplayFault.{WasmReplayFault}
@@ -27,6 +29,10 @@ use Rattle.commands.specs.declared.fault.Fault.TheVariants.{File, Decode, Valid,
 -- a name, and two numbers behind it
 abbrev pub placed : List ℕ → ℕ → ℕ → List ℕ
 placed head first second = head ++ (decimal first ++ 32 ∷ decimal second)
+
+-- how many lines were passed over: bad ones, and those of other runs
+abbrev pub skipped_text : Skipped → List ℕ
+skipped_text skipped = placed (codes "skipped ") skipped.bad skipped.foreign
 
 abbrev pub file_text : FileFault → List ℕ
 file_text file.NotRead = codes "refused 44 SourceFailed"

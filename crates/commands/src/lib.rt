@@ -18,4 +18,5 @@ pub use fault::Fault;
 pub use files::{FileFault, Files};
 pub use recording::record;
 pub use replaying::replay;
+pub use texts::skipped_text;
 pub use viewing::view;

@@ -1,9 +1,9 @@
-//! The texts of faults.
+//! The texts of faults, and of lines that were passed over.
 
 ghost use Rattle.std.specs.Prelude.{◌≡◌, ◌≤◌, ◌+◌, ◌++◌, ◌∷◌, length};
 ghost use Rattle.std.specs.Fmt.{decimal};
 ghost use Rattle.arrayvec.specs.ArrayString.{array_string_len};
-ghost use Rattle.commands.specs.Texts.{fault_text, file_text, decode_text, valid_text, plan_text, schedule_text, pieces_text, gather_text, replay_text, refusal_text, view_text};
+ghost use Rattle.commands.specs.Texts.{fault_text, file_text, decode_text, valid_text, plan_text, schedule_text, pieces_text, gather_text, replay_text, refusal_text, view_text, skipped_text};
 
 use crate::fault::Fault;
 use crate::files::FileFault;
@@ -13,7 +13,7 @@ use debug_views::ViewFault;
 use itoa::Buffer;
 use pick_schedule::ScheduleFault;
 use replay_gate::ReplayFault;
-use replica::GatherFault;
+use replica::{GatherFault, Skipped};
 use run_pieces::PiecesFault;
 use std::error::Error;
 use std::fmt;
@@ -54,16 +54,33 @@ fn numbered(head: &str, number: u64) -> ArrayString<64>
 }
 
 // A text with two numbers behind it.
-fn placed(head: &str, first: u32, second: u32) -> ArrayString<64>
+fn placed(head: &str, first: u64, second: u64) -> ArrayString<64>
     requires { length head.now ≤ 22 }
     ensures text { result.bytes ≡ head.now ++ (decimal first ++ 32 ∷ decimal second) }
     ensures short { array_string_len result ≤ 63 }
 {
     let mut text = plain(head);
-    put_number(&mut text, u64::from(first));
+    put_number(&mut text, first);
     text.push_str(" ");
-    put_number(&mut text, u64::from(second));
+    put_number(&mut text, second);
     text
+}
+
+// The same of numbers of 32 bits.
+fn at_place(head: &str, first: u32, second: u32) -> ArrayString<64>
+    requires { length head.now ≤ 22 }
+    ensures text { result.bytes ≡ head.now ++ (decimal first ++ 32 ∷ decimal second) }
+    ensures short { array_string_len result ≤ 63 }
+{
+    placed(head, u64::from(first), u64::from(second))
+}
+
+/// The line that tells how many lines were passed over, without its end: `skipped`, the bad ones, those of other runs.
+pub fn skipped_text(skipped: &Skipped) -> ArrayString<64>
+    ensures text { result.bytes ≡ skipped_text skipped.now }
+    ensures short { array_string_len result ≤ 63 }
+{
+    placed("skipped ", skipped.bad, skipped.foreign)
 }
 
 fn text_of_file(fault: &FileFault) -> ArrayString<64>
@@ -96,7 +113,7 @@ fn text_of_valid(fault: &ValidFault) -> ArrayString<64>
         ValidFault::Invalid {
             function: Some(function),
             instruction,
-        } => placed("refused 11 Invalid ", function, instruction),
+        } => at_place("refused 11 Invalid ", function, instruction),
         ValidFault::NoMemory => plain("refused 12 NoMemory"),
     }
 }
@@ -154,10 +171,10 @@ fn text_of_replay(fault: &ReplayFault) -> ArrayString<64>
     ensures short { array_string_len result ≤ 63 }
 {
     match *fault {
-        ReplayFault::Clash { thread, place } => placed("refused 52 Clash ", thread, place),
-        ReplayFault::Missing { thread, place } => placed("refused 53 Missing ", thread, place),
+        ReplayFault::Clash { thread, place } => at_place("refused 52 Clash ", thread, place),
+        ReplayFault::Missing { thread, place } => at_place("refused 53 Missing ", thread, place),
         ReplayFault::Shut => plain("refused 54 Shut"),
-        ReplayFault::Diverged { thread, place } => placed("refused 55 Diverged ", thread, place),
+        ReplayFault::Diverged { thread, place } => at_place("refused 55 Diverged ", thread, place),
         ReplayFault::NoMemory => plain("refused 56 NoMemory"),
         ReplayFault::Stuck => plain("refused 57 Stuck"),
     }

@@ -1,22 +1,23 @@
 -- How a command stops.
-use Rattle.std.proofs.Common.{◌≡◌, ℕ, List, ◌++◌, Result, Ok, Err, OnErr, IfErr, inl, inr, sym, subst, refl}
+use Rattle.std.proofs.Common.{◌≡◌, ℕ, List, ◌++◌, true, false, Result, Ok, Err, OnErr, IfErr, inl, inr, sym, subst, refl}
 use Rattle.command_words.specs.declared.requests.Request.{Request}
 use Rattle.command_words.specs.declared.requests.Request.TheVariants as request
 use Rattle.replica.specs.Gathered.{IsBadLine, IsOtherRun, IsCutText}
+use Rattle.replica.specs.Lines.{IsDeviceFault}
 use Rattle.replica.specs.declared.fault.GatherFault.{GatherFault}
 use Rattle.replica.specs.declared.fault.GatherFault.TheVariants as gathering
 use Rattle.commands.specs.declared.fault.Fault.{Fault}
 use Rattle.commands.specs.declared.fault.Fault.TheVariants.{SinkFailed}
-use Rattle.program.specs.Answers.{IsListed, IsCut, IsDone, IsStopped, fault_of}
+use Rattle.program.specs.Answers.{IsListed, IsListedSkipping, IsCut, IsDone, IsStopped, fault_of}
 
 module _ (holds : List ℕ → List ℕ → Type 0) (fails brought : List ℕ → Type 0) (ended broke : Type 0) (took : List ℕ → Type 0) (unwritten unwritable : Type 0) where
   -- what was to be shown stops where the output fails
-  pub shown_stops : (asked asks : Request) (text items : List ℕ) {T : Type 0} (result : Result T Fault) → asked ≡ asks → text ≡ items → IsDone holds fails brought ended broke asks items
+  pub shown_stops : (asked asks : Request) (text items : List ℕ) {T : Type 0} (result : Result T Fault) → asked ≡ asks → text ≡ items → IsDone holds fails brought ended broke (λ skipped. Unit {0}) asks items
       → IfErr result (λ fault. fault ≡ SinkFailed) → OnErr result unwritable → OnErr result ((part rest : List ℕ) × (text ≡ part ++ rest) × took part)
       → IfErr result (IsStopped holds fails brought ended broke took unwritten unwritable asked)
   shown_stops asked asks text items (Ok x) is same done e u b = tt
   shown_stops asked asks text items (Err fault) is same done e u b =
-      inr (e, u, (text, b.0, b.1, subst (λ (r : Request). IsDone holds fails brought ended broke r text) (sym is) (subst (IsDone holds fails brought ended broke asks) (sym same) done), b.2, b.3))
+      inr (e, u, (text, b.0, b.1, subst (λ (r : Request). IsDone holds fails brought ended broke (λ skipped. Unit {0}) r text) (sym is) (subst (IsDone holds fails brought ended broke (λ skipped. Unit {0}) asks) (sym same) done), b.2, b.3))
 
   -- gathering stops at what the source brought, at its failure, or at the output's
   module _ {T : Type 0} where
@@ -26,14 +27,14 @@ module _ (holds : List ℕ → List ℕ → Type 0) (fails brought : List ℕ �
         → (◌≡◌ {A = Result T GatherFault} (Err fault) (Err gathering.SourceFailed) → ((text : List ℕ) × brought text × IsCutText text) × broke)
         → (◌≡◌ {A = Result T GatherFault} (Err fault) (Err gathering.SinkFailed) → IsCut took (IsListed brought ended) × unwritable)
         → ((◌≡◌ {A = Result T GatherFault} (Err fault) (Err gathering.SinkFailed) → ⊥) → unwritten)
-        → IsStopped holds fails brought ended broke took unwritten unwritable request.Gather (fault_of fault)
+        → IsStopped holds fails brought ended broke took unwritten unwritable (request.Gather false) (fault_of fault)
     stops (gathering.BadLine n) bad other source sink kept = inl (bad n refl, kept (λ e. absurd cc))
     stops (gathering.OtherRun n) bad other source sink kept = inl (other n refl, kept (λ e. absurd cc))
     stops gathering.NoMemory bad other source sink kept = inl (tt, kept (λ e. absurd cc))
     stops gathering.SourceFailed bad other source sink kept = inl (source refl, kept (λ e. absurd cc))
     stops gathering.SinkFailed bad other source sink kept = let s = sink refl in inr (refl, s.1, s.0)
 
-    pub gather_stops : (asked : Request) (told : Fault) (fault : GatherFault) → asked ≡ request.Gather → told ≡ fault_of fault
+    pub gather_stops : (asked : Request) (told : Fault) (fault : GatherFault) → asked ≡ request.Gather false → told ≡ fault_of fault
         → ((n : ℕ) → ◌≡◌ {A = Result T GatherFault} (Err fault) (Err (gathering.BadLine n)) → (text : List ℕ) × brought text × IsBadLine ended text n)
         → ((n : ℕ) → ◌≡◌ {A = Result T GatherFault} (Err fault) (Err (gathering.OtherRun n)) → (text : List ℕ) × brought text × IsOtherRun text n)
         → (◌≡◌ {A = Result T GatherFault} (Err fault) (Err gathering.SourceFailed) → ((text : List ℕ) × brought text × IsCutText text) × broke)
@@ -42,4 +43,26 @@ module _ (holds : List ℕ → List ℕ → Type 0) (fails brought : List ℕ �
         → IsStopped holds fails brought ended broke took unwritten unwritable asked told
     gather_stops asked told fault is tells bad other source sink kept =
         subst (λ (r : Request). IsStopped holds fails brought ended broke took unwritten unwritable r told) (sym is)
-        (subst (IsStopped holds fails brought ended broke took unwritten unwritable request.Gather) (sym tells) (stops fault bad other source sink kept))
+        (subst (IsStopped holds fails brought ended broke took unwritten unwritable (request.Gather false)) (sym tells) (stops fault bad other source sink kept))
+
+  -- gathering past bad lines stops at the source's failure, or at the output's
+  module _ {T : Type 0} where
+    skipping : (fault : GatherFault) → IsDeviceFault fault
+        → (◌≡◌ {A = Result T GatherFault} (Err fault) (Err gathering.SourceFailed) → broke)
+        → (◌≡◌ {A = Result T GatherFault} (Err fault) (Err gathering.SinkFailed) → IsCut took (IsListedSkipping brought ended (λ skipped. Unit {0})) × unwritable)
+        → ((◌≡◌ {A = Result T GatherFault} (Err fault) (Err gathering.SinkFailed) → ⊥) → unwritten)
+        → IsStopped holds fails brought ended broke took unwritten unwritable (request.Gather true) (fault_of fault)
+    skipping (gathering.BadLine n) device source sink kept = absurd device
+    skipping (gathering.OtherRun n) device source sink kept = absurd device
+    skipping gathering.NoMemory device source sink kept = inl (tt, kept (λ e. absurd cc))
+    skipping gathering.SourceFailed device source sink kept = inl (source refl, kept (λ e. absurd cc))
+    skipping gathering.SinkFailed device source sink kept = let s = sink refl in inr (refl, s.1, s.0)
+
+    pub skipping_stops : (asked : Request) (told : Fault) (fault : GatherFault) → asked ≡ request.Gather true → told ≡ fault_of fault → IsDeviceFault fault
+        → (◌≡◌ {A = Result T GatherFault} (Err fault) (Err gathering.SourceFailed) → broke)
+        → (◌≡◌ {A = Result T GatherFault} (Err fault) (Err gathering.SinkFailed) → IsCut took (IsListedSkipping brought ended (λ skipped. Unit {0})) × unwritable)
+        → ((◌≡◌ {A = Result T GatherFault} (Err fault) (Err gathering.SinkFailed) → ⊥) → unwritten)
+        → IsStopped holds fails brought ended broke took unwritten unwritable asked told
+    skipping_stops asked told fault is tells device source sink kept =
+        subst (λ (r : Request). IsStopped holds fails brought ended broke took unwritten unwritable r told) (sym is)
+        (subst (IsStopped holds fails brought ended broke took unwritten unwritable (request.Gather true)) (sym tells) (skipping fault device source sink kept))

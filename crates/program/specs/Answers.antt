@@ -1,8 +1,10 @@
 -- What the program answers.
-use Rattle.std.specs.Prelude.{◌≡◌, ◌≤◌, ◌⊎◌, ℕ, List, ◌++◌}
+use Rattle.std.specs.Prelude.{◌≡◌, ◌≤◌, ◌⊎◌, ℕ, List, ◌++◌, Option, true, false}
 use Rattle.clap.specs.Words.{Text}
 use Rattle.log_pieces.specs.Piece.{PieceValue}
 use Rattle.replica.specs.Gathered.{IsText, IsListing, IsBadLine, IsOtherRun, IsCutText}
+use Rattle.replica.specs.Judged.{AreJudged, IsSkipped}
+use Rattle.replica.specs.declared.skipping.Skipped.{Skipped}
 use Rattle.replica.specs.declared.fault.GatherFault.{GatherFault}
 use Rattle.replica.specs.declared.fault.GatherFault.TheVariants as gathering
 use Rattle.command_words.specs.Asked.{Asks, AsksNothing, AsksForText}
@@ -34,6 +36,19 @@ pub record IsListed (brought : List ℕ → Type 0) (ended : Type 0) (listed : L
   pub lines : IsText text pieces
   pub is_listing : IsListing pieces listed
 
+-- the source brought a text, up to its end, and this is the listing of the pieces that are kept of its lines; their numbers were told
+pub record IsListedSkipping (brought : List ℕ → Type 0) (ended : Type 0) (counted : Skipped → Type 0) (listed : List ℕ) : Type 0 where
+  pub text : List ℕ
+  pub came : brought text
+  pub end : ended
+  pub lines : List (Option PieceValue)
+  pub judged : AreJudged text lines
+  pub skipped : Skipped
+  pub kept : List PieceValue
+  pub is_skipped : IsSkipped lines skipped kept
+  pub is_listing : IsListing kept listed
+  pub told : counted skipped
+
 -- why what the source brought is refused; `broke` says that the source failed
 abbrev pub IsGatherRefused : (List ℕ → Type 0) → Type 0 → Type 0 → Fault → Type 0
 IsGatherRefused brought ended broke (Gather (gathering.OtherRun line)) = (text : List ℕ) × brought text × IsOtherRun text line
@@ -41,6 +56,12 @@ IsGatherRefused brought ended broke (Gather gathering.NoMemory) = Unit {0}
 IsGatherRefused brought ended broke (Gather (gathering.BadLine line)) = (text : List ℕ) × brought text × IsBadLine ended text line
 IsGatherRefused brought ended broke (Gather gathering.SourceFailed) = ((text : List ℕ) × brought text × IsCutText text) × broke
 IsGatherRefused brought ended broke _ = ⊥
+
+-- the same where no line is refused
+abbrev pub IsSkippingRefused : Type 0 → Fault → Type 0
+IsSkippingRefused broke (Gather gathering.NoMemory) = Unit {0}
+IsSkippingRefused broke (Gather gathering.SourceFailed) = broke
+IsSkippingRefused broke _ = ⊥
 
 module _ (took : List ℕ → Type 0) where
   -- the output took such a text
@@ -53,17 +74,19 @@ module _ (took : List ℕ → Type 0) where
 
 -- What the files may hold and which may fail, what the source brought, and whether it ended or failed.
 module _ (holds : List ℕ → List ℕ → Type 0) (fails : List ℕ → Type 0) (brought : List ℕ → Type 0) (ended broke : Type 0) where
-  -- the text of a command that is done
-  abbrev pub IsDone : Request → List ℕ → Type 0
-  IsDone request.Gather text = IsListed brought ended text
-  IsDone (request.Check path) text = IsChecked (holds path.now) text
-  IsDone (request.Record r) text = IsRecordedText holds r text
-  IsDone (request.Replay r) text = IsReplayedText holds r text
-  IsDone (request.View r) text = IsViewedText holds r text
+  -- the text of a command that is done; `counted` says that the numbers of lines passed over were told
+  abbrev pub IsDone : (Skipped → Type 0) → Request → List ℕ → Type 0
+  IsDone counted (request.Gather false) text = IsListed brought ended text
+  IsDone counted (request.Gather true) text = IsListedSkipping brought ended counted text
+  IsDone counted (request.Check path) text = IsChecked (holds path.now) text
+  IsDone counted (request.Record r) text = IsRecordedText holds r text
+  IsDone counted (request.Replay r) text = IsReplayedText holds r text
+  IsDone counted (request.View r) text = IsViewedText holds r text
 
   -- when each fault is answered
   abbrev pub IsRefused : Request → Fault → Type 0
-  IsRefused request.Gather fault = IsGatherRefused brought ended broke fault
+  IsRefused (request.Gather false) fault = IsGatherRefused brought ended broke fault
+  IsRefused (request.Gather true) fault = IsSkippingRefused broke fault
   IsRefused (request.Check path) fault = IsCheckRefused (holds path.now) (fails path.now) fault
   IsRefused (request.Record r) fault = IsRecordRefused holds fails r fault
   IsRefused (request.Replay r) fault = IsReplayRefused holds fails r fault
@@ -73,13 +96,13 @@ module _ (holds : List ℕ → List ℕ → Type 0) (fails : List ℕ → Type 0
   module _ (took : List ℕ → Type 0) (unwritten unwritable : Type 0) where
     -- a command stops: it is refused, and nothing was written; or the output failed
     abbrev pub IsStopped : Request → Fault → Type 0
-    IsStopped r fault = (IsRefused r fault × unwritten) ⊎ ((fault ≡ SinkFailed) × unwritable × IsCut took (IsDone r))
+    IsStopped r fault = (IsRefused r fault × unwritten) ⊎ ((fault ≡ SinkFailed) × unwritable × IsCut took (IsDone (λ skipped. Unit {0}) r))
 
-    -- Whether a fault was told, and whether no file and no input was read.
-    module _ (tells : Fault → Type 0) (unread : Type 0) (words : List Text) where
+    -- Whether numbers of lines or a fault were told, and whether no file and no input was read.
+    module _ (counted : Skipped → Type 0) (tells : Fault → Type 0) (unread : Type 0) (words : List Text) where
       -- the very text of the command that the words ask for, or a text of help where they ask for that
       abbrev pub IsDoneBy : Type 0
-      IsDoneBy = ((r : Request) × Asks words r × IsShown took (IsDone r)) ⊎ (AsksForText words × unread × IsShown took (λ text. Unit {0}))
+      IsDoneBy = ((r : Request) × Asks words r × IsShown took (IsDone counted r)) ⊎ (AsksForText words × unread × IsShown took (λ text. Unit {0}))
 
       -- the command that the words ask for stops so; or a text of help is not written; or there is no memory for the words
       abbrev pub IsRefusedBy : Fault → Type 0

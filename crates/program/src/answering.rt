@@ -1,15 +1,17 @@
 //! What the words of a command line do.
 
-ghost use Rattle.std.specs.Prelude.{◌≡◌, ◌<◌, ◌-◌, ◌^◌, ◌⊎◌, ◌++◌, ◌+◌, ℕ, [], ◌∷◌, OnOk, OnErr, IfErr, map};
+ghost use Rattle.std.specs.Prelude.{◌≡◌, ◌<◌, ◌-◌, ◌^◌, ◌⊎◌, ◌++◌, ◌+◌, ℕ, [], ◌∷◌, Err, OnOk, OnErr, IfErr, map};
 ghost use Rattle.std.specs.IoError.{error_kind};
-ghost use Rattle.commands.specs.Texts.{fault_text};
+ghost use Rattle.commands.specs.Texts.{fault_text, skipped_text};
 ghost use Rattle.commands.specs.declared.fault.Fault.TheVariants as faults;
-ghost use Rattle.program.specs.Answers.{WritesSome, IsShown, IsDone, IsStopped, IsAnswered, fault_of};
+ghost use Rattle.replica.specs.declared.fault.GatherFault.TheVariants as gathering;
+ghost use Rattle.replica.specs.Lines.{IsDeviceFault};
+ghost use Rattle.program.specs.Answers.{WritesSome, IsShown, IsCut, IsListedSkipping, IsDone, IsStopped, IsAnswered, fault_of};
 
 use command_words::{Asked, Request, requested};
-use commands::{Fault, Files, check, record, replay, view};
+use commands::{Fault, Files, check, record, replay, skipped_text, view};
 use log::Log;
-use replica::{Failed, GatherFault, Sink, Source, gather, write_all};
+use replica::{Failed, GatherFault, Sink, Skipped, Source, gather, gather_skipping, write_all};
 use std::alloc::Global;
 use std::convert::AsStr;
 use std::io::{self, ErrorKind};
@@ -64,24 +66,69 @@ fn fault_of(fault: GatherFault) -> Fault
     }
 }
 
+/// Writes the line that tells how many lines were passed over. Where writing fails there is nobody to tell.
+fn tell_skipped<E: Sink>(errors: &mut E, skipped: &Skipped)
+    requires { E.failed errors.old < 2 ^ 64 - 1 }
+    ensures { (E.takes errors.old (skipped_text skipped.now ++ 10 ∷ []) errors.new) ⊎ (E.failed errors.new ≡ E.failed errors.old + 1) }
+{
+    let mut line = skipped_text(skipped);
+    line.push_str("\n");
+    let _ = write_all(errors, line.as_str().as_bytes());
+}
+
+/// Gathers past lines that cannot be joined, and tells how many there were.
+fn gather_and_tell<R: Source, W: Sink, E: Sink>(
+    alloc: Global,
+    source: &mut R,
+    output: &mut W,
+    errors: &mut E,
+) -> Result<(), GatherFault>
+    requires source { R.failed source.old < 2 ^ 64 - 1 }
+    requires output { W.failed output.old < 2 ^ 64 - 1 }
+    requires errors { E.failed errors.old < 2 ^ 64 - 1 }
+    ensures shown { OnOk result (IsShown (λ text. W.takes output.old text output.new) (IsListedSkipping (λ text. R.brings source.old text source.new) (R.ended source.new) (λ skipped. (E.takes errors.old (skipped_text skipped ++ 10 ∷ []) errors.new) ⊎ (E.failed errors.new ≡ E.failed errors.old + 1)))) }
+    ensures source_failed { result ≡ Err gathering.SourceFailed → R.failed source.new ≡ R.failed source.old + 1 }
+    ensures sink_failed { result ≡ Err gathering.SinkFailed → IsCut (λ text. W.takes output.old text output.new) (IsListedSkipping (λ text. R.brings source.old text source.new) (R.ended source.new) (λ skipped. Unit {0})) × (W.failed output.new ≡ W.failed output.old + 1) }
+    ensures source_worked { OnOk result (R.failed source.new ≡ R.failed source.old) }
+    ensures sink_worked { OnOk result (W.failed output.new ≡ W.failed output.old) }
+    ensures unwritten { OnErr result ((result ≡ Err gathering.SinkFailed → ⊥) → output.new ≡ output.old) }
+    ensures untold { OnErr result (errors.new ≡ errors.old) }
+    ensures errors { IfErr result IsDeviceFault }
+{
+    match gather_skipping(alloc, source, output) {
+        Ok(skipped) => {
+            tell_skipped(errors, &skipped);
+            Ok(())
+        }
+        Err(fault) => Err(fault),
+    }
+}
+
 /// Does what is asked for.
-fn perform<L: Log, F: Files, R: Source, W: Sink>(
+fn perform<L: Log, F: Files, R: Source, W: Sink, E: Sink>(
     rt: &L,
     alloc: Global,
     request: &Request<'_>,
     files: &mut F,
     source: &mut R,
     output: &mut W,
+    errors: &mut E,
 ) -> Result<(), Fault>
     requires source { R.failed source.old < 2 ^ 64 - 1 }
     requires output { W.failed output.old < 2 ^ 64 - 1 }
-    ensures done { OnOk result (IsShown (λ text. W.takes output.old text output.new) (IsDone (F.holds files.old) (F.fails files.old) (λ text. R.brings source.old text source.new) (R.ended source.new) (R.failed source.new ≡ R.failed source.old + 1) request.now)) }
+    requires errors { E.failed errors.old < 2 ^ 64 - 1 }
+    ensures done { OnOk result (IsShown (λ text. W.takes output.old text output.new) (IsDone (F.holds files.old) (F.fails files.old) (λ text. R.brings source.old text source.new) (R.ended source.new) (R.failed source.new ≡ R.failed source.old + 1) (λ skipped. (E.takes errors.old (skipped_text skipped ++ 10 ∷ []) errors.new) ⊎ (E.failed errors.new ≡ E.failed errors.old + 1)) request.now)) }
+    ensures untold { OnErr result (errors.new ≡ errors.old) }
     ensures stopped { IfErr result (IsStopped (F.holds files.old) (F.fails files.old) (λ text. R.brings source.old text source.new) (R.ended source.new) (R.failed source.new ≡ R.failed source.old + 1) (λ text. W.takes output.old text output.new) (output.new ≡ output.old) (W.failed output.new ≡ W.failed output.old + 1) request.now) }
     ensures source_worked { OnOk result (R.failed source.new ≡ R.failed source.old) }
     ensures output_worked { OnOk result (W.failed output.new ≡ W.failed output.old) }
 {
     match request {
-        Request::Gather => match gather(alloc, source, output) {
+        Request::Gather { skips: false } => match gather(alloc, source, output) {
+            Ok(()) => Ok(()),
+            Err(fault) => Err(fault_of(fault)),
+        },
+        Request::Gather { skips: true } => match gather_and_tell(alloc, source, output, errors) {
             Ok(()) => Ok(()),
             Err(fault) => Err(fault_of(fault)),
         },
@@ -132,11 +179,13 @@ pub fn run<L: Log, F: Files, R: Source, W: Sink, E: Sink, S: AsStr>(
     requires source { R.failed source.old < 2 ^ 64 - 1 }
     requires output { W.failed output.old < 2 ^ 64 - 1 }
     requires errors { E.failed errors.old < 2 ^ 64 - 1 }
-    // Done: the output took the very text of the command that the words ask for. Refused: `errors` took the line of the
-    // fault, or failed, and nothing was written but by a failing output. Not understood: nothing was read or written.
+    // Done: the output took the very text of the command that the words ask for, and where lines were passed over `errors`
+    // took the line of their numbers, or failed. Refused: `errors` took the line of the fault, or failed, and nothing was
+    // written but by a failing output. Not understood: nothing was read or written.
     ensures answered { IsAnswered (F.holds files.old) (F.fails files.old)
         (λ text. R.brings source.old text source.new) (R.ended source.new) (R.failed source.new ≡ R.failed source.old + 1)
         (λ text. W.takes output.old text output.new) (output.new ≡ output.old) (W.failed output.new ≡ W.failed output.old + 1)
+        (λ skipped. (E.takes errors.old (skipped_text skipped ++ 10 ∷ []) errors.new) ⊎ (E.failed errors.new ≡ E.failed errors.old + 1))
         (λ fault. (E.takes errors.old (fault_text fault ++ 10 ∷ []) errors.new) ⊎ (E.failed errors.new ≡ E.failed errors.old + 1))
         ((files.new ≡ files.old) × (source.new ≡ source.old)) (map S.text words.now) result }
     // A failing source or output is answered with 1.
@@ -144,10 +193,12 @@ pub fn run<L: Log, F: Files, R: Source, W: Sink, E: Sink, S: AsStr>(
     ensures output_failed { (result ≡ 1 → ⊥) → W.failed output.new ≡ W.failed output.old }
 {
     match requested(alloc, words) {
-        Ok(Asked::Request(request)) => match perform(rt, alloc, &request, files, source, output) {
-            Ok(()) => 0,
-            Err(fault) => refuse(errors, &fault),
-        },
+        Ok(Asked::Request(request)) => {
+            match perform(rt, alloc, &request, files, source, output, errors) {
+                Ok(()) => 0,
+                Err(fault) => refuse(errors, &fault),
+            }
+        }
         Ok(Asked::Text(text)) => match show(output, text.as_str().as_bytes()) {
             Ok(()) => 0,
             Err(fault) => refuse(errors, &fault),

@@ -144,6 +144,35 @@ fn says_why_it_refuses(rt: HostRuntime) -> Result<(), Fail> {
 }
 
 #[test]
+fn passes_over_lines_that_cannot_be_joined(rt: HostRuntime) -> Result<(), Fail> {
+    let words = ["wreplay", "gather", "--skip"];
+    let input = format!(in rt.alloc(); "zz\n{PIECE}\n{OTHER}\n\n{OTHER}")?;
+    let listed =
+        "run aaaaaaaaaaaaaaaaaaaaaaaaaaaaaaaaaaaaaaaaaaaaaaaaaaaaaaaaaaaaaaaa:1\n3 end steps=3 places=0 none\nends 1 missing 0 strays 0 clashes 0\n";
+    let done = try_out(rt.alloc(), gathering(&words, input.as_str()));
+    assert_eq!(rt; done.status, 0);
+    assert_eq!(rt; text(&done.output), listed);
+    assert_eq!(rt; text(&done.errors), "skipped 2 2\n");
+    let unread = Case {
+        read_fails_at: Some(2),
+        ..gathering(&words, input.as_str())
+    };
+    let refused = try_out(rt.alloc(), unread);
+    assert_eq!(rt; refused.status, 1);
+    assert_eq!(rt; text(&refused.output), "");
+    assert_eq!(rt; text(&refused.errors), "refused 44 SourceFailed\n");
+    let unwritten = Case {
+        write_fails_at: Some(2),
+        ..gathering(&words, "zz\n")
+    };
+    let cut = try_out(rt.alloc(), unwritten);
+    assert_eq!(rt; cut.status, 1);
+    assert_eq!(rt; text(&cut.output), "run none");
+    assert_eq!(rt; text(&cut.errors), "refused 45 SinkFailed\n");
+    Ok(())
+}
+
+#[test]
 fn explains_itself(rt: HostRuntime) -> Result<(), Fail> {
     let cases = [
         ["wreplay", "--version"].as_slice(),

@@ -14,4 +14,4 @@ returns c =
     let two = c.in_ok-command-2.ensures ∙ ap₂ with_subcommand one (top c.in_ok-record.ensures.app) in
     let three = c.in_ok-command-3.ensures ∙ ap₂ with_subcommand two (top c.in_ok-replay.ensures.app) in
     let four = c.in_ok-command-4.ensures ∙ ap₂ with_subcommand three (top c.in_ok-view.ensures.app) in
-    IfOk-weaker c.with_command-5.result _ _ (λ command h. h ∙ ap₂ with_subcommand four (top c.gather_command.ensures.app)) c.with_command-5.ensures
+    IfOk-weaker c.with_command-5.result _ _ (λ command h. h ∙ ap₂ with_subcommand four (top c.in_ok-gather.ensures.app)) c.with_command-5.ensures

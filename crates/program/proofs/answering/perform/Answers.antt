@@ -1,16 +1,21 @@
 use Rattle.std.proofs.Common.{rules}
-use Rattle.program.proofs.Stops.{shown_stops, gather_stops}
+use Rattle.program.proofs.Stops.{shown_stops, gather_stops, skipping_stops}
 use Rattle.program.proofs.answering.perform.Goals as goal
 
 pub returns-in-Err-clause-stopped : goal.returns-in-Err-clause-stopped
 returns-in-Err-clause-stopped g c =
-    gather_stops _ _ _ _ _ _ _ _ c.args.request.now c.fault_of.result c.in-Err.fault c.in-Gather.is c.fault_of.ensures
-    (λ n e. c.in-Err.ensures.bad_line n e)
-    (λ n e. c.in-Err.ensures.other_run n e)
-    (λ e. let s = c.in-Err.ensures.source_failed e in s)
-    (λ e. let s = c.in-Err.ensures.sink_failed e in
+    skipping_stops _ _ _ _ _ _ _ _ c.args.request.now c.fault_of.result c.in-Err.fault (cc (c.in-Gather-true.is)) c.fault_of.ensures
+    c.in-Err.ensures.errors c.in-Err.ensures.source_failed c.in-Err.ensures.sink_failed c.in-Err.ensures.unwritten
+
+pub returns-in-Err-gather-clause-stopped : goal.returns-in-Err-gather-clause-stopped
+returns-in-Err-gather-clause-stopped g c =
+    gather_stops _ _ _ _ _ _ _ _ c.args.request.now c.fault_of-in-Err-gather.result c.in-Err-gather.fault (cc (c.in-Gather-false.is)) c.fault_of-in-Err-gather.ensures
+    (λ n e. c.in-Err-gather.ensures.bad_line n e)
+    (λ n e. c.in-Err-gather.ensures.other_run n e)
+    (λ e. let s = c.in-Err-gather.ensures.source_failed e in s)
+    (λ e. let s = c.in-Err-gather.ensures.sink_failed e in
     ((s.0.listed, s.0.taken.0, s.0.taken.1, record { text = s.0.text; came = s.0.came; end = s.0.end; pieces = s.0.pieces; lines = s.0.lines; is_listing = s.0.is_listing }, s.0.taken.2, s.0.taken.3), s.1))
-    c.in-Err.ensures.unwritten
+    c.in-Err-gather.ensures.unwritten
 
 pub returns-in-Ok-check-clause-stopped : goal.returns-in-Ok-check-clause-stopped
 returns-in-Ok-check-clause-stopped g c =
