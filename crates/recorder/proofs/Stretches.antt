@@ -11,6 +11,7 @@ use Rattle.event_core.specs.declared.pick.Pick.{Pick}
 use Rattle.event_core.specs.World.{WorldAt, step_of_pick, world_after}
 use Rattle.event_core.specs.Run.{entries, entries_of_step, world_run}
 use Rattle.replay_laws.proofs.Orders.{world_joined}
+use Rattle.replay_laws.proofs.JoinedRuns.{entries_joined}
 use Rattle.recorder.specs.Picks.{is_taken, step_taken, picks_taken, picks_passed}
 use Rattle.recorder.specs.Recorded.{list_at, IsNoted, IsBatch, AreRecorded}
 use Rattle.recorder.proofs.Batches.{batch_recorded}
@@ -53,12 +54,6 @@ module _ {State Op Reply Value Fixed : Type 0} (space : Space Op Reply Value Fix
   passed_joined w [] qs = omega arith
   passed_joined w (p ∷ ps) qs = passed_by_first w p ps qs (is_taken space code steps w p) refl (passed_joined (world_after space code w p) ps qs) (passed_joined w ps qs)
 
-  entries_joined : (w : WorldAt State Value Fixed) (ps qs : List Pick) (t : ℕ) → entries space code w (ps ++ qs) t ≡ entries space code w ps t ++ entries space code (world_run space code w ps) qs t
-  entries_joined w [] qs t = refl
-  entries_joined w (p ∷ ps) qs t =
-      let here = entries_of_step space w.memory p.thread t (step_of_pick space code w p) in
-      ap (λ l. here ++ l) (entries_joined (world_after space code w p) ps qs t) ∙ sym (append_assoc here (entries space code (world_after space code w p) ps t) _)
-
   few_by_first : (w : WorldAt State Value Fixed) (p : Pick) (ps : List Pick) (b : Bool) → is_taken space code steps w p ≡ b → picks_passed space code steps (world_after space code w p) ps ≤ length ps → picks_passed space code steps w ps ≤ length ps → picks_passed space code steps w (p ∷ ps) ≤ suc (length ps)
   few_by_first w p ps true e h k = rw e (omega (arith, h))
   few_by_first w p ps false e h k = rw e (omega (arith, k))
@@ -87,7 +82,7 @@ module _ {State Op Reply Value Fixed : Type 0} (space : Space Op Reply Value Fix
             ∙ ap (λ l. l ++ entries space code v (picks_taken space code steps v qs) t) (r.logs t h)
             ∙ append_assoc (list_at one t) (entries space code w taken t) _
             ∙ ap (λ x. list_at one t ++ (entries space code w taken t ++ entries space code x (picks_taken space code steps x qs) t)) r.world
-            ∙ ap (λ l. list_at one t ++ l) (sym (ap (λ l. entries space code w l t) both ∙ entries_joined w taken rest t));
+            ∙ ap (λ l. list_at one t ++ l) (sym (ap (λ l. entries space code w l t) both ∙ entries_joined space code w taken rest t));
         passed =
             let x = r.passed in
             let y = s.passed ∙ ap (λ x. b + picks_passed space code steps x qs) r.world in

@@ -1,3 +1,4 @@
 pub mod Picks
 pub mod ThreadLogAt
 pub mod Recorded
+pub mod Rounds

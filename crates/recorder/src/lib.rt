@@ -4,6 +4,8 @@
 mod logs;
 mod recorded;
 mod recording;
+mod rounds;
 
 pub use recorded::{Recorded, ThreadLog};
 pub use recording::record;
+pub use rounds::record_rest;

@@ -33,6 +33,13 @@ impl Logs {
         Ok(Logs { lists })
     }
 
+    /// Those of threads that logged these entries.
+    pub fn of(lists: Vec<PackedEntries>) -> Logs
+        ensures { result ≡ lists.items }
+    {
+        Logs { lists }
+    }
+
     /// Puts an entry behind the others of its thread. Where memory is wanted the lists stay as they were.
     pub fn push(&mut self, thread: u32, entry: &Entry) -> Result<(), NoMemory>
         requires { thread < length self.old }

@@ -20,7 +20,7 @@ use wasm_types::NoMemory;
 
 /// Makes the step of a pick, if it is enabled and its thread has made fewer steps, and notes the entry of an event. Answers
 /// whether it is made. An entry goes from the event into the log, and by no other value between them.
-fn try_pick<M: Machine<S>, S: ObjectSpace>(
+pub(crate) fn try_pick<M: Machine<S>, S: ObjectSpace>(
     world: &mut World<M, S>,
     logs: &mut Logs,
     pick: Pick,
@@ -68,7 +68,7 @@ fn end_of<M: Machine<S>, S: ObjectSpace>(world: &World<M, S>, thread: u32) -> Op
 }
 
 /// Each thread's entries with its end.
-fn thread_logs<M: Machine<S>, S: ObjectSpace>(
+pub(crate) fn thread_logs<M: Machine<S>, S: ObjectSpace>(
     alloc: Global,
     world: &World<M, S>,
     lists: Vec<PackedEntries>,

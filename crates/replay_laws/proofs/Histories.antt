@@ -20,9 +20,10 @@ use Rattle.event_core.specs.Run.{world_run, IsRun, entries, entries_of_step}
 use Rattle.event_core.proofs.Threads.{step_some}
 use Rattle.event_core.proofs.Places.{places_at, places_of_run, length_run, length_after}
 use Rattle.replay_laws.specs.Turns.{pick_of}
-use Rattle.replay_laws.specs.History.{Call, part, IsLegalHistory, memory_after_calls, entries_of_calls, calls_of_step, calls_of_run, OwnStep, OwnLocal, OwnCall, calls_in, op_at, Leads, IsExecution, IsRunOf, HistoriesAreRuns}
+use Rattle.replay_laws.specs.History.{Call, part, IsLegalHistory, memory_after_calls, entries_of_calls, calls_of_step, calls_of_run, OwnStep, OwnLocal, OwnCall, calls_in, op_at, Leads, IfTimeOut, TimesOut, RunTimesOut, IsExecution, IsRunOf, HistoriesAreRuns}
 use Rattle.event_core.proofs.LocalRuns.{get_same, get_other}
 use Rattle.replay_laws.proofs.Orders.{world_joined}
+use Rattle.replay_laws.proofs.JoinedRuns.{run_joined, entries_joined, calls_joined, times_joined}
 
 -- no step is left, or the next is a call
 abbrev Starts : {Op Reply : Type 0} → List (OwnStep Op Reply) → Type 0
@@ -64,7 +65,7 @@ part_other c cs t d = elim (eqb_tells c.thread t) [ inl p ↦ absurd (d p.1) | i
 ready_step : {Op : Type 0} (b : Bool) (op : Op) (f : StepFault) → b ≡ true → cond b (step.Event op) (step.Refused f) ≡ step.Event op
 ready_step b op f e = ap (λ x. cond x (step.Event op) (step.Refused f)) e
 
-module _ {State Op Reply Value Fixed : Type 0} (space : Space Op Reply Value Fixed) (code : Code State Op Reply Fixed) where
+module _ {State Op Reply Value Fixed : Type 0} (space : Space Op Reply Value Fixed) (code : Code State Op Reply Fixed) (may : ℕ → State → Bool) where
   event_by : (m : Memory Value Fixed) (n : Next Op) (input : Input) (op : Op) → op_at n input ≡ Some op → is_ready space m.fixed m.values op ≡ true → step_of_next space m n input ≡ step.Event op
   event_by m next.Local input op e r = absurd (cc)
   event_by m (next.Ask asked) Go op e r = let s : asked ≡ op = cc in ap (λ o. step.Event o) s
@@ -77,22 +78,6 @@ module _ {State Op Reply Value Fixed : Type 0} (space : Space Op Reply Value Fix
       let s : op ≡ out = cc in
       subst (λ o. step_of_next space m (next.Asleep resume (Some out)) TimeOut ≡ step.Event o) (sym s) (ready_step _ out _ (subst (λ o. is_ready space m.fixed m.values o ≡ true) s r))
   event_by m (next.Halted outcome) input op e r = absurd (cc)
-
-  run_joined : (w : WorldAt State Value Fixed) (ps qs : List Pick) → IsRun space code w ps → IsRun space code (world_run space code w ps) qs → IsRun space code w (ps ++ qs)
-  run_joined w [] qs r s = s
-  run_joined w (p ∷ ps) qs r s = (r.0, run_joined (world_after space code w p) ps qs r.1 s)
-
-  entries_joined : (w : WorldAt State Value Fixed) (ps qs : List Pick) (x : ℕ) → entries space code w (ps ++ qs) x ≡ entries space code w ps x ++ entries space code (world_run space code w ps) qs x
-  entries_joined w [] qs x = refl
-  entries_joined w (p ∷ ps) qs x =
-      let here = entries_of_step space w.memory p.thread x (step_of_pick space code w p) in
-      ap (λ l. here ++ l) (entries_joined (world_after space code w p) ps qs x) ∙ sym (append_assoc here (entries space code (world_after space code w p) ps x) _)
-
-  calls_joined : (w : WorldAt State Value Fixed) (ps qs : List Pick) → calls_of_run space code w (ps ++ qs) ≡ calls_of_run space code w ps ++ calls_of_run space code (world_run space code w ps) qs
-  calls_joined w [] qs = refl
-  calls_joined w (p ∷ ps) qs =
-      let here = calls_of_step space w.memory p.thread (step_of_pick space code w p) in
-      ap (λ l. here ++ l) (calls_joined (world_after space code w p) ps qs) ∙ sym (append_assoc here (calls_of_run space code (world_after space code w p) ps) _)
 
   -- a thread has an entry for each of its calls
   entry_more : (b : Bool) (e : Entry) (c : Call Op Reply) (es : List Entry) (cs : List (Call Op Reply)) → length es ≡ length cs → length (cond b (e ∷ []) [] ++ es) ≡ length (cond b (c ∷ cs) cs)
@@ -126,17 +111,19 @@ module _ {State Op Reply Value Fixed : Type 0} (space : Space Op Reply Value Fix
     leads : Leads code thread.state rest u
     calls : calls_in t rest ≡ calls_in t ds
     starts : Starts rest
+    local : RunTimesOut space code may w picks
+    times : TimesOut code (may t) thread.state rest
 
-  lead : (t : ℕ) (ds : List (OwnStep Op Reply)) (w : WorldAt State Value Fixed) (th : ThreadAt State) (u : State) → slice_get w.threads t ≡ Some th → Leads code th.state ds u → Led w t ds u
-  lead t [] w th u is l = record { picks = []; run = tt; silent = λ x. refl; quiet = refl; memory = refl; others = λ x d. refl; thread = th; at = is; rest = []; leads = l; calls = refl; starts = tt }
-  lead t (OwnCall input op reply ∷ ds) w th u is l = record { picks = []; run = tt; silent = λ x. refl; quiet = refl; memory = refl; others = λ x d. refl; thread = th; at = is; rest = OwnCall input op reply ∷ ds; leads = l; calls = refl; starts = tt }
-  lead t (OwnLocal ∷ ds) w th u is l =
+  lead : (t : ℕ) (ds : List (OwnStep Op Reply)) (w : WorldAt State Value Fixed) (th : ThreadAt State) (u : State) → slice_get w.threads t ≡ Some th → Leads code th.state ds u → TimesOut code (may t) th.state ds → Led w t ds u
+  lead t [] w th u is l m = record { local = tt; times = m; picks = []; run = tt; silent = λ x. refl; quiet = refl; memory = refl; others = λ x d. refl; thread = th; at = is; rest = []; leads = l; calls = refl; starts = tt }
+  lead t (OwnCall input op reply ∷ ds) w th u is l m = record { local = tt; times = m; picks = []; run = tt; silent = λ x. refl; quiet = refl; memory = refl; others = λ x d. refl; thread = th; at = is; rest = OwnCall input op reply ∷ ds; leads = l; calls = refl; starts = tt }
+  lead t (OwnLocal ∷ ds) w th u is l m =
       let p = pick_of t Go in
       let q : step_of_pick space code w p ≡ step.Local = step_some space code w p th is l.1 ∙ ap (λ n. step_of_next space w.memory n Go) l.0 in
       let v = world_after space code w p in
       let v_is : v ≡ world_after_step space code w t step.Local = ap (world_after_step space code w t) q in
       let at_v : slice_get v.threads t ≡ Some (thread_after_local code th) = ap (λ z. slice_get z.threads t) v_is ∙ get_same (thread_after_local code) w.threads t th is in
-      let r = lead t ds v (thread_after_local code th) u at_v l.2 in
+      let r = lead t ds v (thread_after_local code th) u at_v l.2 m in
       record {
         picks = p ∷ r.picks;
         run = (ap is_enabled q, r.run);
@@ -150,6 +137,8 @@ module _ {State Op Reply Value Fixed : Type 0} (space : Space Op Reply Value Fix
         leads = r.leads;
         calls = r.calls;
         starts = r.starts;
+        local = (λ y e. tt, r.local);
+        times = r.times;
       }
 
   -- the last steps of the threads below k
@@ -161,13 +150,15 @@ module _ {State Op Reply Value Fixed : Type 0} (space : Space Op Reply Value Fix
     memory : (world_run space code w picks).memory ≡ w.memory
     later : (x : ℕ) → k ≤ x → slice_get (world_run space code w picks).threads x ≡ slice_get w.threads x
     states : (x : ℕ) (th : ThreadAt State) → x < k → slice_get (world_run space code w picks).threads x ≡ Some th → th.state ≡ ends x
+    local : RunTimesOut space code may w picks
 
   module _ (own : ℕ → List (OwnStep Op Reply)) (ends : ℕ → State) (w : WorldAt State Value Fixed)
-      (leads : (t : ℕ) (th : ThreadAt State) → slice_get w.threads t ≡ Some th → Leads code th.state (own t) (ends t)) (none : (t : ℕ) → t < length w.threads → calls_in t (own t) ≡ []) where
+      (leads : (t : ℕ) (th : ThreadAt State) → slice_get w.threads t ≡ Some th → Leads code th.state (own t) (ends t)) (times : (t : ℕ) (th : ThreadAt State) → slice_get w.threads t ≡ Some th → TimesOut code (may t) th.state (own t)) (none : (t : ℕ) → t < length w.threads → calls_in t (own t) ≡ []) where
     skip : (k : ℕ) → Finished w k ends → slice_get w.threads k ≡ None → Finished w (suc k) ends
     skip k r e = record {
       picks = r.picks;
       run = r.run;
+      local = r.local;
       silent = r.silent;
       quiet = r.quiet;
       memory = r.memory;
@@ -181,15 +172,16 @@ module _ {State Op Reply Value Fixed : Type 0} (space : Space Op Reply Value Fix
     one_more : (k : ℕ) → Finished w k ends → (th : ThreadAt State) → slice_get w.threads k ≡ Some th → Finished w (suc k) ends
     one_more k r th e =
         let v = world_run space code w r.picks in
-        let d = lead k (own k) v th (ends k) (r.later k (omega arith) ∙ e) (leads k th e) in
+        let d = lead k (own k) v th (ends k) (r.later k (omega arith) ∙ e) (leads k th e) (times k th e) in
         let no_rest : d.rest ≡ [] = no_calls k d.rest (d.calls ∙ none k (slice_get_within w.threads k th e)) d.starts in
         let done : d.thread.state ≡ ends k = subst (λ ds. Leads code d.thread.state ds (ends k)) no_rest d.leads in
         let all = world_joined space code w r.picks d.picks in
         record {
           picks = r.picks ++ d.picks;
-          run = run_joined w r.picks d.picks r.run d.run;
-          silent = λ x. entries_joined w r.picks d.picks x ∙ (ap (λ l. l ++ entries space code v d.picks x) (r.silent x) ∙ d.silent x);
-          quiet = calls_joined w r.picks d.picks ∙ (ap (λ l. l ++ calls_of_run space code v d.picks) r.quiet ∙ d.quiet);
+          run = run_joined space code w r.picks d.picks r.run d.run;
+          local = times_joined space code may w r.picks d.picks r.local d.local;
+          silent = λ x. entries_joined space code w r.picks d.picks x ∙ (ap (λ l. l ++ entries space code v d.picks x) (r.silent x) ∙ d.silent x);
+          quiet = calls_joined space code w r.picks d.picks ∙ (ap (λ l. l ++ calls_of_run space code v d.picks) r.quiet ∙ d.quiet);
           memory = ap (λ z. z.memory) all ∙ (d.memory ∙ r.memory);
           later = λ x l. ap (λ z. slice_get z.threads x) all ∙ (d.others x (λ (z : x ≡ k). absurd (omega arith)) ∙ r.later x (omega arith));
           states = λ x u l is. elim (eqb_tells x k) [
@@ -206,15 +198,16 @@ module _ {State Op Reply Value Fixed : Type 0} (space : Space Op Reply Value Fix
     one_step k r (Some th) e = one_more k r th e
 
     finish : (k : ℕ) → Finished w k ends
-    finish zero = record { picks = []; run = tt; silent = λ x. refl; quiet = refl; memory = refl; later = λ x l. refl; states = λ x th l is. absurd (omega arith) }
+    finish zero = record { local = tt; picks = []; run = tt; silent = λ x. refl; quiet = refl; memory = refl; later = λ x l. refl; states = λ x th l is. absurd (omega arith) }
     finish (suc k) = one_step k (finish k) (slice_get w.threads k) refl
 
-  no_more : (w : WorldAt State Value Fixed) (own : ℕ → List (OwnStep Op Reply)) (ends : ℕ → State) → IsExecution space code w [] own ends → IsRunOf space code w [] ends
+  no_more : (w : WorldAt State Value Fixed) (own : ℕ → List (OwnStep Op Reply)) (ends : ℕ → State) → IsExecution space code may w [] own ends → IsRunOf space code may w [] ends
   no_more w own ends x =
-      let r = finish own ends w x.leads x.parts (length w.threads) in
+      let r = finish own ends w x.leads x.times x.parts (length w.threads) in
       record {
         picks = r.picks;
         run = r.run;
+        times = r.local;
         order = r.quiet;
         entries = r.silent;
         memory = r.memory;
@@ -223,7 +216,7 @@ module _ {State Op Reply Value Fixed : Type 0} (space : Space Op Reply Value Fix
       }
 
   -- the first call, after the local steps of its thread
-  module _ (w : WorldAt State Value Fixed) (c : Call Op Reply) (cs : List (Call Op Reply)) (own : ℕ → List (OwnStep Op Reply)) (ends : ℕ → State) (x : IsExecution space code w (c ∷ cs) own ends)
+  module _ (w : WorldAt State Value Fixed) (c : Call Op Reply) (cs : List (Call Op Reply)) (own : ℕ → List (OwnStep Op Reply)) (ends : ℕ → State) (x : IsExecution space code may w (c ∷ cs) own ends)
       (d : Led w c.thread (own c.thread) (ends c.thread)) (b : Begins c.thread d.rest c (part c.thread cs)) where
     abbrev mid : WorldAt State Value Fixed
     mid = world_run space code w d.picks
@@ -239,6 +232,14 @@ module _ {State Op Reply Value Fixed : Type 0} (space : Space Op Reply Value Fix
 
     call : Leads code d.thread.state (OwnCall b.input c.op c.reply ∷ b.rest) (ends c.thread)
     call = subst (λ ds. Leads code d.thread.state ds (ends c.thread)) b.is d.leads
+
+    may_call : TimesOut code (may c.thread) d.thread.state (OwnCall b.input c.op c.reply ∷ b.rest)
+    may_call = subst (λ ds. TimesOut code (may c.thread) d.thread.state ds) b.is d.times
+
+    may_here : (thread : ThreadAt State) → slice_get mid.threads c.thread ≡ Some thread → IfTimeOut b.input (may c.thread thread.state ≡ true)
+    may_here thread e =
+        let same : d.thread ≡ thread = let z : Some d.thread ≡ Some thread = sym d.at ∙ e in cc in
+        subst (λ (y : ThreadAt State). IfTimeOut b.input (may c.thread y.state ≡ true)) same may_call.0
 
     event : step_of_pick space code mid pick ≡ step.Event c.op
     event =
@@ -286,16 +287,28 @@ module _ {State Op Reply Value Fixed : Type 0} (space : Space Op Reply Value Fix
     leads_other : (t : ℕ) (th : ThreadAt State) → t ≢ c.thread → slice_get left.threads t ≡ Some th → Leads code th.state (own_after t) (ends t)
     leads_other t th n is = subst (λ ds. Leads code th.state ds (ends t)) (sym (own_other t n)) (x.leads t th (sym (others_left t n) ∙ is))
 
+    times_same : (t : ℕ) (th : ThreadAt State) → t ≡ c.thread → slice_get left.threads t ≡ Some th → TimesOut code (may t) th.state (own_after t)
+    times_same t th e is =
+        let here : slice_get left.threads c.thread ≡ Some th = ap (slice_get left.threads) (sym e) ∙ is in
+        let same : thread_after_reply code c.reply d.thread ≡ th = let z : Some (thread_after_reply code c.reply d.thread) ≡ Some th = sym at_left ∙ here in cc in
+        subst (λ (y : ThreadAt State). TimesOut code (may t) y.state (own_after t)) same
+        (subst (λ ds. TimesOut code (may t) (code.take d.thread.state c.reply) ds) (sym (own_same t e))
+        (subst (λ y. TimesOut code (may y) (code.take d.thread.state c.reply) b.rest) (sym e) may_call.1))
+
+    times_other : (t : ℕ) (th : ThreadAt State) → t ≢ c.thread → slice_get left.threads t ≡ Some th → TimesOut code (may t) th.state (own_after t)
+    times_other t th n is = subst (λ ds. TimesOut code (may t) th.state ds) (sym (own_other t n)) (x.times t th (sym (others_left t n) ∙ is))
+
     parts_same : (t : ℕ) → t ≡ c.thread → calls_in t (own_after t) ≡ part t cs
     parts_same t e = ap (calls_in t) (own_same t e) ∙ subst (λ y. calls_in y b.rest ≡ part y cs) (sym e) b.calls
 
     parts_other : (t : ℕ) → t ≢ c.thread → t < length w.threads → calls_in t (own_after t) ≡ part t cs
     parts_other t n l = ap (calls_in t) (own_other t n) ∙ (x.parts t l ∙ part_other c cs t (λ e. n (sym e)))
 
-    after_call : IsExecution space code left cs own_after ends
+    after_call : IsExecution space code may left cs own_after ends
     after_call = record {
       legal = subst (λ m. IsLegalHistory space m cs) (sym memory_left) x.legal.2;
       leads = λ t th is. elim (eqb_tells t c.thread) [ inl p ↦ leads_same t th p.1 is | inr p ↦ leads_other t th p.1 is ];
+      times = λ t th is. elim (eqb_tells t c.thread) [ inl p ↦ times_same t th p.1 is | inr p ↦ times_other t th p.1 is ];
       parts = λ t l. elim (eqb_tells t c.thread) [ inl p ↦ parts_same t p.1 | inr p ↦ parts_other t p.1 (omega (arith, l, size_left)) ];
       no_others = λ t l. sym (part_other c cs t (λ (e : c.thread ≡ t). absurd (omega (arith, e, l, size_left, within)))) ∙ x.no_others t (omega (arith, l, size_left));
     }
@@ -308,25 +321,26 @@ module _ {State Op Reply Value Fixed : Type 0} (space : Space Op Reply Value Fix
         called : Reply → Call Op Reply
         called y = record { thread = c.thread; op = c.op; reply = y }
 
-    in_order : (r : IsRunOf space code left cs ends) → calls_of_run space code w (d.picks ++ pick ∷ r.picks) ≡ c ∷ cs
+    in_order : (r : IsRunOf space code may left cs ends) → calls_of_run space code w (d.picks ++ pick ∷ r.picks) ≡ c ∷ cs
     in_order r =
-        calls_joined w d.picks (pick ∷ r.picks)
+        calls_joined space code w d.picks (pick ∷ r.picks)
         ∙ ap (λ l. l ++ (calls_of_step space mid.memory c.thread (step_of_pick space code mid pick) ++ calls_of_run space code left r.picks)) d.quiet
         ∙ ap (λ l. l ++ calls_of_run space code left r.picks) first_call
         ∙ ap (λ l. c ∷ l) r.order
 
-    with_call : IsRunOf space code left cs ends → IsRunOf space code w (c ∷ cs) ends
+    with_call : IsRunOf space code may left cs ends → IsRunOf space code may w (c ∷ cs) ends
     with_call r =
         let all = world_joined space code w d.picks (pick ∷ r.picks) in
         let es : (t : ℕ) → entries space code w (d.picks ++ pick ∷ r.picks) t ≡ entries_of_calls space w.memory (c ∷ cs) t = λ t. (
-        entries_joined w d.picks (pick ∷ r.picks) t
+        entries_joined space code w d.picks (pick ∷ r.picks) t
         ∙ ap (λ l. l ++ (entries_of_step space mid.memory c.thread t (step_of_pick space code mid pick) ++ entries space code left r.picks t)) (d.silent t)
         ∙ ap (λ j. entries_of_step space mid.memory c.thread t j ++ entries space code left r.picks t) event
         ∙ ap (λ m. cond (c.thread == t) (entry_of space m c.op ∷ []) [] ++ entries space code left r.picks t) d.memory
         ∙ ap (λ l. cond (c.thread == t) (entry_of space w.memory c.op ∷ []) [] ++ l) (r.entries t ∙ ap (λ m. entries_of_calls space m cs t) memory_left)) in
         record {
           picks = d.picks ++ pick ∷ r.picks;
-          run = run_joined w d.picks (pick ∷ r.picks) d.run (ap is_enabled event, r.run);
+          run = run_joined space code w d.picks (pick ∷ r.picks) d.run (ap is_enabled event, r.run);
+          times = times_joined space code may w d.picks (pick ∷ r.picks) d.local (may_here, r.times);
           order = in_order r;
           entries = es;
           places = places_of w (d.picks ++ pick ∷ r.picks) (c ∷ cs) es;
@@ -334,17 +348,20 @@ module _ {State Op Reply Value Fixed : Type 0} (space : Space Op Reply Value Fix
           states = λ t th is. r.states t th (ap (λ z. slice_get z.threads t) (sym all) ∙ is);
         }
 
-  first_thread : (w : WorldAt State Value Fixed) (c : Call Op Reply) (cs : List (Call Op Reply)) (own : ℕ → List (OwnStep Op Reply)) (ends : ℕ → State) → IsExecution space code w (c ∷ cs) own ends → (th : ThreadAt State) × (slice_get w.threads c.thread ≡ Some th)
+  first_thread : (w : WorldAt State Value Fixed) (c : Call Op Reply) (cs : List (Call Op Reply)) (own : ℕ → List (OwnStep Op Reply)) (ends : ℕ → State) → IsExecution space code may w (c ∷ cs) own ends → (th : ThreadAt State) × (slice_get w.threads c.thread ≡ Some th)
   first_thread w c cs own ends x =
       elim (slice_get_cases w.threads c.thread).1 [
         | inl e ↦ (e.0, e.2)
         | inr e ↦ absurd (let z : c ∷ part c.thread cs ≡ [] = sym (part_same c cs c.thread refl) ∙ x.no_others c.thread e.0 in cc)
       ]
 
-  pub histories_are_runs : HistoriesAreRuns space code
-  histories_are_runs w [] own ends x = no_more w own ends x
-  histories_are_runs w (c ∷ cs) own ends x =
+  execution_runs : (w : WorldAt State Value Fixed) (calls : List (Call Op Reply)) (own : ℕ → List (OwnStep Op Reply)) (ends : ℕ → State) → IsExecution space code may w calls own ends → IsRunOf space code may w calls ends
+  execution_runs w [] own ends x = no_more w own ends x
+  execution_runs w (c ∷ cs) own ends x =
       let th = first_thread w c cs own ends x in
-      let d = lead c.thread (own c.thread) w th.0 (ends c.thread) th.1 (x.leads c.thread th.0 th.1) in
+      let d = lead c.thread (own c.thread) w th.0 (ends c.thread) th.1 (x.leads c.thread th.0 th.1) (x.times c.thread th.0 th.1) in
       let b = begins c.thread d.rest c (part c.thread cs) d.starts (d.calls ∙ (x.parts c.thread (slice_get_within w.threads c.thread th.0 th.1) ∙ part_same c cs c.thread refl)) in
-      with_call w c cs own ends x d b (histories_are_runs (left w c cs own ends x d b) cs (own_after w c cs own ends x d b) ends (after_call w c cs own ends x d b))
+      with_call w c cs own ends x d b (execution_runs (left w c cs own ends x d b) cs (own_after w c cs own ends x d b) ends (after_call w c cs own ends x d b))
+
+pub histories_are_runs : {State Op Reply Value Fixed : Type 0} (space : Space Op Reply Value Fixed) (code : Code State Op Reply Fixed) → HistoriesAreRuns space code
+histories_are_runs space code may = execution_runs space code may
