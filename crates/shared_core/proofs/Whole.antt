@@ -66,3 +66,36 @@ module _ {O R : Type 0} where
 
   pub parts_whole : (ss : List (Part O R)) (all : List (Call O R)) → IsNumbered 0 ss → AreWithin all ss → length all ≤ calls_of ss → AreParts all ss
   parts_whole ss all n w le = all_whole ss all w (omega (arith, theirs_below 0 ss all n, le))
+
+  -- a seat past these is none of them
+  hits_past : (b t : ℕ) (ss : List (Part O R)) → IsNumbered b ss → b + length ss ≤ t → hits ss t ≡ 0
+  hits_past b t [] n high = refl
+  hits_past b t (s ∷ ss) n high =
+      let rest = hits_past (b + 1) t ss n.1 (omega (arith, high)) in
+      let other : (t == s.thread) ≡ false = grind (arith, nat_tests, n.0) in
+      rw other (omega (arith, rest))
+
+  hit_or_other : (b t x : ℕ) (ss : List (Part O R)) → IsNumbered b ss → b + length ss ≤ t → (e : Bool) → (x == t) ≡ e → hits ss x + cond e 1 0 ≤ 1
+  hit_or_other b t x ss n high true is =
+      let same : x ≡ t = grind (arith, nat_tests, is) in
+      let none = hits_past b x ss n (omega (arith, same, high)) in
+      omega (arith, none)
+  hit_or_other b t x ss n high false is = let once = hits_once b x ss n in omega (arith, once)
+
+  others_below : (b t : ℕ) (ss : List (Part O R)) (all : List (Call O R)) → IsNumbered b ss → b + length ss ≤ t → theirs ss all + length (part_of t all) ≤ length all
+  others_below b t ss [] n high = omega (arith, theirs-nil ss)
+  others_below b t ss (c ∷ all) n high =
+      let here = length_cond (c.thread == t) c (part_of t all) in
+      let one = hit_or_other b t c.thread ss n high (c.thread == t) refl in
+      omega (arith, theirs-cons ss c all, here, one, others_below b t ss all n high)
+
+  no_calls : (cs : List (Call O R)) → length cs ≡ 0 → cs ≡ []
+  no_calls [] e = refl
+  no_calls (c ∷ cs) e = absurd (omega (arith, e))
+
+  -- and no other thread has a call
+  pub no_others : (ss : List (Part O R)) (all : List (Call O R)) → IsNumbered 0 ss → AreWithin all ss → length all ≤ calls_of ss → (t : ℕ) → length ss ≤ t → part_of t all ≡ []
+  no_others ss all n w le t high =
+      let most = others_below 0 t ss all n (omega (arith, high)) in
+      let least = calls_below ss all w in
+      no_calls (part_of t all) (omega (arith, most, least, le))

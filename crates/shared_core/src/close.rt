@@ -1,6 +1,6 @@
 //! The end of a shared space.
 
-ghost use Rattle.std.specs.Prelude.{◌≡◌, ◌+◌, ℕ, List, ◌++◌, IfOk, length, map};
+ghost use Rattle.std.specs.Prelude.{◌≡◌, ◌≤◌, ◌+◌, ℕ, List, [], ◌++◌, IfOk, length, map};
 ghost use mathlib.Core.List.{IsPrefix};
 ghost use Rattle.rw_objects.specs.Memory.{memory_of};
 ghost use Rattle.shared_parts.specs.declared.call.Call.{Call};
@@ -69,6 +69,7 @@ pub(crate) fn end<S: Striped + Drop, J: Opening<S>>(
     ensures memory { IfOk result (λ h. memory_of h.memory ≡ memory_after_calls S.meaning J.named.memory held) }
     ensures order { IfOk result (λ h. h.order.items ≡ threads_in held) }
     ensures parts { IfOk result (λ h. AreParts held seats.items) }
+    ensures no_others { IfOk result (λ h. (t : ℕ) → length seats.items ≤ t → part_of t held ≡ []) }
     ensures entries { IfOk result (λ h. h.entries.items ≡ map (λ s. entries_in s.calls) seats.items) }
 {
     let Held {
@@ -99,7 +100,7 @@ impl<S: Striped + Drop, J: Opening<S>> Shared<S, J> {
     pub fn close(self, alloc: Global, seats: Vec<Seat<S, J>>) -> Result<History<S>, NoMemory>
         requires all { length seats.items ≡ J.named.threads }
         requires numbered { IsNumbered 0 seats.items }
-        ensures { IfOk result (λ h. (calls : List (Call S.Op S.Reply)) × IsLegalHistory S.meaning J.named.memory calls × (memory_of h.memory ≡ memory_after_calls S.meaning J.named.memory calls) × (h.order.items ≡ threads_in calls) × AreParts calls seats.items × (h.entries.items ≡ map (λ s. entries_in s.calls) seats.items)) }
+        ensures { IfOk result (λ h. (calls : List (Call S.Op S.Reply)) × IsLegalHistory S.meaning J.named.memory calls × (memory_of h.memory ≡ memory_after_calls S.meaning J.named.memory calls) × (h.order.items ≡ threads_in calls) × AreParts calls seats.items × ((t : ℕ) → length seats.items ≤ t → part_of t calls ≡ []) × (h.entries.items ≡ map (λ s. entries_in s.calls) seats.items)) }
     {
         let Shared {
             parts,

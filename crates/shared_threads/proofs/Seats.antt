@@ -37,14 +37,14 @@ module _ {Op Reply State : Type 0} where
     all_new [] n = All-nil (λ j. (seat j).calls ≡ [])
     all_new (j ∷ js) n = All-cons (λ j. (seat j).calls ≡ []) j js n.0 (all_new js n.1)
 
-    pub same_numbers : (leads : State → List (Call Op Reply) → State → Type 0) (b : ℕ) (js ks : List Job) → AllZip (λ j k. IsWorked leads (seat j) (state j) (seat k) (state k)) js ks
+    pub same_numbers : (leads : ℕ → State → List (Call Op Reply) → State → Type 0) (b : ℕ) (js ks : List Job) → AllZip (λ j k. IsWorked leads (seat j) (state j) (seat k) (state k)) js ks
         → IsNumbered b (map seat js) → IsNumbered b (map seat ks)
     same_numbers leads b [] [] z n = tt
     same_numbers leads b [] (k ∷ ks) z n = absurd z
     same_numbers leads b (j ∷ js) [] z n = absurd z
     same_numbers leads b (j ∷ js) (k ∷ ks) z n = (z.0.thread ∙ n.0, same_numbers leads (b + 1) js ks z.1 n.1)
 
-    pub same_length : (leads : State → List (Call Op Reply) → State → Type 0) (js ks : List Job) → AllZip (λ j k. IsWorked leads (seat j) (state j) (seat k) (state k)) js ks
+    pub same_length : (leads : ℕ → State → List (Call Op Reply) → State → Type 0) (js ks : List Job) → AllZip (λ j k. IsWorked leads (seat j) (state j) (seat k) (state k)) js ks
         → length (map seat ks) ≡ length (map seat js)
     same_length leads [] [] z = refl
     same_length leads [] (k ∷ ks) z = absurd z
@@ -52,10 +52,10 @@ module _ {Op Reply State : Type 0} where
     same_length leads (j ∷ js) (k ∷ ks) z = omega (arith, same_length leads js ks z.1)
 
     -- the calls of each thread lead to what it has then
-    pub all_lead : (leads : State → List (Call Op Reply) → State → Type 0) (b : ℕ) (all : List (Call Op Reply)) (js ks : List Job) → AllZip (λ j k. IsWorked leads (seat j) (state j) (seat k) (state k)) js ks
+    pub all_lead : (leads : ℕ → State → List (Call Op Reply) → State → Type 0) (b : ℕ) (all : List (Call Op Reply)) (js ks : List Job) → AllZip (λ j k. IsWorked leads (seat j) (state j) (seat k) (state k)) js ks
         → IsNumbered b (map seat ks) → AreParts all (map seat ks) → AllLead leads b all (map state js) (map state ks)
     all_lead leads b all [] [] z n p = tt
     all_lead leads b all [] (k ∷ ks) z n p = absurd z
     all_lead leads b all (j ∷ js) [] z n p = absurd z
     all_lead leads b all (j ∷ js) (k ∷ ks) z n p =
-        (subst (λ cs. leads (state j) cs (state k)) (sym p.0 ∙ ap (λ t. part_of t all) n.0) z.0.led, all_lead leads (b + 1) all js ks z.1 n.1 p.1)
+        (subst (λ t. leads t (state j) (part_of b all) (state k)) (sym z.0.thread ∙ n.0) (subst (λ cs. leads (seat j).thread (state j) cs (state k)) (sym p.0 ∙ ap (λ t. part_of t all) n.0) z.0.led), all_lead leads (b + 1) all js ks z.1 n.1 p.1)

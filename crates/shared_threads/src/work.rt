@@ -11,7 +11,7 @@ use striped_objects::Striped;
 
 /// What each thread over a shared space does with its seat. All threads have the same value of it.
 pub trait Work<S: Striped> {
-    ghost use Rattle.std.specs.Prelude.{List};
+    ghost use Rattle.std.specs.Prelude.{ℕ, List};
     ghost use Rattle.shared_parts.specs.declared.call.Call.{Call};
 
     /// What a thread has to itself.
@@ -19,10 +19,11 @@ pub trait Work<S: Striped> {
 
     ghost begins: { S.Fixed → Self.State → Type 0 };
 
-    ghost leads: { Self.State → List (Call S.Op S.Reply) → Self.State → Type 0 };
+    ghost leads: { ℕ → Self.State → List (Call S.Op S.Reply) → Self.State → Type 0 };
 
     /// The work of one thread, from what it has to what it then has. `begins` says with what it may begin over a space with
-    /// these fixed numbers, `leads` what its calls lead to. The seat is left for it, once it is done.
+    /// these fixed numbers, `leads` to what the calls of the thread with a number lead. The seat is left for it, once it
+    /// is done.
     fn work<J: Opening<S>, R: Wait>(
         &self,
         rt: &R,
@@ -34,5 +35,5 @@ pub trait Work<S: Striped> {
         requires begins { begins J.named.memory.fixed state }
         requires new { seat.old.calls ≡ [] }
         ensures thread { seat.new.thread ≡ seat.old.thread }
-        ensures leads { leads state seat.new.calls result };
+        ensures leads { leads seat.old.thread state seat.new.calls result };
 }

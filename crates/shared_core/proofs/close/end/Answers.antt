@@ -7,7 +7,7 @@ use Rattle.striped_objects.proofs.Wholes.{one_whole}
 use Rattle.shared_parts.specs.Calls.{AreWithin, calls_of, memory_after_calls, entries_in}
 use Rattle.shared_parts.proofs.Writes.{fixed_after}
 use Rattle.shared_journal.proofs.Enters.{memory_is}
-use Rattle.shared_core.proofs.Whole.{parts_whole}
+use Rattle.shared_core.proofs.Whole.{parts_whole, no_others}
 use Rattle.shared_core.proofs.close.end.Goals as goal
 
 empty : {A : Type 0} (xs : List A) → length xs ≡ 0 → xs ≡ []
@@ -26,6 +26,19 @@ returns-clause-parts g c =
     let long = ap length c.held.view_is in
     let enough : length c.args.held ≤ calls_of c.args.seats.items = omega (arith, whole, inv.1, ap calls_of none, c.held.invariant.total, long) in
     parts_whole c.args.seats.items c.args.held c.requires.numbered all enough
+
+pub returns-clause-no_others : goal.returns-clause-no_others
+returns-clause-no_others g c =
+    let inv = c.loop-seat.invariant in
+    let none : into_iter_items c.loop-seat.seat-iterator ≡ [] = empty (into_iter_items c.loop-seat.seat-iterator) (sym inv.3 ∙ c.in-None.ensures.steps.0) in
+    let same = inv.5 in
+    let within : AreWithin c.loop-seat.tail c.args.seats.items = inv.2 (subst (AreWithin c.loop-seat.tail) (sym none) tt) in
+    let all : AreWithin c.args.held c.args.seats.items = subst (λ l. AreWithin l c.args.seats.items) same within in
+    let parts : c.loop-seat.all.parts ≡ g.J.Opening.named.threads + 1 = omega (arith, inv.0, ap length none, c.requires.all) in
+    let whole = c.audit.ensures.whole parts in
+    let long = ap length c.held.view_is in
+    let enough : length c.args.held ≤ calls_of c.args.seats.items = omega (arith, whole, inv.1, ap calls_of none, c.held.invariant.total, long) in
+    no_others c.args.seats.items c.args.held c.requires.numbered all enough
 
 pub unite-requires : goal.unite-requires
 unite-requires g c =

@@ -1,5 +1,5 @@
 -- The seats that come back are those that were opened, with their threads' calls.
-use Rattle.std.proofs.Common.{◌≡◌, length, map, sym, ap, ◌∙◌, subst}
+use Rattle.std.proofs.Common.{arith, ◌≡◌, length, map, sym, ap, ◌∙◌, subst}
 use Rattle.std.specs.List.{All}
 use Rattle.shared_parts.specs.Calls.{IsLegalHistory, memory_after_calls, IsNumbered, AreNew, AreParts}
 use Rattle.shared_threads.specs.Ran.{AllLead}
@@ -51,7 +51,8 @@ returns g c =
       legal = subst (λ m. IsLegalHistory space m h.0) (sym opening) h.1;
       led = h.2 ∙ ap (λ m. memory_after_calls space m h.0) (sym opening);
       ordered = h.3;
-      entered = h.5 ∙ entries_of_seats 0 h.0 c.in_ok-seats.seats.items c.args.states.items
+      no_others = λ t l. let n = all ∙ sym (c.requires.threads ∙ ap (λ n. n.threads) c.requires.named) in h.5 t (omega (arith, n, l));
+      entered = h.6 ∙ entries_of_seats 0 h.0 c.in_ok-seats.seats.items c.args.states.items
           (all ∙ sym (c.requires.threads ∙ ap (λ n. n.threads) c.requires.named))
           (subst (IsNumbered 0) (sym c.in_ok-seats.ensures.seats) numbered) h.4;
       each = subst (λ l. AllLead leads 0 h.0 l c.in_ok-seats.states.items) c.in_ok-jobs.ensures.states

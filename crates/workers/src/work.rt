@@ -1,0 +1,62 @@
+//! The work of workers that record.
+
+use crate::recording::record_thread;
+use crate::timer::Timer;
+use crate::worker::Worker;
+use rw_objects::Machine;
+use shared_core::{Hold, Shared};
+use shared_journal::Seat;
+use shared_parts::Opening;
+use shared_threads::Work;
+use std::alloc::Global;
+use std::marker::PhantomData;
+use std::sync::Wait;
+use striped_objects::Striped;
+
+/// What all workers of a recording share: the timer, and what keeps each try of a call.
+#[derive(Drop)]
+pub(crate) struct Recording<'a, M, T, H> {
+    pub(crate) timer: &'a T,
+    pub(crate) hold: &'a H,
+    pub(crate) of: PhantomData<M>,
+}
+
+impl<S: Striped, M: Machine<S> + Drop, T: Timer, H: Hold> Work<S> for Recording<'_, M, T, H> {
+    ghost use Rattle.workers.specs.Work.{CanBegin, HasWorked};
+
+    type State = Worker<M>;
+
+    ghost begins = { λ fixed w. CanBegin M.code M.state fixed w };
+
+    ghost leads = { λ t w calls u. HasWorked M.code M.state (λ k s. T.can_expire k (M.nanos_of s)) t w calls u };
+
+    fn work<J: Opening<S>, R: Wait>(
+        &self,
+        rt: &R,
+        alloc: Global,
+        shared: &Shared<S, J>,
+        seat: &mut Seat<S, J>,
+        state: Worker<M>,
+    ) -> Worker<M> {
+        let Worker {
+            mut thread,
+            steps,
+            is_starved: _,
+        } = state;
+        let answer = record_thread(
+            rt,
+            alloc,
+            shared,
+            &mut thread,
+            seat,
+            steps,
+            self.timer,
+            self.hold,
+        );
+        Worker {
+            thread,
+            steps,
+            is_starved: answer.is_err(),
+        }
+    }
+}
