@@ -3,6 +3,7 @@
 ghost use Rattle.std.specs.Prelude.{◌≡◌, ℕ, ◌+◌, true, false, OnOk, OnErr, IsOk, option_map};
 ghost use Rattle.wasm_types.specs.declared.instruction.Instr.{Instr as Instruction};
 ghost use Rattle.rw_objects.specs.Code.{TakesReply};
+ghost use Rattle.wasm_types.specs.declared.modules.Module.{Module};
 ghost use Rattle.thread_step.specs.Thread.{move, time_out};
 ghost use Rattle.thread_words.specs.declared.stacks.Stage.TheVariants.{Running};
 ghost use Rattle.thread_words.specs.Accesses.{IsAccess};
@@ -13,7 +14,7 @@ ghost use Rattle.integer_machine.specs.Meaning.{meaning};
 ghost use Rattle.integer_machine.specs.Rooms.{IsNoAccess};
 ghost use Rattle.integer_machine.specs.Sound.{Sound, HasMost};
 ghost use Rattle.integer_machine.specs.Trying.{IsNextLocal};
-ghost use Rattle.thread_code.specs.ThreadCode.{op_of, next_by, local_by, replied_by};
+ghost use Rattle.thread_code.specs.ThreadCode.{nanos_in, nanos_by, op_of, next_by, local_by, replied_by};
 
 use crate::trying::try_step;
 use rw_objects::Next;
@@ -54,6 +55,23 @@ fn time_out_of(instance: &Instance, address: u32, time: i64) -> Option<Op>
     }
     let thread = instance.thread;
     Some(operation(instance, Action::TimeOut { thread, address }))
+}
+
+/// After how many nanoseconds a sleep with this time times out: 0 for one without end.
+fn nanos_in(time: i64) -> u64
+    ensures { result ≡ nanos_in time }
+{
+    if time > 0 { time as u64 } else { 0 }
+}
+
+/// After how many nanoseconds the sleep of a thread times out: 0 where it does not sleep, or sleeps without a limit of time.
+pub(crate) fn nanos_of(m: &Stacks) -> u64
+    ensures { (within : Module) → result ≡ nanos_by (meaning within m.now) }
+{
+    match m.stage {
+        Stage::Sleeping { address: _, time } => nanos_in(time),
+        Stage::Running | Stage::Ended(_) => 0,
+    }
 }
 
 /// The instruction at which a thread that runs stands.
