@@ -8,3 +8,5 @@ mod joins;
 mod pieces;
 #[cfg(test)]
 mod replicas;
+#[cfg(test)]
+mod skipping;

@@ -15,18 +15,18 @@ use std::test::Fail;
 use wasm_types::{NoMemory, Outcome, Profile, RunKey, Same};
 
 // Thread 0 with two writes and its end.
-const WHOLE: &str = "\
+pub(crate) const WHOLE: &str = "\
     49525001aaaaaaaaaaaaaaaaaaaaaaaaaaaaaaaaaaaaaaaaaaaaaaaaaaaaaaaaaaaaaaaa0100000000000000000000\
     0000020001000101000000010000000000000000000000000000000000010100000001010000000000000000000000\
     0000000008000000020000000301000000";
 
 // Its first entry.
-const FIRST: &str = "\
+pub(crate) const FIRST: &str = "\
     49525001aaaaaaaaaaaaaaaaaaaaaaaaaaaaaaaaaaaaaaaaaaaaaaaaaaaaaaaaaaaaaaaa0100000000000000000000\
     00000100000001010000000100000000000000000000000000000000";
 
 // Its second entry and its end.
-const SECOND: &str = "\
+pub(crate) const SECOND: &str = "\
     49525001aaaaaaaaaaaaaaaaaaaaaaaaaaaaaaaaaaaaaaaaaaaaaaaaaaaaaaaaaaaaaaaa0100000000000000000100\
     0000010001000101000000010100000000000000000000000000000008000000020000000301000000";
 
@@ -61,21 +61,22 @@ const OTHER_END: &str = "\
     000000000109000000020000000301000000";
 
 // The first entry in run 2.
-const OTHER_RUN: &str = "\
+pub(crate) const OTHER_RUN: &str = "\
     49525001aaaaaaaaaaaaaaaaaaaaaaaaaaaaaaaaaaaaaaaaaaaaaaaaaaaaaaaaaaaaaaaa0200000000000000000000\
     00000100000001010000000100000000000000000000000000000000";
 
 // Thread 0 whole, in profile 2 with blocks of 64 bytes.
-const BLOCK_64: &str = "\
+pub(crate) const BLOCK_64: &str = "\
     49525002aaaaaaaaaaaaaaaaaaaaaaaaaaaaaaaaaaaaaaaaaaaaaaaaaaaaaaaaaaaaaaaa0100000000000000060000\
     0000000200010001010000000100000000000000000000000000000000000101000000010100000000000000000000\
     000000000008000000020000000301000000";
 
 // The listing's line of the run, without its end.
-const RUN: &str = "run aaaaaaaaaaaaaaaaaaaaaaaaaaaaaaaaaaaaaaaaaaaaaaaaaaaaaaaaaaaaaaaa:1";
+pub(crate) const RUN: &str =
+    "run aaaaaaaaaaaaaaaaaaaaaaaaaaaaaaaaaaaaaaaaaaaaaaaaaaaaaaaaaaaaaaaa:1";
 
 // The rest of the listing of `WHOLE`.
-const WHOLE_LISTED: &str = "\
+pub(crate) const WHOLE_LISTED: &str = "\
 0.0 access w1@0/0
 0.1 access w1@1/0
 0 end steps=8 places=2 i32 1
@@ -83,7 +84,7 @@ ends 1 missing 0 strays 0 clashes 0
 ";
 
 // The listing of `WHOLE`.
-const WHOLE_TEXT: &str = "\
+pub(crate) const WHOLE_TEXT: &str = "\
 run aaaaaaaaaaaaaaaaaaaaaaaaaaaaaaaaaaaaaaaaaaaaaaaaaaaaaaaaaaaaaaaa:1
 0.0 access w1@0/0
 0.1 access w1@1/0
@@ -240,7 +241,7 @@ fn listings_are_as_in_worked_examples(rt: HostRuntime) -> Result<(), Fail> {
     Ok(())
 }
 
-const NO_PIECES: &[u8] = b"run none\nends 0 missing 0 strays 0 clashes 0\n";
+pub(crate) const NO_PIECES: &[u8] = b"run none\nends 0 missing 0 strays 0 clashes 0\n";
 
 /// What gathering `BLOCK_64` comes to.
 fn gathered_blocks(alloc: Global) -> Result<Gathered, NoMemory> {
