@@ -31,7 +31,7 @@ pub struct History<S: ObjectSpace> {
 }
 
 /// Takes a seat in. Its calls are among those of its thread.
-fn hand_in<S: Striped, J: Opening<S>>(
+fn hand_in<S: Striped, J: Opening<S, S::Value, S::Fixed>>(
     seat: Seat<S, J>,
     head: &Head<Call<S::Op, S::Reply>, J>,
     tail: &mut Tail<Call<S::Op, S::Reply>, J>,
@@ -57,7 +57,7 @@ fn hand_in<S: Striped, J: Opening<S>>(
 }
 
 /// Ends it. Handed all seats, it answers a legal history in which each seat's calls are those of its thread.
-pub(crate) fn end<S: Striped + Drop, J: Opening<S>>(
+pub(crate) fn end<S: Striped + Drop, J: Opening<S, S::Value, S::Fixed>>(
     held: Held<S, J>,
     alloc: Global,
     parts: Parts<S, J>,
@@ -95,7 +95,7 @@ pub(crate) fn end<S: Striped + Drop, J: Opening<S>>(
     })
 }
 
-impl<S: Striped + Drop, J: Opening<S>> Shared<S, J> {
+impl<S: Striped + Drop, J: Opening<S, S::Value, S::Fixed>> Shared<S, J> {
     /// Ends it, once no thread uses it.
     pub fn close(self, alloc: Global, seats: Vec<Seat<S, J>>) -> Result<History<S>, NoMemory>
         requires all { length seats.items ≡ J.named.threads }

@@ -9,12 +9,12 @@ use striped_objects::Striped;
 
 /// The journal with the versions of all objects, and which seats can go on.
 #[derive(Drop)]
-pub(crate) struct Journal<S: Striped, J: Opening<S>> {
+pub(crate) struct Journal<S: Striped, J: Opening<S, S::Value, S::Fixed>> {
     pub(crate) held: Held<S, J>,
     pub(crate) resting: Resting,
 }
 
-impl<S: Striped, J: Opening<S>> Journal<S, J> {
+impl<S: Striped, J: Opening<S, S::Value, S::Fixed>> Journal<S, J> {
     /// How many calls were entered.
     pub(crate) fn length(&self) -> u64
         ensures { result ≡ length self.now.held }

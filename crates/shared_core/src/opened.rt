@@ -61,7 +61,7 @@ impl<S: Striped + Drop> Opened<S> {
 }
 
 /// A part under its lock, and its book.
-fn stripe<S: Striped, J: Opening<S>, const I: u64>(
+fn stripe<S: Striped, J: Opening<S, S::Value, S::Fixed>, const I: u64>(
     blank: Blank,
     part: Box<S::Part>,
     told: &Told<Call<S::Op, S::Reply>, J>,
@@ -83,7 +83,7 @@ fn stripe<S: Striped, J: Opening<S>, const I: u64>(
 }
 
 /// All parts under their locks, and their books.
-fn stripes<S: Striped, J: Opening<S>>(
+fn stripes<S: Striped, J: Opening<S, S::Value, S::Fixed>>(
     lanes: Eight<Blank>,
     parts: Eight<Box<S::Part>>,
     told: &Told<Call<S::Op, S::Reply>, J>,
@@ -126,7 +126,7 @@ fn stripes<S: Striped, J: Opening<S>>(
 }
 
 /// A seat for each thread, with its share of the ledger of calls. The rest of the share is answered too.
-fn seats<S: Striped, J: Opening<S>>(
+fn seats<S: Striped, J: Opening<S, S::Value, S::Fixed>>(
     alloc: Global,
     threads: u8,
     share: Share<Count<S, J>>,
@@ -154,7 +154,7 @@ fn seats<S: Striped, J: Opening<S>>(
     Ok((seats, share))
 }
 
-impl<S: Striped + Drop, J: Opening<S>> Shared<S, J> {
+impl<S: Striped + Drop, J: Opening<S, S::Value, S::Fixed>> Shared<S, J> {
     /// A shared space with no calls, and a seat for each thread.
     pub fn new(
         alloc: Global,

@@ -19,7 +19,7 @@ use striped_objects::{Eight, Striped, has_lane};
 
 /// The parts, each under a lock that readers share. The lock inside is taken while the journal's is held.
 #[derive(Drop)]
-pub struct Parts<S: Striped, J: Opening<S>> {
+pub struct Parts<S: Striped, J: Opening<S, S::Value, S::Fixed>> {
     pub zero: RwLock<Mutex<Stripe<S, J, 0>>>,
     pub one: RwLock<Mutex<Stripe<S, J, 1>>>,
     pub two: RwLock<Mutex<Stripe<S, J, 2>>>,
@@ -31,7 +31,7 @@ pub struct Parts<S: Striped, J: Opening<S>> {
 }
 
 /// The parts that an operation touches, each kept for reading or for writing. Contracts see which they are.
-pub struct KeptParts<'a, S: Striped, J: Opening<S>> {
+pub struct KeptParts<'a, S: Striped, J: Opening<S, S::Value, S::Fixed>> {
     zero: (
         Option<RwLockReadGuard<'a, Mutex<Stripe<S, J, 0>>>>,
         Option<RwLockWriteGuard<'a, Mutex<Stripe<S, J, 0>>>>,
@@ -66,7 +66,7 @@ pub struct KeptParts<'a, S: Striped, J: Opening<S>> {
     ),
 }
 
-impl<'a, S: Striped, J: Opening<S>> Model for KeptParts<'a, S, J> {
+impl<'a, S: Striped, J: Opening<S, S::Value, S::Fixed>> Model for KeptParts<'a, S, J> {
     ghost use Rattle.shared_parts.specs.Eights.{Eights, either_kept};
 
     ghost Value = { Eights (Unit {0}) };
@@ -74,7 +74,7 @@ impl<'a, S: Striped, J: Opening<S>> Model for KeptParts<'a, S, J> {
     ghost view = { λ g. record { zero = either_kept g.zero.0 g.zero.1; one = either_kept g.one.0 g.one.1; two = either_kept g.two.0 g.two.1; three = either_kept g.three.0 g.three.1; four = either_kept g.four.0 g.four.1; five = either_kept g.five.0 g.five.1; six = either_kept g.six.0 g.six.1; seven = either_kept g.seven.0 g.seven.1 } };
 }
 
-impl<S: Striped, J: Opening<S>> Drop for KeptParts<'_, S, J> {
+impl<S: Striped, J: Opening<S, S::Value, S::Fixed>> Drop for KeptParts<'_, S, J> {
     fn drop(self) {
         let KeptParts {
             zero,
@@ -98,7 +98,7 @@ impl<S: Striped, J: Opening<S>> Drop for KeptParts<'_, S, J> {
 }
 
 /// Waits for a part, where an operation touches it: for reading where it writes no object of it, else for writing.
-fn wait_for<'a, S: Striped, J: Opening<S>, R: Wait, const I: u64>(
+fn wait_for<'a, S: Striped, J: Opening<S, S::Value, S::Fixed>, R: Wait, const I: u64>(
     rt: &R,
     lock: &'a RwLock<Mutex<Stripe<S, J, I>>>,
     touches: &Few<Touch>,
@@ -120,7 +120,7 @@ fn wait_for<'a, S: Striped, J: Opening<S>, R: Wait, const I: u64>(
 }
 
 /// Lends a part that is kept, while the journal's lock is held.
-fn lend<'g, S: Striped, J: Opening<S>, R: Wait, const I: u64>(
+fn lend<'g, S: Striped, J: Opening<S, S::Value, S::Fixed>, R: Wait, const I: u64>(
     rt: &R,
     read: &'g Option<RwLockReadGuard<'_, Mutex<Stripe<S, J, I>>>>,
     write: &'g Option<RwLockWriteGuard<'_, Mutex<Stripe<S, J, I>>>>,
@@ -134,7 +134,7 @@ fn lend<'g, S: Striped, J: Opening<S>, R: Wait, const I: u64>(
     }
 }
 
-impl<S: Striped, J: Opening<S>> Parts<S, J> {
+impl<S: Striped, J: Opening<S, S::Value, S::Fixed>> Parts<S, J> {
     /// Waits for the parts that an operation touches, each once, in rising order.
     pub(crate) fn keep<R: Wait>(&self, rt: &R, touches: &Few<Touch>) -> KeptParts<'_, S, J>
         ensures { Covers touches.now result }
@@ -152,7 +152,7 @@ impl<S: Striped, J: Opening<S>> Parts<S, J> {
     }
 }
 
-impl<'a, S: Striped, J: Opening<S>> KeptParts<'a, S, J> {
+impl<'a, S: Striped, J: Opening<S, S::Value, S::Fixed>> KeptParts<'a, S, J> {
     /// Lends the parts, while the journal's lock is held.
     pub(crate) fn lend<R: Wait>(&self, rt: &R, touches: &Few<Touch>) -> Lents<'_, S, J>
         requires { Covers touches.now self.now }
@@ -172,7 +172,7 @@ impl<'a, S: Striped, J: Opening<S>> KeptParts<'a, S, J> {
 }
 
 /// Takes a part out of its lock. It is what the journal leads to.
-fn take<S: Striped, J: Opening<S>, const I: u64>(
+fn take<S: Striped, J: Opening<S, S::Value, S::Fixed>, const I: u64>(
     lock: RwLock<Mutex<Stripe<S, J, I>>>,
     book: &mut Book<Lane<S, J, I>>,
     head: &Head<Call<S::Op, S::Reply>, J>,
@@ -188,7 +188,7 @@ fn take<S: Striped, J: Opening<S>, const I: u64>(
 }
 
 /// Takes all parts out of their locks. They are those of the space to which the journal leads.
-pub(crate) fn gather<S: Striped, J: Opening<S>>(
+pub(crate) fn gather<S: Striped, J: Opening<S, S::Value, S::Fixed>>(
     parts: Parts<S, J>,
     books: Books<S, J>,
     head: &Head<Call<S::Op, S::Reply>, J>,

@@ -18,13 +18,13 @@ use wasm_types::NoMemory;
 
 /// A space shared by threads, each of which has a seat: its parts, the journal of all calls, and what wakes those that rest.
 #[derive(Drop)]
-pub struct Shared<S: Striped, J: Opening<S>> {
+pub struct Shared<S: Striped, J: Opening<S, S::Value, S::Fixed>> {
     pub(crate) parts: Parts<S, J>,
     pub(crate) journal: Mutex<Journal<S, J>>,
     pub(crate) changed: Condvar,
 }
 
-impl<S: Striped, J: Opening<S>> Shared<S, J> {
+impl<S: Striped, J: Opening<S, S::Value, S::Fixed>> Shared<S, J> {
     /// Tries a call once. The locks of the touched parts are asked for in rising order, then the journal's, which is given
     /// back first. Seats that rest are woken where there are any.
     fn try_call<R: Wait, H: Hold>(

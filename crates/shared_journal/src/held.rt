@@ -24,7 +24,7 @@ use wasm_types::NoMemory;
 /// The versions of all objects and the journal. At run time the journal is the thread of each call, a byte each: what was
 /// asked and answered is known to proofs alone. Contracts see the list of its calls.
 #[derive(Drop)]
-pub struct Held<S: Striped, J: Opening<S>> {
+pub struct Held<S: Striped, J: Opening<S, S::Value, S::Fixed>> {
     pub versions: Versions,
     pub order: Vec<u8>,
     pub head: Head<Call<S::Op, S::Reply>, J>,
@@ -34,7 +34,7 @@ pub struct Held<S: Striped, J: Opening<S>> {
     pub rest: Share<Count<S, J>>,
 }
 
-impl<S: Striped, J: Opening<S>> Model for Held<S, J> {
+impl<S: Striped, J: Opening<S, S::Value, S::Fixed>> Model for Held<S, J> {
     ghost use Rattle.std.specs.Prelude.{◌≡◌, ◌≤◌, length, ℕ, List};
     ghost use Rattle.rw_objects.specs.Counts.{count_at};
     ghost use Rattle.shared_parts.specs.declared.call.Call.{Call};
@@ -92,7 +92,7 @@ fn is_same(one: &Entry, other: &Entry) -> bool
     *one == *other
 }
 
-impl<S: Striped, J: Opening<S>> Held<S, J> {
+impl<S: Striped, J: Opening<S, S::Value, S::Fixed>> Held<S, J> {
     /// How long the journal is, and that it is legal.
     pub fn length(&self) -> usize
         ensures length { result ≡ length self.now }

@@ -13,7 +13,7 @@ use striped_objects::Striped;
 /// A thread's own calls, with what shows that they stand in the journal. What they asked and were answered is known to
 /// proofs alone: at run time there are their entries, in the bytes by which pieces spell them.
 #[derive(Drop)]
-pub struct Seat<S: Striped, J: Opening<S>> {
+pub struct Seat<S: Striped, J: Opening<S, S::Value, S::Fixed>> {
     pub thread: u8,
     pub entries: PackedEntries,
     pub calls: Pile<Call<S::Op, S::Reply>>,
@@ -23,7 +23,7 @@ pub struct Seat<S: Striped, J: Opening<S>> {
     pub seen: Vec<S::Seen>,
 }
 
-impl<S: Striped, J: Opening<S>> Model for Seat<S, J> {
+impl<S: Striped, J: Opening<S, S::Value, S::Fixed>> Model for Seat<S, J> {
     ghost use Rattle.std.specs.Prelude.{◌≡◌, length};
     ghost use Rattle.shared_parts.specs.Calls.{Part, part_of, entries_in, IsWithin};
 
@@ -34,7 +34,7 @@ impl<S: Striped, J: Opening<S>> Model for Seat<S, J> {
     ghost invariant = { λ s. (s.share.parts ≡ 1) × (s.share.amount ≡ length s.calls) × (s.entries ≡ entries_in s.calls) × IsWithin s.calls (part_of s.thread s.told) };
 }
 
-impl<S: Striped, J: Opening<S>> Seat<S, J> {
+impl<S: Striped, J: Opening<S, S::Value, S::Fixed>> Seat<S, J> {
     /// Its thread.
     pub fn thread(&self) -> u32
         ensures { result ≡ self.now.thread }

@@ -22,7 +22,7 @@ use striped_objects::Striped;
 
 /// The books of all parts. Contracts see how often each part was written.
 #[derive(Drop)]
-pub struct Books<S: Striped, J: Opening<S>> {
+pub struct Books<S: Striped, J: Opening<S, S::Value, S::Fixed>> {
     pub zero: Book<Lane<S, J, 0>>,
     pub one: Book<Lane<S, J, 1>>,
     pub two: Book<Lane<S, J, 2>>,
@@ -33,7 +33,7 @@ pub struct Books<S: Striped, J: Opening<S>> {
     pub seven: Book<Lane<S, J, 7>>,
 }
 
-impl<S: Striped, J: Opening<S>> Model for Books<S, J> {
+impl<S: Striped, J: Opening<S, S::Value, S::Fixed>> Model for Books<S, J> {
     ghost use Rattle.shared_parts.specs.Eights.{Totals};
 
     ghost Value = { Totals };
@@ -42,7 +42,7 @@ impl<S: Striped, J: Opening<S>> Model for Books<S, J> {
 }
 
 /// What a part holds is what the journal leads to.
-fn meet<S: Striped, J: Opening<S>, const I: u64>(
+fn meet<S: Striped, J: Opening<S, S::Value, S::Fixed>, const I: u64>(
     lent: &mut Option<MutexGuard<'_, Stripe<S, J, I>>>,
     book: &mut Book<Lane<S, J, I>>,
     head: &Head<Call<S::Op, S::Reply>, J>,
@@ -60,7 +60,7 @@ fn meet<S: Striped, J: Opening<S>, const I: u64>(
 }
 
 /// Looks at an object that an operation touches, where it is of this part.
-fn look<S: Striped, J: Opening<S>, const I: u64>(
+fn look<S: Striped, J: Opening<S, S::Value, S::Fixed>, const I: u64>(
     lent: &Option<MutexGuard<'_, Stripe<S, J, I>>>,
     tail: &Tail<Call<S::Op, S::Reply>, J>,
     object: u32,
@@ -83,7 +83,7 @@ fn look<S: Striped, J: Opening<S>, const I: u64>(
 }
 
 /// Makes what a call that the journal has just got makes of a part. `before` knows the calls before it.
-fn advance<S: Striped, J: Opening<S>, const I: u64>(
+fn advance<S: Striped, J: Opening<S, S::Value, S::Fixed>, const I: u64>(
     lent: &mut Option<MutexGuard<'_, Stripe<S, J, I>>>,
     book: &mut Book<Lane<S, J, I>>,
     before: &Told<Call<S::Op, S::Reply>, J>,
@@ -109,7 +109,7 @@ fn advance<S: Striped, J: Opening<S>, const I: u64>(
 }
 
 /// The parts that an operation touches, while the journal is held. Contracts see what each holds.
-pub struct Lents<'a, S: Striped, J: Opening<S>> {
+pub struct Lents<'a, S: Striped, J: Opening<S, S::Value, S::Fixed>> {
     pub zero: Option<MutexGuard<'a, Stripe<S, J, 0>>>,
     pub one: Option<MutexGuard<'a, Stripe<S, J, 1>>>,
     pub two: Option<MutexGuard<'a, Stripe<S, J, 2>>>,
@@ -120,7 +120,7 @@ pub struct Lents<'a, S: Striped, J: Opening<S>> {
     pub seven: Option<MutexGuard<'a, Stripe<S, J, 7>>>,
 }
 
-impl<'a, S: Striped, J: Opening<S>> Model for Lents<'a, S, J> {
+impl<'a, S: Striped, J: Opening<S, S::Value, S::Fixed>> Model for Lents<'a, S, J> {
     ghost use Rattle.std.specs.Prelude.{option_map};
     ghost use Rattle.std.specs.Sync.Mutex.{mutex_guard_value};
     ghost use Rattle.shared_parts.specs.Eights.{Eights};
@@ -130,7 +130,7 @@ impl<'a, S: Striped, J: Opening<S>> Model for Lents<'a, S, J> {
     ghost view = { λ l. record { zero = option_map mutex_guard_value l.zero; one = option_map mutex_guard_value l.one; two = option_map mutex_guard_value l.two; three = option_map mutex_guard_value l.three; four = option_map mutex_guard_value l.four; five = option_map mutex_guard_value l.five; six = option_map mutex_guard_value l.six; seven = option_map mutex_guard_value l.seven } };
 }
 
-impl<'a, S: Striped, J: Opening<S>> Drop for Lents<'a, S, J> {
+impl<'a, S: Striped, J: Opening<S, S::Value, S::Fixed>> Drop for Lents<'a, S, J> {
     fn drop(self) {
         let Lents {
             zero,
@@ -153,7 +153,7 @@ impl<'a, S: Striped, J: Opening<S>> Drop for Lents<'a, S, J> {
     }
 }
 
-impl<S: Striped, J: Opening<S>> Lents<'_, S, J> {
+impl<S: Striped, J: Opening<S, S::Value, S::Fixed>> Lents<'_, S, J> {
     /// What the parts hold is what the journal leads to.
     pub fn meet(
         &mut self,

@@ -5,19 +5,20 @@ use rw_objects::ObjectSpace;
 use std::marker::PhantomData;
 use std::sync::ledger::Ledger;
 
-/// Names the opening space and the ledgers of one shared space. Each call of a program picks it.
-pub trait Opening<S: ObjectSpace>: Naming {
+/// Names the opening space and the ledgers of one shared space `S`, with values `V` and fixed numbers `F`. Each call of a program
+/// picks it. That the parameters have no bounds is what lets it be picked.
+pub trait Opening<S, V, F>: Naming {
     ghost use Rattle.shared_parts.specs.Named.{Named};
 
-    ghost named: { Named S.Value S.Fixed };
+    ghost named: { Named V F };
 }
 
 /// The ledger of the calls, with a part for each seat and one beside the journal.
-pub struct Count<S: ObjectSpace, J: Opening<S>> {
+pub struct Count<S: ObjectSpace, J: Opening<S, S::Value, S::Fixed>> {
     of: PhantomData<(S, J)>,
 }
 
-impl<S: ObjectSpace, J: Opening<S>> Ledger for Count<S, J> {
+impl<S: ObjectSpace, J: Opening<S, S::Value, S::Fixed>> Ledger for Count<S, J> {
     ghost use Rattle.std.specs.Prelude.{◌+◌};
 
     ghost name = { J.named.ledger };
@@ -26,11 +27,11 @@ impl<S: ObjectSpace, J: Opening<S>> Ledger for Count<S, J> {
 }
 
 /// The ledger of the writes of the part with this number.
-pub struct Lane<S: ObjectSpace, J: Opening<S>, const I: u64> {
+pub struct Lane<S: ObjectSpace, J: Opening<S, S::Value, S::Fixed>, const I: u64> {
     of: PhantomData<(S, J)>,
 }
 
-impl<S: ObjectSpace, J: Opening<S>, const I: u64> Ledger for Lane<S, J, I> {
+impl<S: ObjectSpace, J: Opening<S, S::Value, S::Fixed>, const I: u64> Ledger for Lane<S, J, I> {
     ghost use Rattle.std.specs.Prelude.{slice_index_or};
 
     ghost name = { slice_index_or J.named.lanes I 0 };

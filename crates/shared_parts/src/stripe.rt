@@ -19,13 +19,13 @@ use striped_objects::{Striped, change_lane};
 
 /// What one part of the space holds, with what shows that it is what the journal leads to.
 #[derive(Drop)]
-pub struct Stripe<S: Striped, J: Opening<S>, const I: u64> {
+pub struct Stripe<S: Striped, J: Opening<S, S::Value, S::Fixed>, const I: u64> {
     pub part: Box<S::Part>,
     pub share: Share<Lane<S, J, I>>,
     pub told: Told<Call<S::Op, S::Reply>, J>,
 }
 
-impl<S: Striped, J: Opening<S>, const I: u64> Model for Stripe<S, J, I> {
+impl<S: Striped, J: Opening<S, S::Value, S::Fixed>, const I: u64> Model for Stripe<S, J, I> {
     ghost use Rattle.std.specs.Prelude.{◌≡◌, ◌<◌};
     ghost use Rattle.striped_objects.specs.Parts.{IsPart};
     ghost use Rattle.shared_parts.specs.Calls.{memory_after_calls};
@@ -38,7 +38,7 @@ impl<S: Striped, J: Opening<S>, const I: u64> Model for Stripe<S, J, I> {
     ghost invariant = { λ s. (I < 8) × (s.share.parts ≡ 1) × (s.share.amount ≡ writes S.meaning.touches I s.told) × IsPart S.lane S.part_fixed S.held I J.named.memory.fixed (memory_after_calls S.meaning J.named.memory s.told).values s.part.value };
 }
 
-impl<S: Striped, J: Opening<S>, const I: u64> Stripe<S, J, I> {
+impl<S: Striped, J: Opening<S, S::Value, S::Fixed>, const I: u64> Stripe<S, J, I> {
     /// What it holds is what the journal leads to.
     pub fn meet(
         &mut self,

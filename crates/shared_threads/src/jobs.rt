@@ -17,13 +17,13 @@ use wasm_types::NoMemory;
 
 /// A seat, and what its thread has.
 #[derive(Drop)]
-pub(crate) struct Job<S: Striped, J: Opening<S>, T> {
+pub(crate) struct Job<S: Striped, J: Opening<S, S::Value, S::Fixed>, T> {
     pub(crate) seat: Seat<S, J>,
     pub(crate) state: T,
 }
 
 /// Each seat with what its thread has.
-pub(crate) fn pair<S: Striped, J: Opening<S>, T: Drop>(
+pub(crate) fn pair<S: Striped, J: Opening<S, S::Value, S::Fixed>, T: Drop>(
     alloc: Global,
     seats: Vec<Seat<S, J>>,
     states: Vec<T>,
@@ -44,7 +44,7 @@ pub(crate) fn pair<S: Striped, J: Opening<S>, T: Drop>(
 }
 
 /// The seats, and what their threads have.
-pub(crate) fn part<S: Striped, J: Opening<S>, T: Drop>(
+pub(crate) fn part<S: Striped, J: Opening<S, S::Value, S::Fixed>, T: Drop>(
     alloc: Global,
     jobs: Vec<Job<S, J, T>>,
 ) -> Result<(Vec<Seat<S, J>>, Vec<T>), NoMemory>
@@ -62,7 +62,7 @@ pub(crate) fn part<S: Striped, J: Opening<S>, T: Drop>(
 }
 
 /// The work of one thread, which then leaves.
-fn work_one<S: Striped, J: Opening<S>, T, W: Work<S, State = T>, R: Wait>(
+fn work_one<S: Striped, J: Opening<S, S::Value, S::Fixed>, T, W: Work<S, State = T>, R: Wait>(
     rt: &R,
     alloc: Global,
     shared: &Shared<S, J>,
@@ -82,7 +82,7 @@ fn work_one<S: Striped, J: Opening<S>, T, W: Work<S, State = T>, R: Wait>(
 /// The work of each thread.
 pub(crate) fn work_all<
     S: Striped + Send + Sync,
-    J: Opening<S> + Send + Sync,
+    J: Opening<S, S::Value, S::Fixed> + Send + Sync,
     T: Send + Drop,
     W: Work<S, State = T> + Sync,
     R: Threads + Wait + Sync,

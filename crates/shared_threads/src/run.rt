@@ -21,7 +21,7 @@ use wasm_types::NoMemory;
 /// each has then. Where no thread can be made the work is done one after the other.
 pub fn run_threads<
     S: Striped + Drop + Send + Sync,
-    J: Opening<S> + Send + Sync,
+    J: Opening<S, S::Value, S::Fixed> + Send + Sync,
     T: Send + Drop,
     W: Work<S, State = T> + Sync,
     R: Threads + Wait + Sync,

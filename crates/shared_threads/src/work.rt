@@ -24,7 +24,7 @@ pub trait Work<S: Striped> {
     /// The work of one thread, from what it has to what it then has. `begins` says with what it may begin over a space with
     /// these fixed numbers, `leads` to what the calls of the thread with a number lead. The seat is left for it, once it
     /// is done.
-    fn work<J: Opening<S>, R: Wait>(
+    fn work<J: Opening<S, S::Value, S::Fixed>, R: Wait>(
         &self,
         rt: &R,
         alloc: Global,

@@ -4,6 +4,7 @@
 mod change;
 mod decide;
 mod look;
+mod naming;
 mod part;
 mod space;
 mod split;

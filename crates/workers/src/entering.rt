@@ -19,7 +19,7 @@ use wasm_types::NoMemory;
 
 /// Tries to enter a call of a thread, and gives it the reply. Answers whether the call was entered. The memory that the thread may
 /// want is had before.
-pub(crate) fn enter<M: Machine<S>, S: Striped, J: Opening<S>, R: Wait, H: Hold>(
+pub(crate) fn enter<M: Machine<S>, S: Striped, J: Opening<S, S::Value, S::Fixed>, R: Wait, H: Hold>(
     rt: &R,
     alloc: Global,
     shared: &Shared<S, J>,

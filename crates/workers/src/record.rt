@@ -67,7 +67,7 @@ pub fn record_workers<
     S: Striped + Drop + Send + Sync,
     X,
     M: Machine<S, State = X> + Drop + Send + Sync,
-    J: Opening<S> + Send + Sync,
+    J: Opening<S, S::Value, S::Fixed> + Send + Sync,
     T: Timer + Sync,
     H: Hold + Sync,
     R: Threads + Wait + Sync,

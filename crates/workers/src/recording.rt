@@ -21,7 +21,14 @@ use wasm_types::NoMemory;
 
 /// Where the thread sleeps with a limit of time and the timer says that it is over, tries to go on by a time-out. Answers
 /// whether the thread went on.
-fn time_out<M: Machine<S>, S: Striped, J: Opening<S>, T: Timer, R: Wait, H: Hold>(
+fn time_out<
+    M: Machine<S>,
+    S: Striped,
+    J: Opening<S, S::Value, S::Fixed>,
+    T: Timer,
+    R: Wait,
+    H: Hold,
+>(
     rt: &R,
     alloc: Global,
     shared: &Shared<S, J>,
@@ -55,7 +62,7 @@ fn time_out<M: Machine<S>, S: Striped, J: Opening<S>, T: Timer, R: Wait, H: Hold
 }
 
 /// Sleeps until the thread goes on, since it was woken or by a time-out, or until no seat can go on. Answers whether it went on.
-fn sleep<M: Machine<S>, S: Striped, J: Opening<S>, T: Timer, R: Wait, H: Hold>(
+fn sleep<M: Machine<S>, S: Striped, J: Opening<S, S::Value, S::Fixed>, T: Timer, R: Wait, H: Hold>(
     rt: &R,
     alloc: Global,
     shared: &Shared<S, J>,
@@ -107,7 +114,7 @@ fn go_locally<M: Machine<S>, S: Striped>(machine: &mut M, most: u32) -> Result<(
 }
 
 /// One move of a thread: a run of local steps, an access, or a sleep. Answers whether the thread may go on.
-fn go_on<M: Machine<S>, S: Striped, J: Opening<S>, T: Timer, R: Wait, H: Hold>(
+fn go_on<M: Machine<S>, S: Striped, J: Opening<S, S::Value, S::Fixed>, T: Timer, R: Wait, H: Hold>(
     rt: &R,
     alloc: Global,
     shared: &Shared<S, J>,
@@ -141,7 +148,14 @@ fn go_on<M: Machine<S>, S: Striped, J: Opening<S>, T: Timer, R: Wait, H: Hold>(
 }
 
 /// Drives a thread until it ends, has made `steps` steps, sleeps while no seat can go on, or wants memory.
-pub(crate) fn record_thread<M: Machine<S>, S: Striped, J: Opening<S>, T: Timer, R: Wait, H: Hold>(
+pub(crate) fn record_thread<
+    M: Machine<S>,
+    S: Striped,
+    J: Opening<S, S::Value, S::Fixed>,
+    T: Timer,
+    R: Wait,
+    H: Hold,
+>(
     rt: &R,
     alloc: Global,
     shared: &Shared<S, J>,

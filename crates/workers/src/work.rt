@@ -30,7 +30,7 @@ impl<S: Striped, M: Machine<S> + Drop, T: Timer, H: Hold> Work<S> for Recording<
 
     ghost leads = { λ t w calls u. HasWorked M.code M.state (λ k s. T.can_expire k (M.nanos_of s)) t w calls u };
 
-    fn work<J: Opening<S>, R: Wait>(
+    fn work<J: Opening<S, S::Value, S::Fixed>, R: Wait>(
         &self,
         rt: &R,
         alloc: Global,

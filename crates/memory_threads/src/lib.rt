@@ -1,0 +1,6 @@
+//! Recording by threads over a shared memory.
+#![tactic(auto)]
+
+mod record;
+
+pub use record::record_memory;
