@@ -16,7 +16,7 @@ use crate::stacks::{Label, Stacks};
 use validator::Valid;
 use wasm_types::{BlockKind, NoMemory};
 
-/// Takes operands, enters the block, and goes on behind a place. A stack of 2^32 words has no room for blocks.
+/// Takes operands, enters the block, and goes on behind a place.
 fn enter(m: &mut Stacks, taken: usize, place: u32) -> Result<(), NoMemory>
     requires enough { taken ≤ length m.old.words.items }
     requires fits { place + 1 < 2 ^ 32 }
@@ -25,12 +25,9 @@ fn enter(m: &mut Stacks, taken: usize, place: u32) -> Result<(), NoMemory>
     ensures room { HasRoom 1 m.old → IsOk result }
 {
     let height = m.words.len() - taken;
-    if height > u32::MAX as usize {
-        return Err(NoMemory);
-    }
     m.labels.push(Label {
         opener: m.here.place,
-        height: height as u32,
+        height,
     })?;
     m.words.truncate(height);
     m.here.place = place + 1;

@@ -70,7 +70,7 @@ fn branch_to(m: &mut Stacks, valid: &Valid, depth: u32) -> bool
     let at = m.labels.len() - 1 - depth as usize;
     let label = m.labels[at];
     let landing = landing_at(valid, m.here.function, label.opener);
-    cut(&mut m.words, label.height as usize, landing.keep);
+    cut(&mut m.words, label.height, landing.keep);
     m.labels.truncate(at + landing.labels);
     m.here.place = landing.place;
     true

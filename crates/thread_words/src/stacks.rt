@@ -12,8 +12,8 @@ use wasm_types::{Extent, NoMemory, Outcome};
 pub struct Label {
     /// The place of the instruction that opened it, numbered from 0 in its function.
     pub opener: u32,
-    /// How many words there were below its operands, counted from word 0 of the thread: fewer than 2^32.
-    pub height: u32,
+    /// How many words there were below its operands, counted from word 0 of the thread.
+    pub height: usize,
 }
 
 /// Where a function stands.

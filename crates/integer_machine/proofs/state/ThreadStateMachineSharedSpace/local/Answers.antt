@@ -9,5 +9,5 @@ no h = cc
 pub returns-in_err-local_of-clause-room : goal.returns-in_err-local_of-clause-room
 returns-in_err-local_of-clause-room c = λ h.
     let room = room_left c.args.self.now c.self.inside.most_locals c.self.inside.stacks (ap (λ (t : ThreadWithRoom). t.most_locals) (sym c.self.view_is)) (ap (λ (t : ThreadWithRoom). t.words_left) (sym c.self.view_is))
-    (ap (λ (t : ThreadWithRoom). t.labels_left) (sym c.self.view_is)) (ap (λ (t : ThreadWithRoom). t.callers_left) (sym c.self.view_is)) (ap (λ (t : ThreadWithRoom). t.heights_left) (sym c.self.view_is)) h in
+    (ap (λ (t : ThreadWithRoom). t.labels_left) (sym c.self.view_is)) (ap (λ (t : ThreadWithRoom). t.callers_left) (sym c.self.view_is)) h in
     absurd (no (c.in_err-local_of.ensures.room c.self.inside.most_locals c.self.invariant.1 room))
