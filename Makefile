@@ -31,6 +31,7 @@ bench: $(PROGRAM) $(BENCH)
 	python3 bench/record.py $(PROGRAM) $(BENCH)
 	python3 bench/view.py $(PROGRAM) $(BENCH)
 	python3 bench/long_log.py $(PROGRAM)
+	python3 bench/recordings.py $(PROGRAM)
 
 # Refuses each growth of the program in turn, on recordings, replays and listings of the worked rows.
 growths: $(PROGRAM)

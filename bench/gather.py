@@ -3,11 +3,15 @@
 
 usage: gather.py PATH_OF_WREPLAY [MB..]
 
-For each size it writes the log of one made-up run of 16 threads as piece lines, in a temporary folder: pieces of 4,096
+First it measures piece lines of several sizes, then entries of one read each, then 1,000,000 pieces of one entry each in
+four orders. For each size it writes the log of one made-up run of 16 threads as piece lines, in a temporary folder: pieces of 4,096
 entries, each entry with one or two touches, an end on each thread's last piece, the lines in an order drawn from a fixed
 seed, a tenth of them repeated. MB are 1,000,000 bytes of that text. Then it times, best of three each, how long `gather`
 and the peer take from that file to /dev/null, and prints a line of the table. It ends with status 1 where `gather`
 failed, or its listing does not end in the counts that the log has.
+
+Entries of one read are lines of the same kind, of 30 MB. Pieces of one entry come in the order of their places, in the
+reverse order, in an order drawn from a fixed seed, and with every second place first.
 """
 
 import os
@@ -24,12 +28,15 @@ PIECE_ENTRIES = 4096
 OBJECTS = 32769
 RUNS = 3
 SEED = 20
+SINGLES = 1_000_000
 COUNTS = b"ends 16 missing 0 strays 0 clashes 0\n"
+NO_ENDS = b"ends 0 missing 0 strays 0 clashes 0\n"
 HEAD = b"IRP\x01" + b"\xaa" * 32 + struct.pack("<Q", 1)
 READ = struct.Struct("<IBQ")
 WRITE = struct.Struct("<IBQQ")
 # What an entry has on average: kind, count, and one and a half touches, half of them writes. Two digits a byte.
 ENTRY_DIGITS = 2 * (2 + 1.5 * (READ.size + WRITE.size) / 2)
+READ_DIGITS = 2 * (2 + READ.size)
 
 
 def touch(draw, versions, reads, block):
@@ -63,9 +70,17 @@ def thread_lines(thread, entries):
     return lines
 
 
-def thread_entries(size):
+def thread_entries(size, digits=ENTRY_DIGITS):
     """How many entries each thread has where all lines have some `size` bytes."""
-    return max(1, round(size / 1.1 / ENTRY_DIGITS / THREADS))
+    return max(1, round(size / 1.1 / digits / THREADS))
+
+
+def shuffled(draw, logs):
+    """The lines of the threads' pieces, a tenth of them repeated, in an order that is drawn."""
+    lines = [line for thread, log in enumerate(logs) for line in thread_lines(thread, log)]
+    lines += draw.sample(lines, max(1, len(lines) // 10))
+    draw.shuffle(lines)
+    return lines
 
 
 def run_lines(size):
@@ -77,10 +92,42 @@ def run_lines(size):
     for _ in range(thread_entries(size)):
         for log in logs:
             log.append(entry(draw, versions, reads))
-    lines = [line for thread, log in enumerate(logs) for line in thread_lines(thread, log)]
-    lines += draw.sample(lines, max(1, len(lines) // 10))
-    draw.shuffle(lines)
-    return lines
+    return shuffled(draw, logs)
+
+
+def read_lines(size):
+    """The lines of a run whose entries are one read each, some `size` bytes in all."""
+    draw = random.Random(SEED)
+    count = thread_entries(size, READ_DIGITS)
+    logs = [
+        [b"\x00\x01" + READ.pack(draw.randrange(OBJECTS), 0, draw.randrange(100_000)) for _ in range(count)]
+        for _ in range(THREADS)
+    ]
+    return shuffled(draw, logs)
+
+
+def single_lines(order):
+    """A line for each place of one thread, in an order of them."""
+    return [
+        (HEAD + struct.pack("<BIHB", 0, place, 1, 0) + b"\x00\x01" + READ.pack(place % 1000, 0, place)).hex().encode() + b"\n"
+        for place in order
+    ]
+
+
+def drawn_order():
+    """The places in an order that is drawn."""
+    places = list(range(SINGLES))
+    random.Random(SEED).shuffle(places)
+    return places
+
+
+# The orders in which pieces of one entry come: each is made in the process that writes the lines.
+ORDERS = {
+    "in order": lambda: range(SINGLES),
+    "reversed": lambda: reversed(range(SINGLES)),
+    "shuffled": drawn_order,
+    "every second place first": lambda: [*range(0, SINGLES, 2), *range(1, SINGLES, 2)],
+}
 
 
 def timed(command, source, sink):
@@ -112,26 +159,26 @@ def peer():
     return "python3 bytes.fromhex (no xxd here)", [sys.executable, "-c", decode]
 
 
-def check(command, source, listing):
-    """Leaves where the listing of a file does not end in the counts of a whole log."""
+def check(command, source, listing, counts=COUNTS):
+    """Leaves where the listing of a file does not end in these counts."""
     _, _, status = timed(command, source, listing)
     with open(listing, "rb") as file:
         file.seek(-min(os.path.getsize(listing), 200), os.SEEK_END)
         last = file.read().splitlines(keepends=True)[-1:]
     os.remove(listing)
-    if status != 0 or last != [COUNTS]:
+    if status != 0 or last != [counts]:
         sys.exit(f"gather: exit status {status}, the listing ends in {last}")
 
 
-def write_run(path, size):
-    """Writes the lines of a run of some size to a file. A process of its own does so: the memory that a process is
+def write_lines(path, lines):
+    """Writes the lines that a function makes to a file. A process of its own does so: the memory that a process is
     said to have had counts what its parent had when it started."""
     child = os.fork()
     if child == 0:
         status = 1
         try:
             with open(path, "wb") as file:
-                file.writelines(run_lines(size))
+                file.writelines(lines())
             status = 0
         finally:
             os._exit(status)
@@ -143,7 +190,7 @@ def write_run(path, size):
 def measure(gather, other, size, folder):
     """Measures one size and prints its line of the table."""
     source = os.path.join(folder, "pieces")
-    write_run(source, size)
+    write_lines(source, lambda: run_lines(size))
     text = os.path.getsize(source)
     decoded = text // 2
     check(gather, source, os.path.join(folder, "listing"))
@@ -154,6 +201,35 @@ def measure(gather, other, size, folder):
         f"| {other_seconds / seconds:.2f} | {memory / 1e6:.0f} | {memory / decoded:.1f} | {seconds / (text / 1e6):.4f} |",
         flush=True,
     )
+
+
+def measure_reads(gather, other, folder):
+    """Measures entries of one read each and prints their line."""
+    source = os.path.join(folder, "pieces")
+    size = 30_000_000
+    write_lines(source, lambda: read_lines(size))
+    check(gather, source, os.path.join(folder, "listing"))
+    other_seconds, _ = best(other, source)
+    seconds, memory = best(gather, source)
+    decoded = os.path.getsize(source) / 2
+    print(
+        f"\nentries of one read, {os.path.getsize(source) / 1e6:.1f} MB: peer {other_seconds:.3f} s, gather {seconds:.3f} s, "
+        f"{other_seconds / seconds:.2f} of the peer's speed, peak {memory / decoded:.1f} times the decoded bytes",
+        flush=True,
+    )
+
+
+def measure_singles(gather, folder):
+    """Measures pieces of one entry each, in four orders, and prints a table."""
+    print("\n| 1,000,000 pieces of one entry | gather s | ratio to in order | peak MB |\n|---|---:|---:|---:|")
+    source = os.path.join(folder, "pieces")
+    in_order = None
+    for name, order in ORDERS.items():
+        write_lines(source, lambda order=order: single_lines(order()))
+        check(gather, source, os.path.join(folder, "listing"), NO_ENDS)
+        seconds, memory = best(gather, source)
+        in_order = in_order or seconds
+        print(f"| {name} | {seconds:.3f} | {seconds / in_order:.2f} | {memory / 1e6:.0f} |", flush=True)
 
 
 def main(words):
@@ -168,6 +244,8 @@ def main(words):
     with tempfile.TemporaryDirectory() as folder:
         for size in sizes:
             measure(gather, other, round(size * 1e6), folder)
+        measure_reads(gather, other, folder)
+        measure_singles(gather, folder)
 
 
 if __name__ == "__main__":

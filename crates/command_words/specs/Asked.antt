@@ -8,6 +8,8 @@ use Rattle.command_words.specs.Words.{number_up_to, order_in, pair_in}
 use Rattle.command_words.specs.Commands.{program}
 use Rattle.command_words.specs.declared.requests.Request.{Request}
 use Rattle.command_words.specs.declared.requests.Request.TheVariants.{Gather, Check, Record, Replay, View}
+use Rattle.command_words.specs.declared.requests.RecordOrder.{RecordOrder}
+use Rattle.command_words.specs.declared.requests.RecordOrder.TheVariants as order
 use Rattle.command_words.specs.declared.requests.RecordRequest.{RecordRequest}
 use Rattle.command_words.specs.declared.requests.ReplayRequest.{ReplayRequest}
 use Rattle.command_words.specs.declared.requests.ThreadCount.{ThreadCount}
@@ -39,11 +41,17 @@ is_text expected (Some text) = bytes_eq text expected
 abbrev pub IsBlockOf : Option ℕ → ℕ → Type 0
 IsBlockOf size power = (size ≡ Some (2 ^ power)) × (6 ≤ power) × (power ≤ 12)
 
+-- the values that a parser found say that threads go on so: by a schedule, or at once, and not both
+abbrev pub IsOrderAsked : List Row → RecordOrder → Type 0
+IsOrderAsked rows (order.Schedule path) = (first_of (codes "schedule") rows ≡ Some path.now) × (is_text (codes "true") (first_of (codes "threads") rows) ≡ false)
+IsOrderAsked rows (order.Threads times_out) = (first_of (codes "schedule") rows ≡ None) × (is_text (codes "true") (first_of (codes "threads") rows) ≡ true)
+    × (times_out ≡ is_text (codes "now") (first_of (codes "timeouts") rows))
+
 -- the values that a parser found ask for this recording
 pub record IsRecordAsked (rows : List Row) (r : RecordRequest) : Type 0 where
   pub has_module : first_of (codes "MODULE") rows ≡ Some r.«module».now
   pub has_plan : first_of (codes "PLAN") rows ≡ Some r.plan.now
-  pub has_schedule : first_of (codes "schedule") rows ≡ Some r.schedule.now
+  pub has_order : IsOrderAsked rows r.order
   pub has_run : number_of 18446744073709551615 (first_of (codes "run") rows) ≡ Some r.run
   pub has_steps : number_of MOST_STEPS (first_of (codes "steps") rows) ≡ Some r.steps
   pub has_size : number_of 4294967295 (first_of (codes "size") rows) ≡ Some r.size
@@ -73,10 +81,12 @@ pub record IsViewAsked (rows : List Row) (v : ViewRequest) : Type 0 where
   pub has_write : IsRangeAsked (first_of (codes "write") rows) v.write
   pub has_from : number_of 4294967295 (first_of (codes "from") rows) ≡ Some v.range.from
   pub has_len : number_of 4294967295 (first_of (codes "len") rows) ≡ Some v.range.len
+  pub has_names : v.names ≡ is_text (codes "true") (first_of (codes "names") rows)
 
 -- a command and its values ask for this
 abbrev pub IsAsked : Text → List Row → Request → Type 0
-IsAsked name rows (Gather skips) = (name ≡ codes "gather") × (skips ≡ is_text (codes "true") (first_of (codes "skip") rows))
+IsAsked name rows (Gather skips objects) = (name ≡ codes "gather") × (skips ≡ is_text (codes "true") (first_of (codes "skip") rows))
+    × (objects ≡ is_text (codes "true") (first_of (codes "objects") rows))
 IsAsked name rows (Check path) = (name ≡ codes "check") × (first_of (codes "MODULE") rows ≡ Some path.now)
 IsAsked name rows (Record r) = (name ≡ codes "record") × IsRecordAsked rows r
 IsAsked name rows (Replay r) = (name ≡ codes "replay") × IsReplayAsked rows r

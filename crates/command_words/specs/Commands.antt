@@ -20,7 +20,7 @@ abbrev pub flag_rule : Text → Rule
 flag_rule name = record (new_rule name) { long = Some name; action = Some SetTrue }
 
 abbrev pub gather : App
-gather = with_rule (new_app (codes "gather")) (flag_rule (codes "skip"))
+gather = with_rule (with_rule (new_app (codes "gather")) (flag_rule (codes "skip"))) (flag_rule (codes "objects"))
 
 abbrev pub check : App
 check = with_rule (new_app (codes "check")) (file_rule (codes "MODULE"))
@@ -33,9 +33,12 @@ abbrev pub with_numbers : App → App
 with_numbers a = with_rule (with_rule (with_rule (with_rule a (default_rule (codes "run") (codes "0"))) (default_rule (codes "steps") (codes "1000000")))
     (default_rule (codes "size") (codes "4096"))) (default_rule (codes "block") (codes "64"))
 
+-- how the threads of a recording go on
+abbrev pub with_orders : App → App
+with_orders a = with_rule (with_rule (with_rule a (option_rule (codes "schedule"))) (flag_rule (codes "threads"))) (default_rule (codes "timeouts") (codes "never"))
+
 abbrev pub recording : App
-recording = with_rule (with_rule (with_numbers (with_rule (on_program (new_app (codes "record"))) (record (option_rule (codes "schedule")) { required = true })))
-    (default_rule (codes "timeouts") (codes "never"))) (flag_rule (codes "report"))
+recording = with_rule (with_numbers (with_orders (on_program (new_app (codes "record"))))) (flag_rule (codes "report"))
 
 -- a replay's files, and its order
 abbrev pub on_pieces : App → App
@@ -47,8 +50,12 @@ replaying = on_pieces (new_app (codes "replay"))
 abbrev pub with_breaks : App → App
 with_breaks a = with_rule (with_rule (with_rule a (option_rule (codes "place"))) (option_rule (codes "step"))) (option_rule (codes "write"))
 
+-- which bytes are shown, and whether functions are
+abbrev pub with_range : App → App
+with_range a = with_rule (with_rule (with_rule a (default_rule (codes "from") (codes "0"))) (default_rule (codes "len") (codes "64"))) (flag_rule (codes "names"))
+
 abbrev pub viewing : App
-viewing = with_rule (with_rule (with_breaks (on_pieces (new_app (codes "view")))) (default_rule (codes "from") (codes "0"))) (default_rule (codes "len") (codes "64"))
+viewing = with_range (with_breaks (on_pieces (new_app (codes "view"))))
 
 -- the program before its commands, one of which is required
 abbrev pub above : App

@@ -3,7 +3,7 @@
 ghost use Rattle.std.specs.Prelude.{◌≡◌, map, IfOk, codes, true, false};
 ghost use Rattle.clap.specs.Words.{app_of, rule_of, shape_of, new_app, with_rule, with_subcommand};
 ghost use Rattle.clap.specs.declared.builder.command.Command.TheViews.{out-Command};
-ghost use Rattle.command_words.specs.Commands.{program, gather, check, recording, replaying, viewing, on_program, on_pieces, with_breaks, with_numbers, file_rule, option_rule, default_rule, flag_rule};
+ghost use Rattle.command_words.specs.Commands.{program, gather, check, recording, replaying, viewing, on_program, on_pieces, with_breaks, with_range, with_orders, with_numbers, file_rule, option_rule, default_rule, flag_rule};
 ghost use Rattle.command_words.specs.Asked.{IsRequested, IsFound};
 ghost use Rattle.clap.specs.Words.{subcommand_rows_of};
 
@@ -159,17 +159,32 @@ fn bare_record<'a>(alloc: Global) -> Command<'a>
     ensures local { (out-Command result).has_globals ≡ false }
 {
     Command::new(alloc, "record")
-        .about("Run threads by a schedule, and write what the run came to")
+        .about("Run threads by a schedule or at once, and write the pieces of the log")
         .long_about(help::RECORD_ABOUT)
         .after_help(help::RECORD_REFUSALS)
 }
 
-/// The file of the schedule, which has to be named.
-fn schedule_option<'a>(alloc: Global) -> Arg<'a>
-    ensures rule { rule_of result ≡ record (option_rule (codes "schedule")) { required = true } }
-    ensures local { result.global ≡ false }
+/// A command with how the threads of a recording go on.
+fn with_orders<'a>(alloc: Global, command: Command<'a>) -> Result<Command<'a>, AllocError>
+    ensures app { IfOk result (λ c. app_of c ≡ with_orders (app_of command.entry)) }
+    ensures local { IfOk result (λ c. (out-Command c).has_globals ≡ (out-Command command.entry).has_globals) }
 {
-    option(alloc, "schedule", "FILE", "The file of the schedule").required(true)
+    let schedule = option(
+        alloc,
+        "schedule",
+        "FILE",
+        "Run the threads by the schedule in FILE",
+    );
+    let threads = flag(
+        alloc,
+        "threads",
+        "Run the threads at once, as the system lets them",
+    );
+    let timeouts = "With --threads: when waits time out, never or now";
+    let timeouts = default_option(alloc, "timeouts", "WHEN", "never", timeouts);
+    let command = with_argument(command, schedule)?;
+    let command = with_argument(command, threads)?;
+    with_argument(command, timeouts)
 }
 
 /// The command `record`.
@@ -177,13 +192,10 @@ fn record_command<'a>(alloc: Global) -> Result<Command<'a>, AllocError>
     ensures app { IfOk result (λ c. app_of c ≡ recording) }
     ensures local { IfOk result (λ c. (out-Command c).has_globals ≡ false) }
 {
-    let timeouts = "When waits time out, never or now; no effect with --schedule";
-    let timeouts = default_option(alloc, "timeouts", "WHEN", "never", timeouts);
     let report = flag(alloc, "report", "Write what the run came to");
     let command = on_program(alloc, bare_record(alloc))?;
-    let command = with_argument(command, schedule_option(alloc))?;
+    let command = with_orders(alloc, command)?;
     let command = with_numbers(alloc, command)?;
-    let command = with_argument(command, timeouts)?;
     with_argument(command, report)
 }
 
@@ -237,17 +249,27 @@ fn bare_view<'a>(alloc: Global) -> Command<'a>
         .after_help(help::VIEW_REFUSALS)
 }
 
+/// A command with what a view shows.
+fn with_range<'a>(alloc: Global, command: Command<'a>) -> Result<Command<'a>, AllocError>
+    ensures app { IfOk result (λ c. app_of c ≡ with_range (app_of command.entry)) }
+    ensures local { IfOk result (λ c. (out-Command c).has_globals ≡ (out-Command command.entry).has_globals) }
+{
+    let from = default_option(alloc, "from", "N", "0", "The first byte that is shown");
+    let len = default_option(alloc, "len", "N", "64", "How many bytes are shown");
+    let names = flag(alloc, "names", "Say in which functions each thread stands");
+    let command = with_argument(command, from)?;
+    let command = with_argument(command, len)?;
+    with_argument(command, names)
+}
+
 /// The command `view`.
 fn view_command<'a>(alloc: Global) -> Result<Command<'a>, AllocError>
     ensures app { IfOk result (λ c. app_of c ≡ viewing) }
     ensures local { IfOk result (λ c. (out-Command c).has_globals ≡ false) }
 {
-    let from = default_option(alloc, "from", "N", "0", "The first byte that is shown");
-    let len = default_option(alloc, "len", "N", "64", "How many bytes are shown");
     let command = on_pieces(alloc, bare_view(alloc))?;
     let command = with_breaks(alloc, command)?;
-    let command = with_argument(command, from)?;
-    with_argument(command, len)
+    with_range(alloc, command)
 }
 
 /// The command `gather`.
@@ -260,7 +282,9 @@ fn gather_command<'a>(alloc: Global) -> Result<Command<'a>, AllocError>
         .long_about(help::GATHER_ABOUT)
         .after_help(help::GATHER_REFUSALS);
     let skip = "Pass over lines that cannot be joined, and count them";
-    with_argument(command, flag(alloc, "skip", skip))
+    let objects = "Say behind each entry which bytes its objects are";
+    let command = with_argument(command, flag(alloc, "skip", skip))?;
+    with_argument(command, flag(alloc, "objects", objects))
 }
 
 /// The command lines that there are.

@@ -49,6 +49,11 @@ missing  places below a known end that no piece claims
 strays   items at or past a known end
 clashes  items and ends that two pieces claim differently
 
+With --objects each access says behind its objects what they are: the bytes of
+a block, the waiters of a block, or the length of the memory, as in
+
+  0.0 access w1@0/0; 1: bytes 0..63
+
 A whole log has as many ends as the run has threads, and 0 in the other counts.";
 
 /// How `gather` refuses.
@@ -104,10 +109,10 @@ Example:
 
 /// What `record` reads and writes.
 pub(crate) const RECORD_ABOUT: &str = "\
-Runs the threads of a plan by a schedule, and writes the log of that run as
-lines of pieces, which `wreplay gather` lists and `wreplay replay` replays. With
---report it writes what the run came to: the pages of memory, each 16 bytes that
-are not all zero, and how each thread ended.
+Runs the threads of a plan, by a schedule or at once, and writes the log of that
+run as lines of pieces, which `wreplay gather` lists and `wreplay replay`
+replays. With --report it writes what the run came to: the pages of memory, each
+16 bytes that are not all zero, and how each thread ended.
 
 MODULE is a WebAssembly module, as `wreplay check` takes it. PLAN says which
 exported functions run as threads, numbered from 0, with their arguments:
@@ -122,7 +127,12 @@ The schedule says in which order the threads go on:
   out 1     the wait of thread 1 times out
 
 A step that its thread cannot make is passed over: the thread is done, or sleeps
-and was not woken, or made as many steps as --steps lets it.";
+and was not woken, or made as many steps as --steps lets it.
+
+With --threads each thread of the plan is a thread of the system, and they run at
+once: each run may come out otherwise, and each can be replayed. Whatever can
+still go on when they have ended goes on. `--timeouts now` lets each wait that
+has a time-out time out at once.";
 
 /// How `record` refuses.
 pub(crate) const RECORD_REFUSALS: &str = "\
@@ -143,7 +153,8 @@ Refusals (exit status 1), the first of them in this order:
 
 Example:
   wreplay record examples/lost.wasm examples/lost.plan \\
-      --schedule examples/lost.schedule > pieces.txt";
+      --schedule examples/lost.schedule > pieces.txt
+  wreplay record examples/lost.wasm examples/lost.plan --threads > pieces.txt";
 
 /// What `replay` reads and writes.
 pub(crate) const REPLAY_ABOUT: &str = "\
@@ -190,7 +201,13 @@ reads of each block of 64 bytes or more that is shown, and its bytes.
 
 Breaks are tested behind each step, in the order place, step, write. Without a
 break, or where none holds, the view is of the replay's end, or of where no
-thread can go on: entries that are missing or clash are passed over.";
+thread can go on: entries that are missing or clash are passed over.
+
+With --names the line of a thread ends with where it stands: the function by its
+name in the module's name section, or by its number, `+`, and the instruction,
+numbered from 0; then its callers, as in
+
+  thread 0 steps 5 places 1 running at bump+5 from main+3";
 
 /// How `view` refuses.
 pub(crate) const VIEW_REFUSALS: &str = "\

@@ -8,4 +8,6 @@ mod requests;
 mod wanted;
 
 pub use command::{Asked, requested};
-pub use requests::{ByteRange, RecordRequest, ReplayRequest, Request, ThreadCount, ViewRequest};
+pub use requests::{
+    ByteRange, RecordOrder, RecordRequest, ReplayRequest, Request, ThreadCount, ViewRequest,
+};

@@ -2,12 +2,21 @@
 
 use wasm_types::Block;
 
-/// A recording: the files of the module, the plan and the schedule, and how it is made and written.
+/// How the threads of a recording go on.
+#[derive(Clone, Copy)]
+pub enum RecordOrder<'a> {
+    /// By the schedule in the file at this path.
+    Schedule(&'a str),
+    /// At once, as threads of the system; waits that have a time-out time out at once, or never.
+    Threads { times_out: bool },
+}
+
+/// A recording: the files of the module and the plan, how the threads go on, and how it is made and written.
 #[derive(Drop)]
 pub struct RecordRequest<'a> {
     pub module: &'a str,
     pub plan: &'a str,
-    pub schedule: &'a str,
+    pub order: RecordOrder<'a>,
     /// The number of the run.
     pub run: u64,
     /// The most steps that a thread makes.
@@ -54,13 +63,16 @@ pub struct ViewRequest<'a> {
     pub write: Option<ByteRange>,
     /// The bytes that are shown.
     pub range: ByteRange,
+    /// Whether the view says in which functions each thread stands.
+    pub names: bool,
 }
 
 /// What a command line asks for.
 #[derive(Drop)]
 pub enum Request<'a> {
-    /// The listing of piece lines, and whether those that cannot be joined are passed over.
-    Gather { skips: bool },
+    /// The listing of piece lines, whether those that cannot be joined are passed over, and whether it says which bytes each
+    /// object is.
+    Gather { skips: bool, objects: bool },
     /// The summary of the module in the file at this path.
     Check(&'a str),
     /// The pieces or the report of a recording.

@@ -3,8 +3,9 @@
 ghost use Rattle.std.specs.Prelude.{◌≡◌, ℕ, Option, codes, Some, None, IfOk, OnErr, IfSome, IfNone, option_map};
 ghost use Rattle.clap.specs.Words.{Row, rows_of, first_of};
 ghost use Rattle.clap.specs.Matches.{found_of};
-ghost use Rattle.command_words.specs.Asked.{IsAsked, IsRecordAsked, IsReplayAsked, IsViewAsked, IsCountAsked, IsRangeAsked, IsBlockOf, order_of, is_text, number_of, pair_of_option};
+ghost use Rattle.command_words.specs.Asked.{IsAsked, IsOrderAsked, IsRecordAsked, IsReplayAsked, IsViewAsked, IsCountAsked, IsRangeAsked, IsBlockOf, order_of, is_text, number_of, pair_of_option};
 ghost use Rattle.command_words.specs.declared.requests.Request.{Request};
+ghost use Rattle.command_words.specs.declared.requests.RecordOrder.{RecordOrder};
 ghost use Rattle.command_words.specs.declared.requests.RecordRequest.{RecordRequest};
 ghost use Rattle.command_words.specs.declared.requests.ReplayRequest.{ReplayRequest};
 ghost use Rattle.command_words.specs.declared.requests.ThreadCount.{ThreadCount};
@@ -12,13 +13,18 @@ ghost use Rattle.command_words.specs.declared.requests.ByteRange.{ByteRange};
 ghost use Rattle.command_words.specs.declared.requests.ViewRequest.{ViewRequest};
 
 use crate::numbers::{number_up_to, order_in, pair_in, small_number_up_to};
-use crate::requests::{ByteRange, RecordRequest, ReplayRequest, Request, ThreadCount, ViewRequest};
+use crate::requests::{
+    ByteRange, RecordOrder, RecordRequest, ReplayRequest, Request, ThreadCount, ViewRequest,
+};
 use clap::ArgMatches;
 use std::alloc::Global;
 use wasm_types::{Block, MOST_STEPS, NoMemory};
 
 /// What is said where a value is missing, which clap does not let pass.
 const MISSING: &str = "error: a value is missing\n";
+
+/// What is said where it is not clear how the threads of a recording go on.
+const BAD_RECORD_ORDER: &str = "error: 'record' takes either '--schedule <FILE>' or '--threads'\n";
 
 /// What is said of a number that is none.
 const BAD_RUN: &str = "error: '--run <N>' takes a number from 0 to 18446744073709551615\n";
@@ -94,6 +100,20 @@ fn has_text(matches: &ArgMatches<'_>, id: &str, text: &str) -> bool
     }
 }
 
+/// How the threads of a recording go on, as the values of `record` say; None where they say it twice, or not at all.
+fn record_order<'a>(matches: &ArgMatches<'a>) -> Option<RecordOrder<'a>>
+    ensures asked { IfSome result (IsOrderAsked (rows_of (found_of matches.now))) }
+    ensures none { IfNone result ((order : RecordOrder) → IsOrderAsked (rows_of (found_of matches.now)) order → ⊥) }
+{
+    let threads = has_text(matches, "threads", "true");
+    let times_out = has_text(matches, "timeouts", "now");
+    match value(matches, "schedule") {
+        Some(path) if !threads => Some(RecordOrder::Schedule(path)),
+        None if threads => Some(RecordOrder::Threads { times_out }),
+        _ => None,
+    }
+}
+
 /// The recording that the values of `record` ask for.
 fn recording_of<'a>(matches: &ArgMatches<'a>) -> Wanted<RecordRequest<'a>>
     ensures asked { IfOk result (IsRecordAsked (rows_of (found_of matches.now))) }
@@ -101,7 +121,7 @@ fn recording_of<'a>(matches: &ArgMatches<'a>) -> Wanted<RecordRequest<'a>>
 {
     let module = value(matches, "MODULE").ok_or(MISSING)?;
     let plan = value(matches, "PLAN").ok_or(MISSING)?;
-    let schedule = value(matches, "schedule").ok_or(MISSING)?;
+    let order = record_order(matches).ok_or(BAD_RECORD_ORDER)?;
     let run = number(matches, "run", u64::MAX).ok_or(BAD_RUN)?;
     let steps = small_number(matches, "steps", MOST_STEPS).ok_or(BAD_STEPS)?;
     let size = small_number(matches, "size", u32::MAX).ok_or(BAD_SIZE)?;
@@ -113,7 +133,7 @@ fn recording_of<'a>(matches: &ArgMatches<'a>) -> Wanted<RecordRequest<'a>>
     Ok(RecordRequest {
         module,
         plan,
-        schedule,
+        order,
         run,
         steps,
         size,
@@ -208,6 +228,7 @@ fn view_of<'a>(
         step,
         write,
         range,
+        names: has_text(matches, "names", "true"),
     })
 }
 
@@ -223,6 +244,7 @@ pub(crate) fn request_of<'a>(
     match name {
         "gather" => Ok(Ok(Request::Gather {
             skips: has_text(matches, "skip", "true"),
+            objects: has_text(matches, "objects", "true"),
         })),
         "check" => match value(matches, "MODULE") {
             Some(path) => Ok(Ok(Request::Check(path))),

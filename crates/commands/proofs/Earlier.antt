@@ -1,5 +1,5 @@
 -- What a file may hold and whether it may fail, after other files were read, may have been so before.
-use Rattle.std.proofs.Common.{ℕ, List}
+use Rattle.std.proofs.Common.{ℕ, List, ◌⊎◌, inl, inr}
 use Rattle.wasm_types.specs.declared.modules.Module.{Module}
 use Rattle.commands.specs.declared.files.FileFault.{FileFault}
 use Rattle.commands.specs.declared.files.FileFault.TheVariants as file
@@ -7,7 +7,12 @@ use Rattle.commands.specs.declared.fault.Fault.{Fault}
 use Rattle.commands.specs.declared.fault.Fault.TheVariants.{File, Decode, Valid, Plan, Schedule, Pieces, Gather, Replay, View, NoMemory, SinkFailed}
 use Rattle.commands.specs.Files.{IsFileFault}
 use Rattle.commands.specs.Inputs.{IsPlanRefused, IsLinesRefused}
-use Rattle.commands.specs.Records.{IsScheduleRefused}
+use Rattle.event_core.specs.declared.pick.Pick.{Pick}
+use Rattle.thread_plan.specs.Plans.{PlanValue}
+use Rattle.command_words.specs.declared.requests.RecordOrder.{RecordOrder}
+use Rattle.command_words.specs.declared.requests.RecordOrder.TheVariants as order
+use Rattle.command_words.specs.declared.requests.RecordRequest.{RecordRequest}
+use Rattle.commands.specs.Records.{IsScheduleFile, IsScheduleRefused, IsRecordRefusal, IsRecordedBy, IsOrderRefused}
 
 module _ {holds later : List ℕ → Type 0} {fails breaks : Type 0} (held : (bytes : List ℕ) → later bytes → holds bytes) (failed : breaks → fails) where
   pub file_earlier : (fault : FileFault) → IsFileFault breaks fault → IsFileFault fails fault
@@ -52,3 +57,18 @@ module _ {holds later : List ℕ → Type 0} {fails breaks : Type 0} (held : (by
   schedule_refused_earlier (View fault) h = h
   schedule_refused_earlier NoMemory h = h
   schedule_refused_earlier SinkFailed h = h
+
+module _ {holds later : List ℕ → List ℕ → Type 0} (held : (path bytes : List ℕ) → later path bytes → holds path bytes) where
+  pub recorded_earlier : (m : Module) (plan : PlanValue) (request : RecordRequest) (o : RecordOrder) (text : List ℕ) → IsRecordedBy later m plan request o text → IsRecordedBy holds m plan request o text
+  recorded_earlier m plan request (order.Schedule path) text h = (h.0, (h.1.0, held path.now h.1.0 h.1.1, h.1.2), h.2)
+  recorded_earlier m plan request (order.Threads times_out) text h = h
+
+  module _ {fails breaks : List ℕ → Type 0} (failed : (path : List ℕ) → breaks path → fails path) where
+    schedule_order_earlier : (path : List ℕ) (size : ℕ) (fault : Fault) → IsScheduleRefused (later path) (breaks path) fault ⊎ ((picks : List Pick) × IsScheduleFile (later path) picks × IsRecordRefusal size fault)
+        → IsScheduleRefused (holds path) (fails path) fault ⊎ ((picks : List Pick) × IsScheduleFile (holds path) picks × IsRecordRefusal size fault)
+    schedule_order_earlier path size fault (inl h) = inl (schedule_refused_earlier (held path) (failed path) fault h)
+    schedule_order_earlier path size fault (inr h) = inr (h.0, (h.1.0, held path h.1.0 h.1.1, h.1.2), h.2)
+
+    pub order_refused_earlier : (request : RecordRequest) (o : RecordOrder) (fault : Fault) → IsOrderRefused later breaks request o fault → IsOrderRefused holds fails request o fault
+    order_refused_earlier request (order.Schedule path) fault h = schedule_order_earlier path.now request.size fault h
+    order_refused_earlier request (order.Threads times_out) fault h = h

@@ -1,5 +1,5 @@
 pub mod Earlier
-pub mod Came
+pub mod Streams
 pub mod Beginnings
 pub mod Ends
 pub mod Viewed

@@ -1,5 +1,5 @@
--- What is read of a file.
-use Rattle.std.specs.Prelude.{◌≡◌, ℕ, List, Option, Some, None, take}
+-- What is read of a file, at once or as a stream.
+use Rattle.std.specs.Prelude.{◌≡◌, ◌<◌, ℕ, List, ◌++◌, Option, Some, None, take}
 use Rattle.commands.specs.declared.files.FileFault.{FileFault}
 use Rattle.commands.specs.declared.files.FileFault.TheVariants.{NotRead, NoMemory}
 
@@ -12,3 +12,12 @@ IsRead holds (Some most) bytes = (whole : List ℕ) × holds whole × (bytes ≡
 abbrev pub IsFileFault : Type 0 → FileFault → Type 0
 IsFileFault fails NotRead = fails
 IsFileFault fails NoMemory = Unit {0}
+
+module _ {Stream : Type 0} (brings : Stream → List ℕ → Stream → Type 0) (failed : Stream → ℕ) (ended : Stream → Type 0) where
+  -- the stream stands at the first byte of a file: what it brings begins the file, and is the whole file where nothing more
+  -- comes; a call of it fails only where the file may fail
+  pub record IsOpened (holds : List ℕ → Type 0) (fails : Type 0) (stream : Stream) : Type 0 where
+    pub begins : (came : List ℕ) (later : Stream) → brings stream came later → (rest : List ℕ) × holds (came ++ rest)
+    pub whole : (came : List ℕ) (later : Stream) → brings stream came later → ended later → holds came
+    pub none_failed : failed stream ≡ 0
+    pub breaks : (came : List ℕ) (later : Stream) → brings stream came later → 0 < failed later → fails

@@ -12,6 +12,7 @@ use Rattle.replica.specs.LogOf.{IsLogOf, Among}
 use Rattle.replica.specs.Gathered.{IsText, IsGathered, IsBadLine, IsOtherRun}
 use Rattle.wasm_record.specs.Recordings.{IsKeyOf}
 use Rattle.commands.specs.Files.{IsFileFault}
+use Rattle.commands.specs.declared.files.FileFault.TheVariants.{NotRead}
 use Rattle.commands.specs.Checks.{IsValidFile, IsModuleRefused}
 use Rattle.commands.specs.declared.fault.Fault.{Fault}
 use Rattle.commands.specs.declared.fault.Fault.TheVariants.{File, Plan, Gather}
@@ -39,6 +40,11 @@ IsLinesFault text gathering.NoMemory = Unit {0}
 IsLinesFault text (gathering.BadLine line) = (read rest : List ℕ) × (text ≡ read ++ rest) × IsBadLine (rest ≡ []) read line
 IsLinesFault text gathering.SourceFailed = ⊥
 IsLinesFault text gathering.SinkFailed = ⊥
+
+-- the program's fault where the lines of a file are refused: a file of which a read failed is not read
+abbrev pub lines_fault : GatherFault → Fault
+lines_fault gathering.SourceFailed = File NotRead
+lines_fault fault = Gather fault
 
 module _ (holds : List ℕ → Type 0) where
   -- the plan that the file spells for a module

@@ -1,5 +1,5 @@
--- What `record` answers, by what its three files may hold.
-use Rattle.std.specs.Prelude.{◌≡◌, ◌⊎◌, ◌<◌, ◌≤◌, ℕ, Bool, true, false, List, Ok}
+-- What `record` answers, by what its files may hold.
+use Rattle.std.specs.Prelude.{◌≡◌, ◌⊎◌, ◌<◌, ◌≤◌, ℕ, Bool, true, false, List, Ok, min}
 use Rattle.std.specs.List.{flat_map}
 use Rattle.wasm_types.specs.declared.modules.Module.{Module}
 use Rattle.wasm_types.specs.declared.key.Profile.TheVariants.{Two}
@@ -8,8 +8,12 @@ use Rattle.thread_plan.specs.Plans.{PlanValue}
 use Rattle.pick_schedule.specs.Schedule.{schedule_of, IsFaultOf}
 use Rattle.log_pieces.specs.Line.{line_of}
 use Rattle.run_pieces.specs.Cut.{pieces_of, IsPiecesFault}
-use Rattle.wasm_record.specs.Recordings.{RecordingAt, IsKeyOf, RecordsRun}
+use Rattle.wasm_types.specs.declared.sizes.TheConstants.{MOST_STEPS}
+use Rattle.recorder.specs.ThreadLogAt.{RecordedAt}
+use Rattle.wasm_record.specs.Recordings.{RecordingAt, IsKeyOf, RecordsRun, RecordsThreads}
 use Rattle.run_report.specs.Report.{report_text}
+use Rattle.command_words.specs.declared.requests.RecordOrder.{RecordOrder}
+use Rattle.command_words.specs.declared.requests.RecordOrder.TheVariants as order
 use Rattle.command_words.specs.declared.requests.RecordRequest.{RecordRequest}
 use Rattle.commands.specs.Files.{IsFileFault}
 use Rattle.commands.specs.Inputs.{IsProgram, IsProgramRefused}
@@ -37,34 +41,42 @@ abbrev pub recorded_text : Bool → ℕ → RecordingAt → List ℕ
 recorded_text true entries r = report_text r.recorded.end
 recorded_text false entries r = flat_map line_of (pieces_of r.key r.recorded.threads entries)
 
--- the run that the picks make is recorded, and written
-pub record IsRecording (m : Module) (plan : PlanValue) (picks : List Pick) (request : RecordRequest) (text : List ℕ) : Type 0 where
+-- what was recorded is of a run of that number, is so, and is written
+pub record IsWritten (m : Module) (plan : PlanValue) (request : RecordRequest) (records : RecordedAt → Type 0) (text : List ℕ) : Type 0 where
   pub recording : RecordingAt
   pub some : 0 < request.size
   pub few : request.size ≤ 4096
   pub key : IsKeyOf m plan request.run (Two request.block) recording.key
-  pub records : RecordsRun m plan (Two request.block) picks request.steps recording.recorded
+  pub is_recorded : records recording.recorded
   pub is : text ≡ recorded_text request.report request.size recording
 
-module _ (holds : List ℕ → List ℕ → Type 0) where
-  -- the module, the plan and the picks in the files
-  pub record IsRecordInput (request : RecordRequest) (m : Module) (plan : PlanValue) (picks : List Pick) : Type 0 where
-    pub has_program : IsProgram holds request.«module».now request.plan.now m plan
-    pub has_schedule : IsScheduleFile (holds request.schedule.now) picks
+-- the run that the picks make is recorded
+abbrev pub IsRunOf : Module → PlanValue → RecordRequest → List Pick → RecordedAt → Type 0
+IsRunOf m plan request picks = RecordsRun m plan (Two request.block) picks request.steps
 
-  -- the first refusal: of the module, else of the plan, else of the schedule
-  abbrev pub IsRecordInputRefused : (List ℕ → Type 0) → RecordRequest → Fault → Type 0
-  IsRecordInputRefused fails request fault = IsProgramRefused holds fails request.«module».now request.plan.now fault
-      ⊎ ((m : Module) × (plan : PlanValue) × IsProgram holds request.«module».now request.plan.now m plan × IsScheduleRefused (holds request.schedule.now) (fails request.schedule.now) fault)
+-- a run is recorded that threads made at once; where time-outs are wanted, any wait with a limit of time may time out
+abbrev pub IsRunOfThreads : Module → PlanValue → RecordRequest → Bool → RecordedAt → Type 0
+IsRunOfThreads m plan request times_out = RecordsThreads m plan (Two request.block) (λ t s. times_out) (min request.steps MOST_STEPS)
+
+module _ (holds : List ℕ → List ℕ → Type 0) where
+  -- the module and the plan in the files, and what is recorded of them, by the order that was asked for
+  abbrev pub IsRecordedBy : Module → PlanValue → RecordRequest → RecordOrder → List ℕ → Type 0
+  IsRecordedBy m plan request (order.Schedule path) text = (picks : List Pick) × IsScheduleFile (holds path.now) picks × IsWritten m plan request (IsRunOf m plan request picks) text
+  IsRecordedBy m plan request (order.Threads times_out) text = IsWritten m plan request (IsRunOfThreads m plan request times_out) text
 
   pub record IsRecordedText (request : RecordRequest) (text : List ℕ) : Type 0 where
     pub m : Module
     pub plan : PlanValue
-    pub picks : List Pick
-    pub input : IsRecordInput request m plan picks
-    pub recording : IsRecording m plan picks request text
+    pub has_program : IsProgram holds request.«module».now request.plan.now m plan
+    pub is_recorded : IsRecordedBy m plan request request.order text
 
-  -- the files are refused, else the size of the pieces
+  -- the schedule is refused, if there is one; else the recording
+  abbrev pub IsOrderRefused : (List ℕ → Type 0) → RecordRequest → RecordOrder → Fault → Type 0
+  IsOrderRefused fails request (order.Schedule path) fault = IsScheduleRefused (holds path.now) (fails path.now) fault
+      ⊎ ((picks : List Pick) × IsScheduleFile (holds path.now) picks × IsRecordRefusal request.size fault)
+  IsOrderRefused fails request (order.Threads times_out) fault = IsRecordRefusal request.size fault
+
+  -- the first refusal: of the module, else of the plan, else of the schedule, else of the size of the pieces
   abbrev pub IsRecordRefused : (List ℕ → Type 0) → RecordRequest → Fault → Type 0
-  IsRecordRefused fails request fault = IsRecordInputRefused fails request fault
-      ⊎ ((m : Module) × (plan : PlanValue) × (picks : List Pick) × IsRecordInput request m plan picks × IsRecordRefusal request.size fault)
+  IsRecordRefused fails request fault = IsProgramRefused holds fails request.«module».now request.plan.now fault
+      ⊎ ((m : Module) × (plan : PlanValue) × IsProgram holds request.«module».now request.plan.now m plan × IsOrderRefused fails request request.order fault)

@@ -40,7 +40,7 @@ module _ (m : Module) (plan : PlanValue) (log : Log) (r : ViewRequest) where
   pub record IsViewText (text : List ℕ) : Type 0 where
     pub breaks : List Break
     pub are_breaks : AreBreaks r (block_power (key_of log).profile) breaks
-    pub view : IsViewOfLog m plan log r.replay.order.items breaks r.range.from r.range.len text
+    pub view : IsViewOfLog m plan log r.replay.order.items breaks r.names r.range.from r.range.len text
 
   pub record IsViewFault (fault : WasmViewFault) : Type 0 where
     pub breaks : List Break

@@ -1,9 +1,10 @@
 //! The files that commands name.
 
 ghost use Rattle.std.specs.Prelude.{◌≡◌, ℕ, List, IfOk, IfErr, Err};
-ghost use Rattle.commands.specs.Files.{IsRead, IsFileFault};
+ghost use Rattle.commands.specs.Files.{IsRead, IsFileFault, IsOpened};
 
 use log::{Log, info};
+use replica::Source;
 use std::alloc::Global;
 
 /// Why a file was not read.
@@ -20,6 +21,9 @@ pub enum FileFault {
 pub trait Files {
     ghost use Rattle.commands.specs.declared.files.FileFault.TheVariants.{NotRead};
 
+    /// A file that is open for reading.
+    type Stream: Source + Drop;
+
     /// The file at a path may have these bytes, from now on.
     ghost holds: { Self → List ℕ → List ℕ → Type 0 };
 
@@ -31,6 +35,14 @@ pub trait Files {
     fn read(&mut self, alloc: Global, path: &str, most: Option<usize>) -> Result<Vec<u8>, FileFault>
         ensures bytes { IfOk result (λ bytes. IsRead (holds self.old path.now) most bytes.items) }
         ensures not_read { result ≡ Err NotRead → fails self.old path.now }
+        // What may be read later might have been read before.
+        ensures still_holds { (other bytes : List ℕ) → holds self.new other bytes → holds self.old other bytes }
+        ensures still_fails { (other : List ℕ) → fails self.new other → fails self.old other };
+
+    /// Opens the file at that path, to read it from its first byte on.
+    fn open(&mut self, alloc: Global, path: &str) -> Result<Self::Stream, FileFault>
+        ensures opened { IfOk result (λ stream. IsOpened Self.Stream.brings Self.Stream.failed Self.Stream.ended (holds self.old path.now) (fails self.old path.now) stream) }
+        ensures not_opened { result ≡ Err NotRead → fails self.old path.now }
         // What may be read later might have been read before.
         ensures still_holds { (other bytes : List ℕ) → holds self.new other bytes → holds self.old other bytes }
         ensures still_fails { (other : List ℕ) → fails self.new other → fails self.old other };
@@ -51,4 +63,18 @@ pub(crate) fn read_file<L: Log, F: Files>(
 {
     info!(rt; "reads {path}");
     files.read(alloc, path, most)
+}
+
+/// Notes that a file is read, and opens it.
+pub(crate) fn open_file<L: Log, F: Files>(
+    rt: &L,
+    alloc: Global,
+    files: &mut F,
+    path: &str,
+) -> Result<F::Stream, FileFault>
+    ensures opened { IfOk result (λ stream. IsOpened F.Stream.brings F.Stream.failed F.Stream.ended (F.holds files.old path.now) (F.fails files.old path.now) stream) }
+    ensures refused { IfErr result (IsFileFault (F.fails files.old path.now)) }
+{
+    info!(rt; "reads {path}");
+    files.open(alloc, path)
 }

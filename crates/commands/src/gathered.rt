@@ -2,36 +2,49 @@
 
 ghost use Rattle.std.specs.Prelude.{◌≡◌, ◌⊎◌, ℕ, List, [], IfOk, IfErr, Ok, Some, None};
 ghost use Rattle.replica.specs.Log.{log_of};
-ghost use Rattle.commands.specs.Inputs.{IsLogOfLines, IsEmptyLog, IsLogFile, IsLinesFault, IsLinesRefused};
+ghost use Rattle.commands.specs.Inputs.{IsLogOfLines, IsEmptyLog, IsLogFile, IsLinesRefused, lines_fault};
 ghost use Rattle.thread_plan.specs.Plans.{IsPlanOf};
 ghost use Rattle.commands.specs.Replays.{IsReplayInput, IsInputRefused};
 ghost use Rattle.commands.specs.declared.fault.Fault.TheVariants as faults;
 ghost use Rattle.replica.specs.declared.replica.Replica.{Replica};
 
 use crate::fault::Fault;
-use crate::files::{Files, read_file};
+use crate::files::{FileFault, Files, open_file};
 use crate::program::{Program, read_program};
 use command_words::ReplayRequest;
 use log::Log;
-use replica::{GatherFault, MemorySource, Replica, collect};
+use replica::{GatherFault, Replica, collect};
 use std::alloc::Global;
 use wasm_types::{Block, Profile, RunKey};
 
-/// How many bytes are handed over at once.
-const CHUNK: usize = 65_536;
-
-/// The log of the pieces whose lines a text is; None where it has no line.
-fn collect_text(alloc: Global, text: &[u8]) -> Result<Option<Replica>, GatherFault>
-    ensures gathered { (replica : Replica) → result ≡ Ok (Some replica) → IsLogOfLines text.now (log_of replica) }
-    ensures none { result ≡ Ok None → text.now ≡ [] }
-    ensures refused { IfErr result (IsLinesFault text.now) }
+/// The program's fault where the lines of a file are refused: a file of which a read failed is not read.
+fn lines_fault(fault: GatherFault) -> Fault
+    ensures { result ≡ lines_fault fault }
 {
-    let mut source = MemorySource::new(text, CHUNK, None);
-    match collect(alloc, &mut source) {
+    match fault {
+        GatherFault::SourceFailed => Fault::File(FileFault::NotRead),
+        other => Fault::Gather(other),
+    }
+}
+
+/// The log of the pieces whose lines a file holds, line by line; None where it has no line.
+fn collect_file<L: Log, F: Files>(
+    rt: &L,
+    alloc: Global,
+    files: &mut F,
+    path: &str,
+) -> Result<Option<Replica>, Fault>
+    ensures gathered { (replica : Replica) → result ≡ Ok (Some replica) → (text : List ℕ) × F.holds files.old path.now text × IsLogOfLines text (log_of replica) }
+    ensures none { result ≡ Ok None → F.holds files.old path.now [] }
+    ensures refused { IfErr result (λ fault. IsLinesRefused (F.holds files.old path.now) (F.fails files.old path.now) fault) }
+{
+    let mut stream = match open_file(rt, alloc, files, path) {
+        Ok(stream) => stream,
+        Err(fault) => return Err(Fault::File(fault)),
+    };
+    match collect(alloc, &mut stream) {
         Ok(found) => Ok(found),
-        // Bytes in memory are handed over whole, unless there are 2^64 calls: that is more than fits into memory.
-        Err(GatherFault::SourceFailed) => Err(GatherFault::NoMemory),
-        Err(fault) => Err(fault),
+        Err(fault) => Err(lines_fault(fault)),
     }
 }
 
@@ -55,14 +68,10 @@ fn read_log<L: Log, F: Files>(
     ensures found { IfOk result (λ replica. IsLogFile (F.holds files.old path.now) program.now.valid program.now.plan (log_of replica)) }
     ensures refused { IfErr result (λ fault. IsLinesRefused (F.holds files.old path.now) (F.fails files.old path.now) fault) }
 {
-    let bytes = match read_file(rt, alloc, files, path, None) {
-        Ok(bytes) => bytes,
-        Err(fault) => return Err(Fault::File(fault)),
-    };
-    match collect_text(alloc, &bytes) {
+    match collect_file(rt, alloc, files, path) {
         Ok(Some(replica)) => Ok(replica),
         Ok(None) => Ok(empty_log(alloc, program)),
-        Err(fault) => Err(Fault::Gather(fault)),
+        Err(fault) => Err(fault),
     }
 }
 

@@ -1,24 +1,31 @@
-//! Recordings by the schedules in files.
+//! Recordings, by the schedules in files or by threads.
 
-ghost use Rattle.std.specs.Prelude.{◌≡◌, ◌<◌, ◌≤◌, ◌++◌, OnOk, IfOk, IfErr, false};
+ghost use Rattle.std.specs.Prelude.{◌≡◌, ◌⊎◌, ◌<◌, ◌≤◌, ◌++◌, List, OnOk, IfOk, IfErr, false};
 ghost use Rattle.log_pieces.specs.Line.{line_of};
 ghost use Rattle.run_pieces.specs.Cut.{IsPiecesFault};
 ghost use Rattle.thread_plan.specs.Plans.{IsPlanOf};
-ghost use Rattle.commands.specs.Records.{IsRecordInput, IsRecordInputRefused, IsRecordRefusal, IsRecordedText, IsRecordRefused, IsRecording, recorded_text};
+ghost use Rattle.event_core.specs.declared.pick.Pick.{Pick};
+ghost use Rattle.wasm_types.specs.declared.key.Profile.TheVariants.{Two};
+ghost use Rattle.wasm_record.specs.Recordings.{IsKeyOf};
+ghost use Rattle.commands.specs.Records.{IsScheduleFile, IsScheduleRefused, IsOrderRefused, IsRecordRefusal, IsRecordedBy, IsRecordedText, IsRecordRefused, IsRunOf, IsRunOfThreads, IsWritten, recorded_text};
 
 use crate::fault::Fault;
 use crate::files::Files;
 use crate::program::{Program, read_program};
 use crate::schedule_file::read_schedule;
-use command_words::RecordRequest;
+use command_words::{RecordOrder, RecordRequest};
 use log::Log;
 use log_pieces::{MOST_ENTRIES, Piece, line};
 use run_pieces::PiecesFault;
 use run_report::report;
 use schedules::Schedule;
+use shared_core::Unkept;
 use std::alloc::Global;
-use wasm_record::{Recording, record_schedule};
+use std::sync::Wait;
+use std::thread::Threads;
+use wasm_record::{Recording, record_schedule, record_threads};
 use wasm_types::NoMemory;
+use workers::{AtOnce, Never};
 
 /// Whether pieces of so many entries can be.
 fn check_size(entries: u32) -> Result<(), PiecesFault>
@@ -60,39 +67,129 @@ fn put_line(alloc: Global, text: &mut Vec<u8>, piece: &Piece) -> Result<(), NoMe
     Ok(())
 }
 
-/// What a recording is made of: a module, a plan for it, and picks.
-#[derive(Drop)]
-struct RecordInput {
-    program: Program,
-    picks: Schedule,
-}
-
-/// The module, the plan and the picks in the files of a recording. The module is read and judged, then the plan, then the
-/// schedule.
-fn read_record_input<L: Log, F: Files>(
+/// What a run by the schedule in a file came to. The schedule is judged before the size of the pieces.
+fn record_by_schedule<L: Log, F: Files>(
     rt: &L,
     alloc: Global,
     files: &mut F,
+    program: &Program,
+    path: &str,
     request: &RecordRequest<'_>,
-) -> Result<RecordInput, Fault>
-    ensures found { IfOk result (λ input. IsRecordInput (F.holds files.old) request.now input.program.valid input.program.plan input.picks) }
-    ensures suits { IfOk result (λ input. IsPlanOf input.program.valid input.program.plan) }
-    ensures refused { IfErr result (λ fault. IsRecordInputRefused (F.holds files.old) (F.fails files.old) request.now fault) }
+) -> Result<Vec<u8>, Fault>
+    requires { IsPlanOf program.now.valid program.now.plan }
+    ensures recorded { IfOk result (λ text. (picks : List Pick) × IsScheduleFile (F.holds files.old path.now) picks × IsWritten program.now.valid program.now.plan request.now (IsRunOf program.now.valid program.now.plan request.now picks) text.items) }
+    ensures refused { IfErr result (λ fault. IsScheduleRefused (F.holds files.old path.now) (F.fails files.old path.now) fault
+        ⊎ ((picks : List Pick) × IsScheduleFile (F.holds files.old path.now) picks × IsRecordRefusal request.now.size fault)) }
 {
-    let program = match read_program(rt, alloc, files, request.module, request.plan) {
-        Ok(program) => program,
+    let picks = match read_schedule(rt, alloc, files, path) {
+        Ok(picks) => picks,
         Err(fault) => return Err(fault),
     };
-    match read_schedule(rt, alloc, files, request.schedule) {
-        Ok(picks) => Ok(RecordInput { program, picks }),
-        Err(fault) => Err(fault),
+    record_picks(alloc, program, &picks, request)
+}
+
+/// What a run by picks came to. The size of the pieces is judged before.
+fn record_picks(
+    alloc: Global,
+    program: &Program,
+    picks: &Schedule,
+    request: &RecordRequest<'_>,
+) -> Result<Vec<u8>, Fault>
+    requires { IsPlanOf program.now.valid program.now.plan }
+    ensures recorded { IfOk result (λ text. IsWritten program.now.valid program.now.plan request.now (IsRunOf program.now.valid program.now.plan request.now picks.now) text.items) }
+    ensures refused { IfErr result (IsRecordRefusal request.now.size) }
+{
+    if let Err(fault) = check_size(request.size) {
+        return Err(Fault::Pieces(fault));
+    }
+    let Program { valid, plan } = program;
+    let block = request.block;
+    let steps = request.steps;
+    match record_schedule(alloc, valid, plan, request.run, block, picks, steps) {
+        Ok(recording) => written(alloc, &recording, request),
+        Err(NoMemory) => Err(Fault::NoMemory),
     }
 }
 
-/// What a run by a schedule came to: its report, or the lines of its pieces. The module is read and judged, then the plan,
-/// then the schedule, then the size of the pieces.
-pub fn record<L: Log, F: Files>(
+/// The recording of a run of threads at once, with a timer that always or never says that a time is over.
+fn recording_by_threads<T: Threads + Wait + Sync>(
+    threads: &T,
+    alloc: Global,
+    program: &Program,
+    times_out: bool,
+    request: &RecordRequest<'_>,
+) -> Result<Recording, NoMemory>
+    requires { IsPlanOf program.now.valid program.now.plan }
+    ensures key { IfOk result (λ r. IsKeyOf program.now.valid program.now.plan request.now.run (Two request.now.block) r.key) }
+    ensures records { IfOk result (λ r. IsRunOfThreads program.now.valid program.now.plan request.now times_out r.recorded) }
+{
+    let Program { valid, plan } = program;
+    let RecordRequest {
+        run,
+        block,
+        steps,
+        ..
+    } = *request;
+    if times_out {
+        record_threads(
+            threads, alloc, valid, plan, run, block, steps, &AtOnce, &Unkept,
+        )
+    } else {
+        record_threads(
+            threads, alloc, valid, plan, run, block, steps, &Never, &Unkept,
+        )
+    }
+}
+
+/// What a run of threads at once came to. The size of the pieces is judged before.
+fn record_by_threads<T: Threads + Wait + Sync>(
+    threads: &T,
+    alloc: Global,
+    program: &Program,
+    times_out: bool,
+    request: &RecordRequest<'_>,
+) -> Result<Vec<u8>, Fault>
+    requires { IsPlanOf program.now.valid program.now.plan }
+    ensures recorded { IfOk result (λ text. IsWritten program.now.valid program.now.plan request.now (IsRunOfThreads program.now.valid program.now.plan request.now times_out) text.items) }
+    ensures refused { IfErr result (IsRecordRefusal request.now.size) }
+{
+    if let Err(fault) = check_size(request.size) {
+        return Err(Fault::Pieces(fault));
+    }
+    match recording_by_threads(threads, alloc, program, times_out, request) {
+        Ok(recording) => written(alloc, &recording, request),
+        Err(NoMemory) => Err(Fault::NoMemory),
+    }
+}
+
+/// What a run came to in which the threads go on as was asked for.
+fn recorded_by<L: Log, T: Threads + Wait + Sync, F: Files>(
     rt: &L,
+    threads: &T,
+    alloc: Global,
+    files: &mut F,
+    program: &Program,
+    request: &RecordRequest<'_>,
+) -> Result<Vec<u8>, Fault>
+    requires { IsPlanOf program.now.valid program.now.plan }
+    ensures recorded { IfOk result (λ text. IsRecordedBy (F.holds files.old) program.now.valid program.now.plan request.now request.now.order text.items) }
+    ensures refused { IfErr result (λ fault. IsOrderRefused (F.holds files.old) (F.fails files.old) request.now request.now.order fault) }
+{
+    match request.order {
+        RecordOrder::Schedule(path) => {
+            record_by_schedule(rt, alloc, files, program, path, request)
+        }
+        RecordOrder::Threads { times_out } => {
+            record_by_threads(threads, alloc, program, times_out, request)
+        }
+    }
+}
+
+/// What a run came to: its report, or the lines of its pieces. The module is read and judged, then the plan, then the
+/// schedule, if the threads go on by one, then the size of the pieces.
+pub fn record<L: Log, T: Threads + Wait + Sync, F: Files>(
+    rt: &L,
+    threads: &T,
     alloc: Global,
     files: &mut F,
     request: &RecordRequest<'_>,
@@ -100,33 +197,11 @@ pub fn record<L: Log, F: Files>(
     ensures recorded { IfOk result (λ text. IsRecordedText (F.holds files.old) request.now text.items) }
     ensures refused { IfErr result (λ fault. IsRecordRefused (F.holds files.old) (F.fails files.old) request.now fault) }
 {
-    let input = match read_record_input(rt, alloc, files, request) {
-        Ok(input) => input,
+    let program = match read_program(rt, alloc, files, request.module, request.plan) {
+        Ok(program) => program,
         Err(fault) => return Err(fault),
     };
-    record_input(alloc, &input, request)
-}
-
-/// What a run by picks came to. The size of the pieces is judged before.
-fn record_input(
-    alloc: Global,
-    input: &RecordInput,
-    request: &RecordRequest<'_>,
-) -> Result<Vec<u8>, Fault>
-    requires { IsPlanOf input.now.program.valid input.now.program.plan }
-    ensures recorded { IfOk result (λ text. IsRecording input.now.program.valid input.now.program.plan input.now.picks request.now text.items) }
-    ensures refused { IfErr result (IsRecordRefusal request.now.size) }
-{
-    if let Err(fault) = check_size(request.size) {
-        return Err(Fault::Pieces(fault));
-    }
-    let Program { valid, plan } = &input.program;
-    let block = request.block;
-    let steps = request.steps;
-    match record_schedule(alloc, valid, plan, request.run, block, &input.picks, steps) {
-        Ok(recording) => written(alloc, &recording, request),
-        Err(NoMemory) => Err(Fault::NoMemory),
-    }
+    recorded_by(rt, threads, alloc, files, &program, request)
 }
 
 /// The report of a recording, or the lines of its pieces.

@@ -64,6 +64,7 @@ fn view_input(
         log,
         order,
         &breaks,
+        request.names,
         range.from,
         range.len,
     ) {

@@ -16,7 +16,7 @@ use Rattle.debug_views.specs.declared.threads.ThreadView.{ThreadView}
 use Rattle.debug_views.specs.Blocks.{AreHolding}
 use Rattle.debug_views.specs.Threads.{view_of_thread}
 use Rattle.debug_views.specs.Values.{memory_bytes, bytes_of_range}
-use Rattle.debug_views.specs.Text.{object_text, objects_text, rows_text, stop_words, thread_text, threads_text, IsView}
+use Rattle.debug_views.specs.Text.{object_text, objects_text, rows_text, stop_words, note_of, thread_text, threads_text, IsView}
 
 pub object_more : (counts : ℕ → Count) (front now next : List ℕ) (first n : ℕ) (c : Count) → now ≡ front ++ objects_text counts first n → c ≡ counts (block_object (first + n))
     → next ≡ now ++ object_text (block_object (first + n)) c → next ≡ front ++ objects_text counts first (n + 1)
@@ -50,12 +50,12 @@ drop_at {A} {B} f xs n b e =
     ∙ ap (λ (x : B). x ∷ drop (suc n) (map f xs)) (get_or_from_slice_get (map f xs) n b b s)
     ∙ ap (λ (k : ℕ). b ∷ drop k (map f xs)) (sym (add-one n))
 
-pub thread_more : {A : Type 0} (f : A → ThreadView) (threads : List A) (now next : List ℕ) (n : ℕ) (v : ThreadView) → option_map f (slice_get threads n) ≡ Some v → next ≡ now ++ thread_text n v
-    → next ++ threads_text (n + 1) (drop (n + 1) (map f threads)) ≡ now ++ threads_text n (drop n (map f threads))
-thread_more f threads now next n v at_n more =
-    ap (λ (l : List ℕ). l ++ threads_text (n + 1) (drop (n + 1) (map f threads))) more
-    ∙ append_assoc now (thread_text n v) (threads_text (n + 1) (drop (n + 1) (map f threads)))
-    ∙ ap (λ (vs : List ThreadView). now ++ threads_text n vs) (sym (drop_at f threads n v at_n))
+pub thread_more : {A : Type 0} (f : A → ThreadView) (notes : List (List ℕ)) (threads : List A) (now next : List ℕ) (n : ℕ) (v : ThreadView) → option_map f (slice_get threads n) ≡ Some v → next ≡ now ++ thread_text n v (note_of notes n)
+    → next ++ threads_text notes (n + 1) (drop (n + 1) (map f threads)) ≡ now ++ threads_text notes n (drop n (map f threads))
+thread_more f notes threads now next n v at_n more =
+    ap (λ (l : List ℕ). l ++ threads_text notes (n + 1) (drop (n + 1) (map f threads))) more
+    ∙ append_assoc now (thread_text n v (note_of notes n)) (threads_text notes (n + 1) (drop (n + 1) (map f threads)))
+    ∙ ap (λ (vs : List ThreadView). now ++ threads_text notes n vs) (sym (drop_at f threads n v at_n))
 
 -- no more bytes than were asked for
 pub short_range : (bytes memory : List ℕ) (from len : ℕ) → bytes ≡ bytes_of_range memory from len → len < 2 ^ 32 → length bytes < 2 ^ 32
@@ -75,18 +75,18 @@ joined_by text first second third words threads objects rows first_is second_is 
     ∙ joined words threads objects rows
 
 module _ {State Op Reply Value Fixed : Type 0} (space : Space Op Reply Value Fixed) (code : Code State Op Reply Fixed) where
-  pub is_view : (w : WorldAt State Value Fixed) (power : ℕ) (s : Stopped) (breaks : List Break) (from len : ℕ) (blocks : BlockRange) (counts : ℕ → Count) (bytes first second third text : List ℕ)
+  pub is_view : (w : WorldAt State Value Fixed) (power : ℕ) (s : Stopped) (breaks : List Break) (notes : List (List ℕ)) (from len : ℕ) (blocks : BlockRange) (counts : ℕ → Count) (bytes first second third text : List ℕ)
       → AreHolding power from len blocks → counts ≡ w.memory.counts → bytes ≡ bytes_of_range (memory_bytes space w) from len
       → first ≡ stop_words s breaks ++ 10 ∷ []
-      → second ≡ first ++ threads_text 0 (map (view_of_thread code) w.threads)
+      → second ≡ first ++ threads_text notes 0 (map (view_of_thread code) w.threads)
       → third ≡ second ++ objects_text counts blocks.first (blocks.past - blocks.first)
       → text ≡ third ++ rows_text from bytes ((length bytes + 15) / 16)
-      → IsView space code w power s breaks from len text
-  is_view w power s breaks from len blocks counts bytes first second third text holding same_counts same_bytes first_is second_is third_is text_is = record {
+      → IsView space code w power s breaks notes from len text
+  is_view w power s breaks notes from len blocks counts bytes first second third text holding same_counts same_bytes first_is second_is third_is text_is = record {
     blocks = blocks;
     holding = holding;
     is =
-        joined_by text first second third (stop_words s breaks) (threads_text 0 (map (view_of_thread code) w.threads)) (objects_text w.memory.counts blocks.first (blocks.past - blocks.first)) (rows_text from (bytes_of_range (memory_bytes space w) from len) ((length (bytes_of_range (memory_bytes space w) from len) + 15) / 16)) first_is second_is
+        joined_by text first second third (stop_words s breaks) (threads_text notes 0 (map (view_of_thread code) w.threads)) (objects_text w.memory.counts blocks.first (blocks.past - blocks.first)) (rows_text from (bytes_of_range (memory_bytes space w) from len) ((length (bytes_of_range (memory_bytes space w) from len) + 15) / 16)) first_is second_is
         (third_is ∙ ap (λ (n : ℕ → Count). second ++ objects_text n blocks.first (blocks.past - blocks.first)) same_counts)
         (text_is ∙ ap (λ (b : List ℕ). third ++ rows_text from b ((length b + 15) / 16)) same_bytes);
   }

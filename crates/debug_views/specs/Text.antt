@@ -37,13 +37,21 @@ stop_words stopped.Finished breaks = codes "finished"
 stop_words stopped.Stuck breaks = codes "stuck"
 stop_words (stopped.Fault f) breaks = []
 
-abbrev pub thread_text : ℕ → ThreadView → List ℕ
-thread_text thread v = codes "thread " ++ (decimal thread ++ (codes " steps " ++ (decimal v.steps ++ (codes " places " ++ (decimal v.places ++ 32 ∷ (outcome_text v.outcome ++ 10 ∷ []))))))
+abbrev pub thread_text : ℕ → ThreadView → List ℕ → List ℕ
+thread_text thread v note = codes "thread " ++ (decimal thread ++ (codes " steps " ++ (decimal v.steps ++ (codes " places " ++ (decimal v.places ++ 32 ∷ (outcome_text v.outcome ++ (note ++ 10 ∷ [])))))))
 
--- threads that are numbered from `thread` on
-abbrev pub threads_text : ℕ → List ThreadView → List ℕ
-threads_text thread [] = []
-threads_text thread (v ∷ vs) = thread_text thread v ++ threads_text (thread + 1) vs
+abbrev pub note_or_none : Option (List ℕ) → List ℕ
+note_or_none None = []
+note_or_none (Some note) = note
+
+-- the note of a thread, which is empty where there is none of its number
+abbrev pub note_of : List (List ℕ) → ℕ → List ℕ
+note_of notes thread = note_or_none (slice_get notes thread)
+
+-- threads that are numbered from `thread` on, each with its note
+abbrev pub threads_text : List (List ℕ) → ℕ → List ThreadView → List ℕ
+threads_text notes thread [] = []
+threads_text notes thread (v ∷ vs) = thread_text thread v (note_of notes thread) ++ threads_text notes (thread + 1) vs
 
 abbrev pub object_text : ℕ → Count → List ℕ
 object_text object c = codes "object " ++ (decimal object ++ (codes " version " ++ (decimal c.version ++ (codes " reads " ++ (decimal c.reads ++ 10 ∷ [])))))
@@ -59,12 +67,12 @@ rows_text from bytes zero = []
 rows_text from bytes (suc row) = rows_text from bytes row ++ shown (from + row * 16) (take 16 (drop (row * 16) bytes))
 
 module _ {State Op Reply Value Fixed : Type 0} (space : Space Op Reply Value Fixed) (code : Code State Op Reply Fixed) where
-  abbrev pub view_text : WorldAt State Value Fixed → BlockRange → Stopped → List Break → ℕ → List ℕ → List ℕ
-  view_text w blocks s breaks from bytes = stop_words s breaks ++ (10 ∷ (threads_text 0 (map (view_of_thread code) w.threads)
+  abbrev pub view_text : WorldAt State Value Fixed → BlockRange → Stopped → List Break → List (List ℕ) → ℕ → List ℕ → List ℕ
+  view_text w blocks s breaks notes from bytes = stop_words s breaks ++ (10 ∷ (threads_text notes 0 (map (view_of_thread code) w.threads)
       ++ (objects_text w.memory.counts blocks.first (blocks.past - blocks.first) ++ rows_text from bytes ((length bytes + 15) / 16))))
 
-  -- where the replay stopped, each thread, each block that holds a byte of the range, and the range's bytes
-  pub record IsView (w : WorldAt State Value Fixed) (power : ℕ) (s : Stopped) (breaks : List Break) (from len : ℕ) (text : List ℕ) : Type 0 where
+  -- where the replay stopped, each thread with its note, each block that holds a byte of the range, and the range's bytes
+  pub record IsView (w : WorldAt State Value Fixed) (power : ℕ) (s : Stopped) (breaks : List Break) (notes : List (List ℕ)) (from len : ℕ) (text : List ℕ) : Type 0 where
     pub blocks : BlockRange
     pub holding : AreHolding power from len blocks
-    pub is : text ≡ view_text w blocks s breaks from (bytes_of_range (memory_bytes space w) from len)
+    pub is : text ≡ view_text w blocks s breaks notes from (bytes_of_range (memory_bytes space w) from len)

@@ -96,7 +96,16 @@ fn text_of_view(
     if !is_shown(stopped, breaks) {
         return Err("a fault has no view".into());
     }
-    match view(alloc, world, Block::least(), stopped, breaks, from, len) {
+    match view(
+        alloc,
+        world,
+        Block::least(),
+        stopped,
+        breaks,
+        &[],
+        from,
+        len,
+    ) {
         Ok(text) => Ok(text),
         Err(fault) => Ok(format!(in alloc; "{fault:?}")?),
     }

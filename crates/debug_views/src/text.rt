@@ -5,7 +5,7 @@ ghost use Rattle.rw_objects.specs.Counts.{count_at};
 ghost use Rattle.event_core.specs.World.{world_of};
 ghost use Rattle.debug_views.specs.Values.{memory_bytes, IsFault};
 ghost use Rattle.debug_views.specs.Threads.{view_of_thread};
-ghost use Rattle.debug_views.specs.Text.{IsShown, IsView, stop_words, thread_text, threads_text, object_text, objects_text, rows_text};
+ghost use Rattle.debug_views.specs.Text.{IsShown, IsView, stop_words, note_of, thread_text, threads_text, object_text, objects_text, rows_text};
 
 use crate::blocks::{BlockRange, blocks_of_range};
 use crate::fault::ViewFault;
@@ -26,25 +26,27 @@ const ROW: usize = 16;
 /// `stuck`; `thread T steps S places P OUTCOME` for each thread, by number; `object O version V reads R` for each block that
 /// holds a byte of the range, by number; and the range in rows of 16 bytes from its start, the last one perhaps shorter: the
 /// address in eight lower-case hexadecimal digits, and the bytes in two each. The range is that from an address on of so
-/// many bytes; blocks are of this size. Where the replay stopped at a break, it is one of the list.
+/// many bytes; blocks are of this size. Where the replay stopped at a break, it is one of the list. Behind a thread's line
+/// stands the note of its number, if there is one.
 pub fn view<M: Machine<S>, S: ObjectSpace>(
     alloc: Global,
     world: &World<M, S>,
     block: Block,
     stopped: Stopped,
     breaks: &[Break],
+    notes: &[String],
     from: u32,
     len: u32,
 ) -> Result<String, ViewFault>
     requires { IsShown stopped breaks.now }
-    ensures view { IfOk result (λ text. IsView S.meaning M.code (world_of world.now) block stopped breaks.now from len (string_bytes text)) }
+    ensures view { IfOk result (λ text. IsView S.meaning M.code (world_of world.now) block stopped breaks.now (map string_bytes notes.now) from len (string_bytes text)) }
     ensures within { IfOk result (λ text. from + len ≤ length (memory_bytes S.meaning (world_of world.now))) }
     ensures fault { IfErr result (IsFault (memory_bytes S.meaning (world_of world.now)) from len) }
 {
     let bytes = bytes(alloc, world, from, len)?;
     let blocks = blocks_of_range(block, from, len);
     let mut text = first_line(alloc, stopped, breaks)?;
-    write_threads(&mut text, world)?;
+    write_threads(&mut text, world, notes)?;
     write_objects(&mut text, world.versions(), blocks)?;
     write_rows(&mut text, from, bytes.as_slice())?;
     Ok(text)
@@ -80,28 +82,44 @@ fn stop_words(stopped: Stopped, breaks: &[Break]) -> &'static str
 fn write_threads<M: Machine<S>, S: ObjectSpace>(
     text: &mut String,
     world: &World<M, S>,
+    notes: &[String],
 ) -> Result<(), NoMemory>
-    ensures { OnOk result (string_bytes text.new ≡ string_bytes text.old ++ threads_text 0 (map (view_of_thread M.code) (world_of world.now).threads)) }
+    ensures { OnOk result (string_bytes text.new ≡ string_bytes text.old ++ threads_text (map string_bytes notes.now) 0 (map (view_of_thread M.code) (world_of world.now).threads)) }
 {
     for thread in 0..world.count() {
         let Some(view) = thread_view(world, thread as u32) else {
             unreachable!()
         };
-        write_thread(text, thread, view)?;
+        write_thread(text, thread, view, note_of(notes, thread))?;
     }
     Ok(())
 }
 
-// Writes how a thread stands.
-fn write_thread(text: &mut String, thread: usize, view: ThreadView) -> Result<(), NoMemory>
-    ensures { OnOk result (string_bytes text.new ≡ string_bytes text.old ++ thread_text thread view) }
+// The note of a thread; an empty one where it has none.
+fn note_of(notes: &[String], thread: usize) -> &str
+    ensures { result.now ≡ note_of (map string_bytes notes.now) thread }
+{
+    match notes.get(thread) {
+        Some(note) => note.as_str(),
+        None => "",
+    }
+}
+
+// Writes how a thread stands, and its note.
+fn write_thread(
+    text: &mut String,
+    thread: usize,
+    view: ThreadView,
+    note: &str,
+) -> Result<(), NoMemory>
+    ensures { OnOk result (string_bytes text.new ≡ string_bytes text.old ++ thread_text thread view note.now) }
 {
     let steps = view.steps;
     let places = view.places;
     let outcome = view.outcome;
     write!(
         text,
-        "thread {thread} steps {steps} places {places} {outcome}\n"
+        "thread {thread} steps {steps} places {places} {outcome}{note}\n"
     )?;
     Ok(())
 }

@@ -5,3 +5,4 @@ pub mod Rooms
 pub mod Sound
 pub mod Trying
 pub mod Alone
+pub mod Standing

@@ -7,13 +7,15 @@ mod moves;
 mod opening;
 mod over_memory;
 mod running;
+mod standing;
 mod state;
 mod step;
 mod trying;
 
 pub use instance::{instance_for, memory_limits};
 pub use laws::fields_have_one_meaning;
-pub use state::ThreadState;
+pub use standing::CodePlace;
+pub use state::{ThreadSeen, ThreadState};
 
 #[cfg(test)]
 mod access_tests;

@@ -11,7 +11,6 @@ use Rattle.hex.specs.declared.error.FromHexError.{FromHexError}
 use Rattle.hex.proofs.Pairs.{cons_byte, decode_pairs-ok_pair}
 use Rattle.hex.proofs.HexLemmas.{decode_of-even, decode_of-ok, decode_of-encode_lower, decode_of-same}
 use Rattle.log_pieces.specs.declared.fault.DecodeFault.{DecodeFault}
-use Rattle.log_pieces.specs.declared.fault.DecodeFault.TheVariants.{NotAPiece}
 use Rattle.log_pieces.specs.Piece.{PieceValue}
 use Rattle.log_pieces.specs.Spelling.{spelling, Spells}
 use Rattle.log_pieces.specs.Line.{line_of, IsLineOf, EndsOnce, is_lower_digit}
@@ -55,13 +54,13 @@ lower_below digit e =
     ]
 
 -- a lower-case digit, with its value
-record Digit (digit : ℕ) : Type 0 where
-  value : ℕ
-  is : hex_digit_value digit ≡ Some value
-  below : value < 16
-  stands : slice_index lower_digits value ≡ digit
+pub record Digit (digit : ℕ) : Type 0 where
+  pub value : ℕ
+  pub is : hex_digit_value digit ≡ Some value
+  pub below : value < 16
+  pub stands : slice_index lower_digits value ≡ digit
 
-digit_of : (digit : ℕ) → is_lower_digit digit ≡ true → Digit digit
+pub digit_of : (digit : ℕ) → is_lower_digit digit ≡ true → Digit digit
 digit_of digit e = cases (is_lower_digit digit) (hex_digit_value digit) e refl (passes_below is_low_or_stands 103 every_digit digit (lower_below digit e)) where
   cases : (lower : Bool) (value : Option ℕ) → lower ≡ true → hex_digit_value digit ≡ value → (not lower || stands value digit) ≡ true → Digit digit
   cases false value e f g = absurd (cc e)
@@ -197,9 +196,3 @@ no_bytes line digits error e d p l = absurd (cc (sym d ∙ line_bytes line digit
 pub no_spelling : (line digits bytes : List ℕ) → line ≡ digits ++ 10 ∷ [] → decode_of digits ≡ Ok bytes → ((p : PieceValue) → Spells bytes p → ⊥) → (p : PieceValue) → IsLineOf line p → ⊥
 no_spelling line digits bytes e d none p l =
     none p (record { rules = l.rules; fits = l.fits; spelled = decode_of-same digits bytes (spelling p) d (line_bytes line digits p e l) })
-
-abbrev failed : DecodeFault → Result PieceValue DecodeFault
-failed fault = Err fault
-
-pub fault_is : (fault : DecodeFault) → failed fault ≡ failed NotAPiece → fault ≡ NotAPiece
-fault_is fault e = cc

@@ -110,6 +110,14 @@ read_entry = do
   if nat_lt 3 count then refuses
       else (read_times count read_touch >>= λ found. gives (record { kind = kind; found = found }))
 
+-- what stands before the touches of an entry: its kind, and how many touches there are
+unfoldable pub read_head : Reader (Kind × ℕ)
+read_head = do
+  kind ← read_u8
+  kind ← or_refuses (kind_at kind)
+  count ← read_u8
+  if nat_lt 3 count then refuses else gives (kind, count)
+
 unfoldable pub read_outcome : Reader Outcome
 read_outcome = do
   tag ← read_u8

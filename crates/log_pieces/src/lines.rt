@@ -6,11 +6,11 @@ ghost use Rattle.hex.specs.Hex.{encode_lower};
 ghost use Rattle.log_pieces.specs.Piece.{PieceValue};
 ghost use Rattle.log_pieces.specs.Line.{IsLineOf, EndsOnce, is_lower_digit};
 
+use crate::digits::bytes_of;
 use crate::fault::DecodeFault;
 use crate::piece::Piece;
 use crate::reading::decode;
 use crate::writing::encode;
-use hex::FromHexError;
 use std::alloc::Global;
 use wasm_types::NoMemory;
 
@@ -49,18 +49,9 @@ pub fn read_line(alloc: Global, line: &[u8]) -> Result<Piece, DecodeFault>
     if !are_lower_digits(digits) {
         return Err(DecodeFault::NotAPiece);
     }
-    match hex::decode(alloc, digits) {
+    match bytes_of(alloc, digits) {
         Ok(bytes) => decode(alloc, &bytes),
-        Err(error) => Err(fault_of(error)),
-    }
-}
-
-fn fault_of(error: FromHexError) -> DecodeFault
-    ensures { result ≡ DecodeFault.NotAPiece → error ≢ FromHexError.OutOfMemory }
-{
-    match error {
-        FromHexError::OutOfMemory => DecodeFault::NoMemory,
-        _ => DecodeFault::NotAPiece,
+        Err(fault) => Err(fault),
     }
 }
 

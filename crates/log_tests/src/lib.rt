@@ -5,6 +5,8 @@
 #[cfg(test)]
 mod joins;
 #[cfg(test)]
+mod objects;
+#[cfg(test)]
 mod pieces;
 #[cfg(test)]
 mod replicas;

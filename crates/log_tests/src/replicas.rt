@@ -5,8 +5,8 @@ ghost use Rattle.std.specs.Prelude.{◌<◌};
 use join_laws::Flat;
 use log_pieces::{End, Piece, read_line};
 use replica::{
-    GatherFault, Log, MemorySink, MemorySource, Replica, ReplicaFault, Sink, Source, collect,
-    gather, listing,
+    GatherFault, ListingForm, Log, MemorySink, MemorySource, Replica, ReplicaFault, Sink, Source,
+    collect, gather, listing,
 };
 use rw_objects::{Entry, Few, Found, Kind};
 use std::alloc::Global;
@@ -147,7 +147,7 @@ const fn failed(fault: GatherFault, source_failures: u64, sink_failures: u64) ->
 fn gather_over(alloc: Global, text: &str, devices: &Devices, wanted: &[u8]) -> Gathered {
     let mut source = MemorySource::new(text.as_bytes(), devices.most, devices.source_fails_at);
     let mut sink = MemorySink::new(alloc, devices.most, devices.sink_fails_at);
-    let answer = gather(alloc, &mut source, &mut sink);
+    let answer = gather(alloc, &mut source, &mut sink, ListingForm::Plain);
     Gathered {
         answer,
         source_failures: source.failures(),
@@ -689,7 +689,7 @@ fn gathering_with_refused_memory_writes_no_other_bytes(rt: HostRuntime) -> Resul
     let alloc = rt.alloc();
     let mut source = MemorySource::new(WHOLE.as_bytes(), 100, None);
     let mut sink = MemorySink::new(alloc, 10, None);
-    match gather(alloc, &mut source, &mut sink) {
+    match gather(alloc, &mut source, &mut sink, ListingForm::Plain) {
         Ok(()) => assert_eq!(rt; sink.taken(), WHOLE_TEXT.as_bytes()),
         // A sink over memory fails where its own memory is refused.
         Err(GatherFault::SinkFailed) => {

@@ -6,7 +6,8 @@ use crate::replicas::{
     BLOCK_64, FIRST, NO_PIECES, OTHER_RUN, RUN, SECOND, WHOLE, WHOLE_LISTED, WHOLE_TEXT,
 };
 use replica::{
-    GatherFault, MemorySink, MemorySource, Sink, Skipped, Source, gather, gather_skipping,
+    GatherFault, ListingForm, MemorySink, MemorySource, Sink, Skipped, Source, gather,
+    gather_skipping,
 };
 use std::alloc::Global;
 use std::test::Fail;
@@ -46,9 +47,9 @@ fn run_over(alloc: Global, text: &[u8], devices: &Devices, skips: bool) -> Gathe
     let mut source = MemorySource::new(text, devices.most, devices.source_fails_at);
     let mut sink = MemorySink::new(alloc, devices.most, devices.sink_fails_at);
     let answer = if skips {
-        gather_skipping(alloc, &mut source, &mut sink)
+        gather_skipping(alloc, &mut source, &mut sink, ListingForm::Plain)
     } else {
-        match gather(alloc, &mut source, &mut sink) {
+        match gather(alloc, &mut source, &mut sink, ListingForm::Plain) {
             Ok(()) => Ok(Skipped { bad: 0, foreign: 0 }),
             Err(fault) => Err(fault),
         }
@@ -245,7 +246,7 @@ fn skipping_with_refused_memory_writes_no_other_bytes(rt: HostRuntime) -> Result
     let alloc = rt.alloc();
     let mut source = MemorySource::new(WHOLE.as_bytes(), 100, None);
     let mut sink = MemorySink::new(alloc, 10, None);
-    match gather_skipping(alloc, &mut source, &mut sink) {
+    match gather_skipping(alloc, &mut source, &mut sink, ListingForm::Plain) {
         Ok(skipped) => {
             assert_eq!(rt; skipped, Skipped { bad: 0, foreign: 0 });
             assert_eq!(rt; sink.taken(), WHOLE_TEXT.as_bytes());

@@ -1,5 +1,5 @@
 -- How a command stops.
-use Rattle.std.proofs.Common.{◌≡◌, ℕ, List, ◌++◌, true, false, Result, Ok, Err, OnErr, IfErr, inl, inr, sym, subst, refl}
+use Rattle.std.proofs.Common.{◌≡◌, ℕ, List, ◌++◌, Bool, true, false, Result, Ok, Err, OnErr, IfErr, inl, inr, sym, subst, refl}
 use Rattle.command_words.specs.declared.requests.Request.{Request}
 use Rattle.command_words.specs.declared.requests.Request.TheVariants as request
 use Rattle.replica.specs.Gathered.{IsBadLine, IsOtherRun, IsCutText}
@@ -8,7 +8,7 @@ use Rattle.replica.specs.declared.fault.GatherFault.{GatherFault}
 use Rattle.replica.specs.declared.fault.GatherFault.TheVariants as gathering
 use Rattle.commands.specs.declared.fault.Fault.{Fault}
 use Rattle.commands.specs.declared.fault.Fault.TheVariants.{SinkFailed}
-use Rattle.program.specs.Answers.{IsListed, IsListedSkipping, IsCut, IsDone, IsStopped, fault_of}
+use Rattle.program.specs.Answers.{IsListed, IsListedSkipping, IsCut, IsDone, IsStopped, fault_of, form_of}
 
 module _ (holds : List ℕ → List ℕ → Type 0) (fails brought : List ℕ → Type 0) (ended broke : Type 0) (took : List ℕ → Type 0) (unwritten unwritable : Type 0) where
   -- what was to be shown stops where the output fails
@@ -20,49 +20,49 @@ module _ (holds : List ℕ → List ℕ → Type 0) (fails brought : List ℕ �
       inr (e, u, (text, b.0, b.1, subst (λ (r : Request). IsDone holds fails brought ended broke (λ skipped. Unit {0}) r text) (sym is) (subst (IsDone holds fails brought ended broke (λ skipped. Unit {0}) asks) (sym same) done), b.2, b.3))
 
   -- gathering stops at what the source brought, at its failure, or at the output's
-  module _ {T : Type 0} where
+  module _ {T : Type 0} (objects : Bool) where
     stops : (fault : GatherFault)
         → ((n : ℕ) → ◌≡◌ {A = Result T GatherFault} (Err fault) (Err (gathering.BadLine n)) → (text : List ℕ) × brought text × IsBadLine ended text n)
         → ((n : ℕ) → ◌≡◌ {A = Result T GatherFault} (Err fault) (Err (gathering.OtherRun n)) → (text : List ℕ) × brought text × IsOtherRun text n)
         → (◌≡◌ {A = Result T GatherFault} (Err fault) (Err gathering.SourceFailed) → ((text : List ℕ) × brought text × IsCutText text) × broke)
-        → (◌≡◌ {A = Result T GatherFault} (Err fault) (Err gathering.SinkFailed) → IsCut took (IsListed brought ended) × unwritable)
+        → (◌≡◌ {A = Result T GatherFault} (Err fault) (Err gathering.SinkFailed) → IsCut took (IsListed (form_of objects) brought ended) × unwritable)
         → ((◌≡◌ {A = Result T GatherFault} (Err fault) (Err gathering.SinkFailed) → ⊥) → unwritten)
-        → IsStopped holds fails brought ended broke took unwritten unwritable (request.Gather false) (fault_of fault)
+        → IsStopped holds fails brought ended broke took unwritten unwritable (request.Gather false objects) (fault_of fault)
     stops (gathering.BadLine n) bad other source sink kept = inl (bad n refl, kept (λ e. absurd cc))
     stops (gathering.OtherRun n) bad other source sink kept = inl (other n refl, kept (λ e. absurd cc))
     stops gathering.NoMemory bad other source sink kept = inl (tt, kept (λ e. absurd cc))
     stops gathering.SourceFailed bad other source sink kept = inl (source refl, kept (λ e. absurd cc))
     stops gathering.SinkFailed bad other source sink kept = let s = sink refl in inr (refl, s.1, s.0)
 
-    pub gather_stops : (asked : Request) (told : Fault) (fault : GatherFault) → asked ≡ request.Gather false → told ≡ fault_of fault
+    pub gather_stops : (asked : Request) (told : Fault) (fault : GatherFault) → asked ≡ request.Gather false objects → told ≡ fault_of fault
         → ((n : ℕ) → ◌≡◌ {A = Result T GatherFault} (Err fault) (Err (gathering.BadLine n)) → (text : List ℕ) × brought text × IsBadLine ended text n)
         → ((n : ℕ) → ◌≡◌ {A = Result T GatherFault} (Err fault) (Err (gathering.OtherRun n)) → (text : List ℕ) × brought text × IsOtherRun text n)
         → (◌≡◌ {A = Result T GatherFault} (Err fault) (Err gathering.SourceFailed) → ((text : List ℕ) × brought text × IsCutText text) × broke)
-        → (◌≡◌ {A = Result T GatherFault} (Err fault) (Err gathering.SinkFailed) → IsCut took (IsListed brought ended) × unwritable)
+        → (◌≡◌ {A = Result T GatherFault} (Err fault) (Err gathering.SinkFailed) → IsCut took (IsListed (form_of objects) brought ended) × unwritable)
         → ((◌≡◌ {A = Result T GatherFault} (Err fault) (Err gathering.SinkFailed) → ⊥) → unwritten)
         → IsStopped holds fails brought ended broke took unwritten unwritable asked told
     gather_stops asked told fault is tells bad other source sink kept =
         subst (λ (r : Request). IsStopped holds fails brought ended broke took unwritten unwritable r told) (sym is)
-        (subst (IsStopped holds fails brought ended broke took unwritten unwritable (request.Gather false)) (sym tells) (stops fault bad other source sink kept))
+        (subst (IsStopped holds fails brought ended broke took unwritten unwritable (request.Gather false objects)) (sym tells) (stops fault bad other source sink kept))
 
   -- gathering past bad lines stops at the source's failure, or at the output's
-  module _ {T : Type 0} where
+  module _ {T : Type 0} (objects : Bool) where
     skipping : (fault : GatherFault) → IsDeviceFault fault
         → (◌≡◌ {A = Result T GatherFault} (Err fault) (Err gathering.SourceFailed) → broke)
-        → (◌≡◌ {A = Result T GatherFault} (Err fault) (Err gathering.SinkFailed) → IsCut took (IsListedSkipping brought ended (λ skipped. Unit {0})) × unwritable)
+        → (◌≡◌ {A = Result T GatherFault} (Err fault) (Err gathering.SinkFailed) → IsCut took (IsListedSkipping (form_of objects) brought ended (λ skipped. Unit {0})) × unwritable)
         → ((◌≡◌ {A = Result T GatherFault} (Err fault) (Err gathering.SinkFailed) → ⊥) → unwritten)
-        → IsStopped holds fails brought ended broke took unwritten unwritable (request.Gather true) (fault_of fault)
+        → IsStopped holds fails brought ended broke took unwritten unwritable (request.Gather true objects) (fault_of fault)
     skipping (gathering.BadLine n) device source sink kept = absurd device
     skipping (gathering.OtherRun n) device source sink kept = absurd device
     skipping gathering.NoMemory device source sink kept = inl (tt, kept (λ e. absurd cc))
     skipping gathering.SourceFailed device source sink kept = inl (source refl, kept (λ e. absurd cc))
     skipping gathering.SinkFailed device source sink kept = let s = sink refl in inr (refl, s.1, s.0)
 
-    pub skipping_stops : (asked : Request) (told : Fault) (fault : GatherFault) → asked ≡ request.Gather true → told ≡ fault_of fault → IsDeviceFault fault
+    pub skipping_stops : (asked : Request) (told : Fault) (fault : GatherFault) → asked ≡ request.Gather true objects → told ≡ fault_of fault → IsDeviceFault fault
         → (◌≡◌ {A = Result T GatherFault} (Err fault) (Err gathering.SourceFailed) → broke)
-        → (◌≡◌ {A = Result T GatherFault} (Err fault) (Err gathering.SinkFailed) → IsCut took (IsListedSkipping brought ended (λ skipped. Unit {0})) × unwritable)
+        → (◌≡◌ {A = Result T GatherFault} (Err fault) (Err gathering.SinkFailed) → IsCut took (IsListedSkipping (form_of objects) brought ended (λ skipped. Unit {0})) × unwritable)
         → ((◌≡◌ {A = Result T GatherFault} (Err fault) (Err gathering.SinkFailed) → ⊥) → unwritten)
         → IsStopped holds fails brought ended broke took unwritten unwritable asked told
     skipping_stops asked told fault is tells device source sink kept =
         subst (λ (r : Request). IsStopped holds fails brought ended broke took unwritten unwritable r told) (sym is)
-        (subst (IsStopped holds fails brought ended broke took unwritten unwritable (request.Gather true)) (sym tells) (skipping fault device source sink kept))
+        (subst (IsStopped holds fails brought ended broke took unwritten unwritable (request.Gather true objects)) (sym tells) (skipping fault device source sink kept))

@@ -1,9 +1,11 @@
 -- What the program answers.
-use Rattle.std.specs.Prelude.{◌≡◌, ◌≤◌, ◌⊎◌, ℕ, List, ◌++◌, Option, true, false}
+use Rattle.std.specs.Prelude.{◌≡◌, ◌≤◌, ◌⊎◌, ℕ, List, ◌++◌, Bool, Option, true, false}
 use Rattle.clap.specs.Words.{Text}
 use Rattle.log_pieces.specs.Piece.{PieceValue}
 use Rattle.replica.specs.Gathered.{IsText, IsListing, IsBadLine, IsOtherRun, IsCutText}
 use Rattle.replica.specs.Judged.{AreJudged, IsSkipped}
+use Rattle.replica.specs.declared.form.ListingForm.{ListingForm}
+use Rattle.replica.specs.declared.form.ListingForm.TheVariants.{Plain, WithObjects}
 use Rattle.replica.specs.declared.skipping.Skipped.{Skipped}
 use Rattle.replica.specs.declared.fault.GatherFault.{GatherFault}
 use Rattle.replica.specs.declared.fault.GatherFault.TheVariants as gathering
@@ -22,22 +24,27 @@ abbrev pub fault_of : GatherFault → Fault
 fault_of gathering.SinkFailed = SinkFailed
 fault_of fault = Gather fault
 
+-- what a listing says of each entry
+abbrev pub form_of : Bool → ListingForm
+form_of false = Plain
+form_of true = WithObjects
+
 module _ {Sink : Type 0} (takes : List ℕ → Sink → Type 0) where
   -- a beginning of the text was taken
   abbrev pub WritesSome : List ℕ → Sink → Type 0
   WritesSome text sink = (part rest : List ℕ) × (text ≡ part ++ rest) × takes part sink
 
 -- the source brought lines of pieces, up to its end, and this is the listing of their log
-pub record IsListed (brought : List ℕ → Type 0) (ended : Type 0) (listed : List ℕ) : Type 0 where
+pub record IsListed (form : ListingForm) (brought : List ℕ → Type 0) (ended : Type 0) (listed : List ℕ) : Type 0 where
   pub text : List ℕ
   pub came : brought text
   pub end : ended
   pub pieces : List PieceValue
   pub lines : IsText text pieces
-  pub is_listing : IsListing pieces listed
+  pub is_listing : IsListing form pieces listed
 
 -- the source brought a text, up to its end, and this is the listing of the pieces that are kept of its lines; their numbers were told
-pub record IsListedSkipping (brought : List ℕ → Type 0) (ended : Type 0) (counted : Skipped → Type 0) (listed : List ℕ) : Type 0 where
+pub record IsListedSkipping (form : ListingForm) (brought : List ℕ → Type 0) (ended : Type 0) (counted : Skipped → Type 0) (listed : List ℕ) : Type 0 where
   pub text : List ℕ
   pub came : brought text
   pub end : ended
@@ -46,7 +53,7 @@ pub record IsListedSkipping (brought : List ℕ → Type 0) (ended : Type 0) (co
   pub skipped : Skipped
   pub kept : List PieceValue
   pub is_skipped : IsSkipped lines skipped kept
-  pub is_listing : IsListing kept listed
+  pub is_listing : IsListing form kept listed
   pub told : counted skipped
 
 -- why what the source brought is refused; `broke` says that the source failed
@@ -76,8 +83,8 @@ module _ (took : List ℕ → Type 0) where
 module _ (holds : List ℕ → List ℕ → Type 0) (fails : List ℕ → Type 0) (brought : List ℕ → Type 0) (ended broke : Type 0) where
   -- the text of a command that is done; `counted` says that the numbers of lines passed over were told
   abbrev pub IsDone : (Skipped → Type 0) → Request → List ℕ → Type 0
-  IsDone counted (request.Gather false) text = IsListed brought ended text
-  IsDone counted (request.Gather true) text = IsListedSkipping brought ended counted text
+  IsDone counted (request.Gather false objects) text = IsListed (form_of objects) brought ended text
+  IsDone counted (request.Gather true objects) text = IsListedSkipping (form_of objects) brought ended counted text
   IsDone counted (request.Check path) text = IsChecked (holds path.now) text
   IsDone counted (request.Record r) text = IsRecordedText holds r text
   IsDone counted (request.Replay r) text = IsReplayedText holds r text
@@ -85,8 +92,8 @@ module _ (holds : List ℕ → List ℕ → Type 0) (fails : List ℕ → Type 0
 
   -- when each fault is answered
   abbrev pub IsRefused : Request → Fault → Type 0
-  IsRefused (request.Gather false) fault = IsGatherRefused brought ended broke fault
-  IsRefused (request.Gather true) fault = IsSkippingRefused broke fault
+  IsRefused (request.Gather false objects) fault = IsGatherRefused brought ended broke fault
+  IsRefused (request.Gather true objects) fault = IsSkippingRefused broke fault
   IsRefused (request.Check path) fault = IsCheckRefused (holds path.now) (fails path.now) fault
   IsRefused (request.Record r) fault = IsRecordRefused holds fails r fault
   IsRefused (request.Replay r) fault = IsReplayRefused holds fails r fault

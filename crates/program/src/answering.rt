@@ -6,15 +6,19 @@ ghost use Rattle.commands.specs.Texts.{fault_text, skipped_text};
 ghost use Rattle.commands.specs.declared.fault.Fault.TheVariants as faults;
 ghost use Rattle.replica.specs.declared.fault.GatherFault.TheVariants as gathering;
 ghost use Rattle.replica.specs.Lines.{IsDeviceFault};
-ghost use Rattle.program.specs.Answers.{WritesSome, IsShown, IsCut, IsListedSkipping, IsDone, IsStopped, IsAnswered, fault_of};
+ghost use Rattle.program.specs.Answers.{WritesSome, IsShown, IsCut, IsListedSkipping, IsDone, IsStopped, IsAnswered, fault_of, form_of};
 
 use command_words::{Asked, Request, requested};
 use commands::{Fault, Files, check, record, replay, skipped_text, view};
 use log::Log;
-use replica::{Failed, GatherFault, Sink, Skipped, Source, gather, gather_skipping, write_all};
+use replica::{
+    Failed, GatherFault, ListingForm, Sink, Skipped, Source, gather, gather_skipping, write_all,
+};
 use std::alloc::Global;
 use std::convert::AsStr;
 use std::io::{self, ErrorKind};
+use std::sync::Wait;
+use std::thread::Threads;
 use wasm_types::NoMemory;
 
 /// What is said where the command line is not text.
@@ -76,26 +80,38 @@ fn tell_skipped<E: Sink>(errors: &mut E, skipped: &Skipped)
     let _ = write_all(errors, line.as_str().as_bytes());
 }
 
+/// What a listing says of each entry.
+fn form_of(objects: bool) -> ListingForm
+    ensures { result ≡ form_of objects }
+{
+    if objects {
+        ListingForm::WithObjects
+    } else {
+        ListingForm::Plain
+    }
+}
+
 /// Gathers past lines that cannot be joined, and tells how many there were.
 fn gather_and_tell<R: Source, W: Sink, E: Sink>(
     alloc: Global,
     source: &mut R,
     output: &mut W,
     errors: &mut E,
+    form: ListingForm,
 ) -> Result<(), GatherFault>
     requires source { R.failed source.old < 2 ^ 64 - 1 }
     requires output { W.failed output.old < 2 ^ 64 - 1 }
     requires errors { E.failed errors.old < 2 ^ 64 - 1 }
-    ensures shown { OnOk result (IsShown (λ text. W.takes output.old text output.new) (IsListedSkipping (λ text. R.brings source.old text source.new) (R.ended source.new) (λ skipped. (E.takes errors.old (skipped_text skipped ++ 10 ∷ []) errors.new) ⊎ (E.failed errors.new ≡ E.failed errors.old + 1)))) }
+    ensures shown { OnOk result (IsShown (λ text. W.takes output.old text output.new) (IsListedSkipping form (λ text. R.brings source.old text source.new) (R.ended source.new) (λ skipped. (E.takes errors.old (skipped_text skipped ++ 10 ∷ []) errors.new) ⊎ (E.failed errors.new ≡ E.failed errors.old + 1)))) }
     ensures source_failed { result ≡ Err gathering.SourceFailed → R.failed source.new ≡ R.failed source.old + 1 }
-    ensures sink_failed { result ≡ Err gathering.SinkFailed → IsCut (λ text. W.takes output.old text output.new) (IsListedSkipping (λ text. R.brings source.old text source.new) (R.ended source.new) (λ skipped. Unit {0})) × (W.failed output.new ≡ W.failed output.old + 1) }
+    ensures sink_failed { result ≡ Err gathering.SinkFailed → IsCut (λ text. W.takes output.old text output.new) (IsListedSkipping form (λ text. R.brings source.old text source.new) (R.ended source.new) (λ skipped. Unit {0})) × (W.failed output.new ≡ W.failed output.old + 1) }
     ensures source_worked { OnOk result (R.failed source.new ≡ R.failed source.old) }
     ensures sink_worked { OnOk result (W.failed output.new ≡ W.failed output.old) }
     ensures unwritten { OnErr result ((result ≡ Err gathering.SinkFailed → ⊥) → output.new ≡ output.old) }
     ensures untold { OnErr result (errors.new ≡ errors.old) }
     ensures errors { IfErr result IsDeviceFault }
 {
-    match gather_skipping(alloc, source, output) {
+    match gather_skipping(alloc, source, output, form) {
         Ok(skipped) => {
             tell_skipped(errors, &skipped);
             Ok(())
@@ -105,8 +121,9 @@ fn gather_and_tell<R: Source, W: Sink, E: Sink>(
 }
 
 /// Does what is asked for.
-fn perform<L: Log, F: Files, R: Source, W: Sink, E: Sink>(
+fn perform<L: Log, T: Threads + Wait + Sync, F: Files, R: Source, W: Sink, E: Sink>(
     rt: &L,
+    threads: &T,
     alloc: Global,
     request: &Request<'_>,
     files: &mut F,
@@ -124,11 +141,17 @@ fn perform<L: Log, F: Files, R: Source, W: Sink, E: Sink>(
     ensures output_worked { OnOk result (W.failed output.new ≡ W.failed output.old) }
 {
     match request {
-        Request::Gather { skips: false } => match gather(alloc, source, output) {
+        Request::Gather {
+            skips: false,
+            objects,
+        } => match gather(alloc, source, output, form_of(*objects)) {
             Ok(()) => Ok(()),
             Err(fault) => Err(fault_of(fault)),
         },
-        Request::Gather { skips: true } => match gather_and_tell(alloc, source, output, errors) {
+        Request::Gather {
+            skips: true,
+            objects,
+        } => match gather_and_tell(alloc, source, output, errors, form_of(*objects)) {
             Ok(()) => Ok(()),
             Err(fault) => Err(fault_of(fault)),
         },
@@ -136,7 +159,7 @@ fn perform<L: Log, F: Files, R: Source, W: Sink, E: Sink>(
             Ok(text) => show(output, &text),
             Err(fault) => Err(fault),
         },
-        Request::Record(request) => match record(rt, alloc, files, request) {
+        Request::Record(request) => match record(rt, threads, alloc, files, request) {
             Ok(text) => show(output, &text),
             Err(fault) => Err(fault),
         },
@@ -166,9 +189,10 @@ pub fn refuse_words<E: Sink>(errors: &mut E, error: &io::Error) -> u8
 
 /// Does what the words ask for, the first of which is the program's name, and answers the exit status: 0 where it is
 /// done, 1 where it is refused, and then `errors` took the line that says why, 2 where the words are not understood. `rt` logs
-/// the path of each file before it is read.
-pub fn run<L: Log, F: Files, R: Source, W: Sink, E: Sink, S: AsStr>(
+/// the path of each file before it is read; `threads` makes the threads of a recording by threads.
+pub fn run<L: Log, T: Threads + Wait + Sync, F: Files, R: Source, W: Sink, E: Sink, S: AsStr>(
     rt: &L,
+    threads: &T,
     alloc: Global,
     words: &[S],
     files: &mut F,
@@ -194,7 +218,7 @@ pub fn run<L: Log, F: Files, R: Source, W: Sink, E: Sink, S: AsStr>(
 {
     match requested(alloc, words) {
         Ok(Asked::Request(request)) => {
-            match perform(rt, alloc, &request, files, source, output, errors) {
+            match perform(rt, threads, alloc, &request, files, source, output, errors) {
                 Ok(()) => 0,
                 Err(fault) => refuse(errors, &fault),
             }

@@ -8,7 +8,9 @@ use commands::{FileFault, Files};
 use log::sink::{Lines, Memory};
 use replica::{MemorySink, MemorySource};
 use std::alloc::Global;
+use std::sync::Wait;
 use std::test::Fail;
+use std::thread::Threads;
 
 /// A module of one shared page and one function `w`, which adds 1 at address 0 twice.
 const COUNTER: [u8; 55] = [
@@ -18,6 +20,15 @@ const COUNTER: [u8; 55] = [
     0x41, 0x01, 0xFE, 0x1E, 0x02, 0x00, 0x0B,
 ];
 
+/// The same with a name section, which names the function `bump`.
+const NAMED: [u8; 71] = [
+    0x00, 0x61, 0x73, 0x6D, 0x01, 0x00, 0x00, 0x00, 0x01, 0x05, 0x01, 0x60, 0x00, 0x01, 0x7F, 0x03,
+    0x02, 0x01, 0x00, 0x05, 0x04, 0x01, 0x03, 0x01, 0x01, 0x07, 0x05, 0x01, 0x01, 0x77, 0x00, 0x00,
+    0x0A, 0x15, 0x01, 0x13, 0x00, 0x41, 0x00, 0x41, 0x01, 0xFE, 0x1E, 0x02, 0x00, 0x1A, 0x41, 0x00,
+    0x41, 0x01, 0xFE, 0x1E, 0x02, 0x00, 0x0B, 0x00, 0x0E, 0x04, 0x6E, 0x61, 0x6D, 0x65, 0x01, 0x07,
+    0x01, 0x00, 0x04, 0x62, 0x75, 0x6D, 0x70,
+];
+
 /// Two threads of it.
 const PLAN: &str = "wreplay plan 1\nthread w\nthread w\n";
 
@@ -25,7 +36,7 @@ const PLAN: &str = "wreplay plan 1\nthread w\nthread w\n";
 const OTHER: &str =
     "49525001bbbbbbbbbbbbbbbbbbbbbbbbbbbbbbbbbbbbbbbbbbbbbbbbbbbbbbbbbbbbbbbb01000000000000000300000000000001030000000000000002";
 
-/// The files `m`, `p`, `s` and `l`: a module, a plan, a schedule and piece lines.
+/// The files `m`, `named`, `p`, `s` and `l`: a module, the same with names, a plan, a schedule and piece lines.
 #[derive(Drop)]
 struct MemoryFiles<'a> {
     module: &'a [u8],
@@ -48,7 +59,23 @@ pub(crate) fn copied(alloc: Global, bytes: &[u8], most: Option<usize>) -> Result
     Ok(copy)
 }
 
+impl<'a> MemoryFiles<'a> {
+    /// The bytes of the file at that path.
+    fn bytes_at(&self, path: &str) -> Result<&'a [u8], FileFault> {
+        match path {
+            "m" => Ok(self.module),
+            "named" => Ok(&NAMED),
+            "p" => Ok(self.plan.as_bytes()),
+            "s" => Ok(self.schedule.as_bytes()),
+            "l" => Ok(self.lines.as_bytes()),
+            _ => Err(FileFault::NotRead),
+        }
+    }
+}
+
 impl<'a> Files for MemoryFiles<'a> {
+    type Stream = MemorySource<'a>;
+
     ghost holds = { λ files path bytes. Unit {0} };
 
     ghost fails = { λ files path. Unit {0} };
@@ -59,14 +86,13 @@ impl<'a> Files for MemoryFiles<'a> {
         path: &str,
         most: Option<usize>,
     ) -> Result<Vec<u8>, FileFault> {
-        let bytes = match path {
-            "m" => self.module,
-            "p" => self.plan.as_bytes(),
-            "s" => self.schedule.as_bytes(),
-            "l" => self.lines.as_bytes(),
-            _ => return Err(FileFault::NotRead),
-        };
+        let bytes = self.bytes_at(path)?;
         copied(alloc, bytes, most)
+    }
+
+    fn open(&mut self, _alloc: Global, path: &str) -> Result<MemorySource<'a>, FileFault> {
+        // A few bytes a call, so that lines stand over the borders of calls.
+        Ok(MemorySource::new(self.bytes_at(path)?, 7, None))
     }
 }
 
@@ -96,7 +122,13 @@ fn paths(alloc: Global, lines: &Lines) -> Vec<u8> {
 }
 
 /// Runs the program on these words, a schedule and piece lines.
-fn running(alloc: Global, words: &[&str], schedule: &str, lines: &str) -> Done {
+fn running<T: Threads + Wait + Sync>(
+    threads: &T,
+    alloc: Global,
+    words: &[&str],
+    schedule: &str,
+    lines: &str,
+) -> Done {
     let notes = Memory::new(alloc);
     let mut files = MemoryFiles {
         module: &COUNTER,
@@ -109,6 +141,7 @@ fn running(alloc: Global, words: &[&str], schedule: &str, lines: &str) -> Done {
     let mut errors = MemorySink::new(alloc, 65536, None);
     let status = run(
         &notes,
+        threads,
         alloc,
         words,
         &mut files,
@@ -127,7 +160,13 @@ fn running(alloc: Global, words: &[&str], schedule: &str, lines: &str) -> Done {
 #[test]
 fn records_by_a_schedule(rt: HostRuntime) -> Result<(), Fail> {
     let words = ["wreplay", "record", "m", "p", "--schedule", "s", "--report"];
-    let done = running(rt.alloc(), words.as_slice(), "go 0 3\ngo 1 8\ngo 0 5\n", "");
+    let done = running(
+        &rt,
+        rt.alloc(),
+        words.as_slice(),
+        "go 0 3\ngo 1 8\ngo 0 5\n",
+        "",
+    );
     assert_eq!(rt; text(&done.errors), "");
     assert_eq!(rt; done.status, 0);
     assert_eq!(rt;
@@ -187,7 +226,7 @@ fn says_why_it_refuses_a_recording(rt: HostRuntime) -> Result<(), Fail> {
             size,
             "--report",
         ];
-        let refused = running(rt.alloc(), words.as_slice(), picks, "");
+        let refused = running(&rt, rt.alloc(), words.as_slice(), picks, "");
         assert_eq!(rt; text(&refused.errors), line);
         assert_eq!(rt; text(&refused.output), "");
         assert_eq!(rt; refused.status, 1);
@@ -206,11 +245,82 @@ fn says_why_it_refuses_a_replay(rt: HostRuntime) -> Result<(), Fail> {
     ];
     for (module, lines, line, noted) in cases {
         let words = ["wreplay", "replay", module, "p", "l", "--order", "1,0"];
-        let refused = running(rt.alloc(), words.as_slice(), "", lines);
+        let refused = running(&rt, rt.alloc(), words.as_slice(), "", lines);
         assert_eq!(rt; text(&refused.errors), line);
         assert_eq!(rt; text(&refused.output), "");
         assert_eq!(rt; refused.status, 1);
         assert_eq!(rt; refused.noted.as_slice(), noted.as_bytes());
+    }
+    Ok(())
+}
+
+#[test]
+fn records_by_threads(rt: HostRuntime) -> Result<(), Fail> {
+    // Four additions of 1, whichever thread makes them when, and the values from before are one of four pairs.
+    let ends = [
+        "thread 0 i32 1\nthread 1 i32 3\n",
+        "thread 0 i32 3\nthread 1 i32 1\n",
+        "thread 0 i32 2\nthread 1 i32 3\n",
+        "thread 0 i32 3\nthread 1 i32 2\n",
+    ];
+    let words = ["wreplay", "record", "m", "p", "--threads", "--report"];
+    let done = running(&rt, rt.alloc(), words.as_slice(), "", "");
+    assert_eq!(rt; text(&done.errors), "");
+    assert_eq!(rt; done.status, 0);
+    assert_eq!(rt; done.noted.as_slice(), b"mp".as_slice());
+    let report = text(&done.output);
+    assert!(rt; report.starts_with("pages 1\n00000000 04000000000000000000000000000000\n"));
+    let mut known = false;
+    for end in ends {
+        known = known || report.ends_with(end);
+    }
+    assert!(rt; known);
+    Ok(())
+}
+
+#[test]
+fn takes_a_schedule_or_threads(rt: HostRuntime) -> Result<(), Fail> {
+    let line = "error: 'record' takes either '--schedule <FILE>' or '--threads'\n";
+    let neither = ["wreplay", "record", "m", "p", "--report"];
+    let both = [
+        "wreplay",
+        "record",
+        "m",
+        "p",
+        "--schedule",
+        "s",
+        "--threads",
+    ];
+    for words in [neither.as_slice(), both.as_slice()] {
+        let unknown = running(&rt, rt.alloc(), words, "", "");
+        assert_eq!(rt; unknown.status, 2);
+        assert_eq!(rt; text(&unknown.errors), line);
+        assert_eq!(rt; text(&unknown.output), "");
+        assert_eq!(rt; unknown.noted.as_slice(), b"".as_slice());
+    }
+    Ok(())
+}
+
+#[test]
+fn shows_where_threads_stand(rt: HostRuntime) -> Result<(), Fail> {
+    let cases = [
+        (
+            ["view", "m", "p", "l"],
+            "thread 0 steps 0 places 0 running at 0+0\nthread 1 steps 0 places 0 running at 0+0\n",
+        ),
+        (
+            ["view", "named", "p", "l"],
+            "thread 0 steps 0 places 0 running at bump+0\nthread 1 steps 0 places 0 running at bump+0\n",
+        ),
+    ];
+    for ([command, module, plan, lines], threads) in cases {
+        let words = [
+            "wreplay", command, module, plan, lines, "--step", "0.0", "--names",
+        ];
+        let done = running(&rt, rt.alloc(), words.as_slice(), "", "");
+        assert_eq!(rt; text(&done.errors), "");
+        assert_eq!(rt; done.status, 0);
+        assert!(rt; text(&done.output).contains(threads));
     }
     Ok(())
 }
@@ -225,7 +335,7 @@ fn refuses_values_that_it_does_not_understand(rt: HostRuntime) -> Result<(), Fai
         ["wreplay", "replay", "m", "p", "l", "--order", "4294967296"],
     ];
     for words in cases {
-        let unknown = running(rt.alloc(), words.as_slice(), "", "");
+        let unknown = running(&rt, rt.alloc(), words.as_slice(), "", "");
         assert_eq!(rt; unknown.status, 2);
         assert_eq!(rt; text(&unknown.output), "");
         assert!(rt; text(&unknown.errors).starts_with("error: "));
@@ -251,7 +361,7 @@ fn refuses_values_that_it_does_not_understand(rt: HostRuntime) -> Result<(), Fai
             option,
             value,
         ];
-        let unknown = running(rt.alloc(), words.as_slice(), "", "");
+        let unknown = running(&rt, rt.alloc(), words.as_slice(), "", "");
         assert_eq!(rt; unknown.status, 2);
         assert_eq!(rt; unknown.noted.as_slice(), b"".as_slice());
     }

@@ -4,7 +4,9 @@ use commands::{FileFault, Files};
 use log::sink::Discard;
 use replica::{MemorySink, MemorySource};
 use std::alloc::Global;
+use std::sync::Wait;
 use std::test::Fail;
+use std::thread::Threads;
 
 /// The piece of a thread that made three steps and no access.
 const PIECE: &str =
@@ -14,11 +16,17 @@ const PIECE: &str =
 const OTHER: &str =
     "49525001bbbbbbbbbbbbbbbbbbbbbbbbbbbbbbbbbbbbbbbbbbbbbbbbbbbbbbbbbbbbbbbb01000000000000000300000000000001030000000000000002";
 
+/// The piece of one access of thread 0, which writes the first block.
+const ACCESS: &str =
+    "49525001aaaaaaaaaaaaaaaaaaaaaaaaaaaaaaaaaaaaaaaaaaaaaaaaaaaaaaaaaaaaaaaa010000000000000000000000000100000001010000000100000000000000000000000000000000";
+
 /// Files of which there is none.
 #[derive(Drop)]
 struct NoFiles;
 
 impl Files for NoFiles {
+    type Stream = MemorySource<'static>;
+
     ghost holds = { λ files path bytes. Unit {0} };
 
     ghost fails = { λ files path. Unit {0} };
@@ -29,6 +37,10 @@ impl Files for NoFiles {
         _path: &str,
         _most: Option<usize>,
     ) -> Result<Vec<u8>, FileFault> {
+        Err(FileFault::NotRead)
+    }
+
+    fn open(&mut self, _alloc: Global, _path: &str) -> Result<MemorySource<'static>, FileFault> {
         Err(FileFault::NotRead)
     }
 }
@@ -56,13 +68,14 @@ fn text(sink: &MemorySink) -> &str {
 }
 
 /// Runs the program.
-fn try_out(alloc: Global, case: Case<'_>) -> Done {
+fn try_out<T: Threads + Wait + Sync>(threads: &T, alloc: Global, case: Case<'_>) -> Done {
     let mut files = NoFiles;
     let mut source = MemorySource::new(case.input.as_bytes(), 65536, case.read_fails_at);
     let mut output = MemorySink::new(alloc, 8, case.write_fails_at);
     let mut errors = MemorySink::new(alloc, 65536, None);
     let status = run(
         &Discard,
+        threads,
         alloc,
         case.words,
         &mut files,
@@ -90,14 +103,14 @@ fn gathering<'a>(words: &'a [&'a str], input: &'a str) -> Case<'a> {
 #[test]
 fn gathers_the_lines_of_standard_input(rt: HostRuntime) -> Result<(), Fail> {
     let words = ["wreplay", "gather"];
-    let none = try_out(rt.alloc(), gathering(&words, ""));
+    let none = try_out(&rt, rt.alloc(), gathering(&words, ""));
     assert_eq!(rt; none.status, 0);
     assert_eq!(rt;
         text(&none.output),
         "run none\nends 0 missing 0 strays 0 clashes 0\n"
     );
     let input = format!(in rt.alloc(); "{PIECE}\n")?;
-    let one = try_out(rt.alloc(), gathering(&words, input.as_str()));
+    let one = try_out(&rt, rt.alloc(), gathering(&words, input.as_str()));
     assert_eq!(rt; one.status, 0);
     assert_eq!(rt; text(&one.errors), "");
     assert_eq!(rt;
@@ -125,12 +138,13 @@ fn says_why_it_refuses(rt: HostRuntime) -> Result<(), Fail> {
         ),
     ];
     for (case, line) in cases {
-        let refused = try_out(rt.alloc(), case);
+        let refused = try_out(&rt, rt.alloc(), case);
         assert_eq!(rt; refused.status, 1);
         assert_eq!(rt; text(&refused.output), "");
         assert_eq!(rt; text(&refused.errors), line);
     }
     let cut = try_out(
+        &rt,
         rt.alloc(),
         Case {
             write_fails_at: Some(2),
@@ -149,7 +163,7 @@ fn passes_over_lines_that_cannot_be_joined(rt: HostRuntime) -> Result<(), Fail> 
     let input = format!(in rt.alloc(); "zz\n{PIECE}\n{OTHER}\n\n{OTHER}")?;
     let listed =
         "run aaaaaaaaaaaaaaaaaaaaaaaaaaaaaaaaaaaaaaaaaaaaaaaaaaaaaaaaaaaaaaaa:1\n3 end steps=3 places=0 none\nends 1 missing 0 strays 0 clashes 0\n";
-    let done = try_out(rt.alloc(), gathering(&words, input.as_str()));
+    let done = try_out(&rt, rt.alloc(), gathering(&words, input.as_str()));
     assert_eq!(rt; done.status, 0);
     assert_eq!(rt; text(&done.output), listed);
     assert_eq!(rt; text(&done.errors), "skipped 2 2\n");
@@ -157,7 +171,7 @@ fn passes_over_lines_that_cannot_be_joined(rt: HostRuntime) -> Result<(), Fail> 
         read_fails_at: Some(2),
         ..gathering(&words, input.as_str())
     };
-    let refused = try_out(rt.alloc(), unread);
+    let refused = try_out(&rt, rt.alloc(), unread);
     assert_eq!(rt; refused.status, 1);
     assert_eq!(rt; text(&refused.output), "");
     assert_eq!(rt; text(&refused.errors), "refused 44 SourceFailed\n");
@@ -165,10 +179,27 @@ fn passes_over_lines_that_cannot_be_joined(rt: HostRuntime) -> Result<(), Fail> 
         write_fails_at: Some(2),
         ..gathering(&words, "zz\n")
     };
-    let cut = try_out(rt.alloc(), unwritten);
+    let cut = try_out(&rt, rt.alloc(), unwritten);
     assert_eq!(rt; cut.status, 1);
     assert_eq!(rt; text(&cut.output), "run none");
     assert_eq!(rt; text(&cut.errors), "refused 45 SinkFailed\n");
+    Ok(())
+}
+
+#[test]
+fn tells_which_bytes_objects_are(rt: HostRuntime) -> Result<(), Fail> {
+    // One event of thread 0 in a run of profile 2 with blocks of 64 bytes, a write of object 1.
+    let plain = ["wreplay", "gather"];
+    let told = ["wreplay", "gather", "--objects"];
+    let skipping = ["wreplay", "gather", "--skip", "--objects"];
+    let without = try_out(&rt, rt.alloc(), gathering(plain.as_slice(), ACCESS));
+    assert_eq!(rt; without.status, 0);
+    assert!(rt; text(&without.output).contains("\n0.0 access w1@0/0\n"));
+    for words in [told.as_slice(), skipping.as_slice()] {
+        let done = try_out(&rt, rt.alloc(), gathering(words, ACCESS));
+        assert_eq!(rt; done.status, 0);
+        assert!(rt; text(&done.output).contains("\n0.0 access w1@0/0; 1: bytes 0..63\n"));
+    }
     Ok(())
 }
 
@@ -181,7 +212,7 @@ fn explains_itself(rt: HostRuntime) -> Result<(), Fail> {
         ["wreplay", "gather", "--help"].as_slice(),
     ];
     for words in cases {
-        let shown = try_out(rt.alloc(), gathering(words, "zz"));
+        let shown = try_out(&rt, rt.alloc(), gathering(words, "zz"));
         assert_eq!(rt; shown.status, 0);
         assert_eq!(rt; text(&shown.errors), "");
         assert!(rt;
@@ -189,6 +220,7 @@ fn explains_itself(rt: HostRuntime) -> Result<(), Fail> {
                 || text(&shown.output).starts_with("Reads piece lines")
         );
         let cut = try_out(
+            &rt,
             rt.alloc(),
             Case {
                 write_fails_at: Some(1),
@@ -205,12 +237,12 @@ fn explains_itself(rt: HostRuntime) -> Result<(), Fail> {
 fn refuses_words_that_it_does_not_know(rt: HostRuntime) -> Result<(), Fail> {
     let cases = [
         ["wreplay"].as_slice(),
-        ["wreplay", "record", "m", "p", "--threads"].as_slice(),
+        ["wreplay", "replay", "m", "p", "l", "--threads"].as_slice(),
         ["wreplay", "gather", "pieces.txt"].as_slice(),
         ["wreplay", "gather", "--fast"].as_slice(),
     ];
     for words in cases {
-        let unknown = try_out(rt.alloc(), gathering(words, "zz"));
+        let unknown = try_out(&rt, rt.alloc(), gathering(words, "zz"));
         assert_eq!(rt; unknown.status, 2);
         assert_eq!(rt; text(&unknown.output), "");
         assert!(rt; text(&unknown.errors).starts_with("error: "));
@@ -234,6 +266,8 @@ struct OneFile<'a> {
 }
 
 impl<'a> Files for OneFile<'a> {
+    type Stream = MemorySource<'a>;
+
     ghost holds = { λ files path bytes. Unit {0} };
 
     ghost fails = { λ files path. Unit {0} };
@@ -249,10 +283,22 @@ impl<'a> Files for OneFile<'a> {
         }
         copied(alloc, self.bytes, most)
     }
+
+    fn open(&mut self, _alloc: Global, path: &str) -> Result<MemorySource<'a>, FileFault> {
+        if path != self.path {
+            return Err(FileFault::NotRead);
+        }
+        Ok(MemorySource::new(self.bytes, 65536, None))
+    }
 }
 
 /// Runs `check` of the file `m.wasm`, which has these bytes.
-fn check_of(alloc: Global, path: &str, bytes: &[u8]) -> Done {
+fn check_of<T: Threads + Wait + Sync>(
+    threads: &T,
+    alloc: Global,
+    path: &str,
+    bytes: &[u8],
+) -> Done {
     let mut files = OneFile {
         path: "m.wasm",
         bytes,
@@ -263,6 +309,7 @@ fn check_of(alloc: Global, path: &str, bytes: &[u8]) -> Done {
     let mut errors = MemorySink::new(alloc, 65536, None);
     let status = run(
         &Discard,
+        threads,
         alloc,
         words.as_slice(),
         &mut files,
@@ -279,7 +326,7 @@ fn check_of(alloc: Global, path: &str, bytes: &[u8]) -> Done {
 
 #[test]
 fn checks_a_module(rt: HostRuntime) -> Result<(), Fail> {
-    let done = check_of(rt.alloc(), "m.wasm", &COUNTER);
+    let done = check_of(&rt, rt.alloc(), "m.wasm", &COUNTER);
     assert_eq!(rt; text(&done.errors), "");
     assert_eq!(rt; done.status, 0);
     assert_eq!(rt;
@@ -304,12 +351,12 @@ fn says_why_it_refuses_a_module(rt: HostRuntime) -> Result<(), Fail> {
         let mut bytes = COUNTER;
         bytes[at] = first;
         bytes[at + 1] = second;
-        let refused = check_of(alloc, "m.wasm", &bytes);
+        let refused = check_of(&rt, alloc, "m.wasm", &bytes);
         assert_eq!(rt; text(&refused.errors), line);
         assert_eq!(rt; refused.status, 1);
         assert_eq!(rt; text(&refused.output), "");
     }
-    let missing = check_of(alloc, "n.wasm", &COUNTER);
+    let missing = check_of(&rt, alloc, "n.wasm", &COUNTER);
     assert_eq!(rt; text(&missing.errors), "refused 44 SourceFailed\n");
     assert_eq!(rt; missing.status, 1);
     Ok(())

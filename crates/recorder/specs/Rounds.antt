@@ -7,13 +7,12 @@ use Rattle.event_core.specs.declared.pick.Pick.{Pick}
 use Rattle.event_core.specs.declared.pick.Input.TheVariants.{Go}
 use Rattle.event_core.specs.Threads.{ThreadAt}
 use Rattle.event_core.specs.World.{WorldAt}
-use Rattle.event_core.specs.End.{RunEnd}
 use Rattle.event_core.specs.Run.{world_run, IsRun, entries, end_of_world}
 use Rattle.replay_laws.specs.RunLog.{end_of_thread}
 use Rattle.replay_laws.specs.Turns.{pick_of}
 use Rattle.recorder.specs.Picks.{is_taken}
 use Rattle.recorder.specs.Recorded.{list_at}
-use Rattle.recorder.specs.ThreadLogAt.{ThreadLogAt}
+use Rattle.recorder.specs.ThreadLogAt.{RecordedAt}
 
 -- no pick is a time-out
 abbrev pub AllGo : List Pick → Type 0
@@ -41,12 +40,14 @@ module _ {State Op Reply Value Fixed : Type 0} (space : Space Op Reply Value Fix
     pub lists : length after ≡ length u.threads
     pub size : length u.threads ≡ length w.threads
 
-  -- threads whose entries were these went on from a world until none could, and what they logged then, and the end, are these
-  pub record IsDone (steps : ℕ) (w : WorldAt State Value Fixed) (before : List (List Entry)) (threads : List ThreadLogAt) (end : RunEnd) : Type 0 where
+  -- threads whose entries were these went on from a world until none could, and what they logged then, and the end, are
+  -- recorded; no pick was passed over
+  pub record IsDone (steps : ℕ) (w : WorldAt State Value Fixed) (before : List (List Entry)) (recorded : RecordedAt) : Type 0 where
     pub last : WorldAt State Value Fixed
     pub after : List (List Entry)
     pub goes : GoesBy steps w last before after
     pub none : NoneGoes steps last
-    pub logged : map (λ l. l.entries) threads ≡ after
-    pub ends : map (λ l. l.end) threads ≡ map (end_of_thread code) last.threads
-    pub ended : end ≡ end_of_world space code last
+    pub logged : map (λ l. l.entries) recorded.threads ≡ after
+    pub ends : map (λ l. l.end) recorded.threads ≡ map (end_of_thread code) last.threads
+    pub ended : recorded.end ≡ end_of_world space code last
+    pub none_passed : recorded.passed ≡ 0

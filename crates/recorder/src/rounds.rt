@@ -91,7 +91,7 @@ pub fn record_rest<M: Machine<S> + Drop, S: ObjectSpace + Drop, R: Wait>(
     steps: u32,
 ) -> Result<Recorded, NoMemory>
     requires { length entries.items ≡ length (world_of world).threads }
-    ensures { IfOk result (λ recorded. IsDone S.meaning M.code steps (world_of world) entries.items recorded.threads recorded.end) }
+    ensures { IfOk result (IsDone S.meaning M.code steps (world_of world) entries.items) }
 {
     let mut logs = Logs::of(entries);
     finish(rt, &mut world, &mut logs, steps)?;

@@ -8,6 +8,7 @@ use Rattle.log_pieces.specs.Line.{IsLineOf}
 use Rattle.replica.specs.declared.log.Log.{Log}
 use Rattle.replica.specs.declared.replica.Replica.{Replica}
 use Rattle.replica.specs.Log.{key_of, log_of}
+use Rattle.replica.specs.declared.form.ListingForm.{ListingForm}
 use Rattle.replica.specs.Listing.{listing, empty_listing}
 use Rattle.replica.specs.LogOf.{IsLogOf, Among}
 use Rattle.replica.specs.Lines.{HasNoEnd}
@@ -106,9 +107,9 @@ module _ {Source : Type 0} (brings : List ℕ → Source → Type 0) (step : Sou
     )
 
 -- the listing of what was collected went where `takes` says
-pub lists_found : {Source : Type 0} (brings : List ℕ → Source → Type 0) (ended : Type 0) (source : Source) (takes : List ℕ → Type 0) (found : Option Replica)
-    → ((replica : Replica) → found ≡ Some replica → Collects brings ended source (log_of replica)) → (found ≡ None → brings [] source × ended) → found_ordered found → takes (found_listing found) → Lists brings ended source takes
-lists_found brings ended source takes None some none rising taken = record {
+pub lists_found : (form : ListingForm) {Source : Type 0} (brings : List ℕ → Source → Type 0) (ended : Type 0) (source : Source) (takes : List ℕ → Type 0) (found : Option Replica)
+    → ((replica : Replica) → found ≡ Some replica → Collects brings ended source (log_of replica)) → (found ≡ None → brings [] source × ended) → found_ordered found → takes (found_listing form found) → Lists brings form ended source takes
+lists_found form brings ended source takes None some none rising taken = record {
   text = [];
   came = (none refl).0;
   end = (none refl).1;
@@ -118,8 +119,8 @@ lists_found brings ended source takes None some none rising taken = record {
   is_listing = refl;
   taken = taken;
 }
-lists_found brings ended source takes (Some replica) some none rising taken = let h = some replica refl in listed h h.pieces h.lines h.some h.gathered where
-  listed : (h : Collects brings ended source (log_of replica)) (pieces : List PieceValue) → IsText h.text pieces → 0 < length pieces → IsGathered pieces (log_of replica) → Lists brings ended source takes
+lists_found form brings ended source takes (Some replica) some none rising taken = let h = some replica refl in listed h h.pieces h.lines h.some h.gathered where
+  listed : (h : Collects brings ended source (log_of replica)) (pieces : List PieceValue) → IsText h.text pieces → 0 < length pieces → IsGathered pieces (log_of replica) → Lists brings form ended source takes
   listed h [] lines few gathered = absurd (omega arith)
   listed h (first ∷ pieces) lines few gathered = record {
     text = h.text;
@@ -127,7 +128,7 @@ lists_found brings ended source takes (Some replica) some none rising taken = le
     end = h.end;
     pieces = first ∷ pieces;
     lines = lines;
-    listed = listing (log_of replica);
+    listed = listing form (log_of replica);
     is_listing = (log_of replica, gathered, rising, refl);
     taken = taken;
   }

@@ -8,6 +8,7 @@ use Rattle.replica.specs.declared.replica.Replica.{Replica}
 use Rattle.replica.specs.declared.skipping.Skipped.{Skipped}
 use Rattle.replica.specs.Log.{key_of, log_of}
 use Rattle.replica.specs.LogOf.{IsLogOf, Among}
+use Rattle.replica.specs.declared.form.ListingForm.{ListingForm}
 use Rattle.replica.specs.Gathered.{AreOfRun, IsGathered, IsListing, found_listing, found_ordered}
 use Rattle.replica.specs.Judged.{good, AreThoseOf, AreKept, in_u64, IsFound, HasFound, Finds, Skips}
 use Rattle.replica.proofs.RestLemmas.{run_push, log_like}
@@ -192,9 +193,9 @@ module _ (lines : List (Option PieceValue)) (found : Option Replica) (old : Skip
           }
 
 -- the listing of what was found went where `takes` says
-pub skips_found : {Source : Type 0} (brings : List ℕ → Source → Type 0) (ended : Type 0) (source : Source) (skipped : Skipped) (takes : List ℕ → Type 0) (found : Option Replica)
-    → Finds brings ended source found skipped → found_ordered found → takes (found_listing found) → Skips brings ended source skipped takes
-skips_found brings ended source skipped takes found h rising taken = record {
+pub skips_found : (form : ListingForm) {Source : Type 0} (brings : List ℕ → Source → Type 0) (ended : Type 0) (source : Source) (skipped : Skipped) (takes : List ℕ → Type 0) (found : Option Replica)
+    → Finds brings ended source found skipped → found_ordered found → takes (found_listing form found) → Skips brings form ended source skipped takes
+skips_found form brings ended source skipped takes found h rising taken = record {
   text = h.text;
   came = h.came;
   end = h.end;
@@ -202,10 +203,10 @@ skips_found brings ended source skipped takes found h rising taken = record {
   judged = h.judged;
   kept = h.has_found.kept;
   is_skipped = h.has_found.is_skipped;
-  listed = found_listing found;
+  listed = found_listing form found;
   is_listing = listed h.has_found.kept found h.has_found.is_found rising;
   taken = taken;
 } where
-  listed : (kept : List PieceValue) (found : Option Replica) → IsFound kept found → found_ordered found → IsListing kept (found_listing found)
-  listed [] found is rising = ap (λ (o : Option Replica). found_listing o) is
-  listed (first ∷ pieces) found is rising = (log_of is.0, is.2, subst (λ (o : Option Replica). found_ordered o) is.1 rising, ap (λ (o : Option Replica). found_listing o) is.1)
+  listed : (kept : List PieceValue) (found : Option Replica) → IsFound kept found → found_ordered found → IsListing form kept (found_listing form found)
+  listed [] found is rising = ap (λ (o : Option Replica). found_listing form o) is
+  listed (first ∷ pieces) found is rising = (log_of is.0, is.2, subst (λ (o : Option Replica). found_ordered o) is.1 rising, ap (λ (o : Option Replica). found_listing form o) is.1)

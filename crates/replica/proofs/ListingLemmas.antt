@@ -1,15 +1,15 @@
 -- The lines of the threads of a log.
-use Rattle.std.proofs.Common.{◌≡◌, ℕ, zero, suc, ◌+◌, ◌<◌, List, [], ◌∷◌, ◌++◌, length, get_or, take, sym, ap, ◌∙◌, arith, append_assoc}
+use Rattle.std.proofs.Common.{◌≡◌, ℕ, zero, suc, ◌+◌, ◌<◌, List, [], ◌∷◌, ◌++◌, length, get_or, take, Option, sym, ap, ◌∙◌, arith, append_assoc}
 use Rattle.std.proofs.lemmas.List.{append-nil}
 use Rattle.replica.specs.declared.thread_log.ThreadLog.{ThreadLog}
 use Rattle.replica.specs.Listing.{thread_lines, lines_from}
 
 -- the lines of one thread more
-pub lines_more : (first i : ℕ) (logs : List ThreadLog) (d : ThreadLog) → i < length logs → lines_from first (take (i + 1) logs) ≡ lines_from first (take i logs) ++ thread_lines (first + i) (get_or logs i d)
-lines_more first i [] d lt = absurd (omega arith)
-lines_more first zero (log ∷ logs) d lt = let e : first + 0 ≡ first = omega arith in append-nil (thread_lines first log) ∙ ap (λ (t : ℕ). thread_lines t log) (sym e)
-lines_more first (suc i) (log ∷ logs) d lt =
+pub lines_more : (blocks : Option ℕ) (first i : ℕ) (logs : List ThreadLog) (d : ThreadLog) → i < length logs → lines_from blocks first (take (i + 1) logs) ≡ lines_from blocks first (take i logs) ++ thread_lines blocks (first + i) (get_or logs i d)
+lines_more blocks first i [] d lt = absurd (omega arith)
+lines_more blocks first zero (log ∷ logs) d lt = let e : first + 0 ≡ first = omega arith in append-nil (thread_lines blocks first log) ∙ ap (λ (t : ℕ). thread_lines blocks t log) (sym e)
+lines_more blocks first (suc i) (log ∷ logs) d lt =
     let more : suc i + 1 ≡ suc (i + 1) = omega arith in
     let at : suc first + i ≡ first + suc i = omega arith in
-    rw more (ap (λ (l : List ℕ). thread_lines first log ++ l) (lines_more (suc first) i logs d (omega arith) ∙ ap (λ (t : ℕ). lines_from (suc first) (take i logs) ++ thread_lines t (get_or logs i d)) at)
-    ∙ sym (append_assoc (thread_lines first log) (lines_from (suc first) (take i logs)) (thread_lines (first + suc i) (get_or logs i d))))
+    rw more (ap (λ (l : List ℕ). thread_lines blocks first log ++ l) (lines_more blocks (suc first) i logs d (omega arith) ∙ ap (λ (t : ℕ). lines_from blocks (suc first) (take i logs) ++ thread_lines blocks t (get_or logs i d)) at)
+    ∙ sym (append_assoc (thread_lines blocks first log) (lines_from blocks (suc first) (take i logs)) (thread_lines blocks (first + suc i) (get_or logs i d))))

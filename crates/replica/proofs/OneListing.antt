@@ -18,6 +18,7 @@ use Rattle.replica.specs.declared.thread_log.ThreadLog.{ThreadLog}
 use Rattle.replica.specs.declared.log.Log.{Log}
 use Rattle.replica.specs.Log.{key_of, entry_of, end_of}
 use Rattle.replica.specs.LogOf.{Among, IsOrdered, IsSameLog}
+use Rattle.replica.specs.declared.form.ListingForm.{ListingForm}
 use Rattle.replica.specs.Listing.{listing}
 use Rattle.replica.specs.Gathered.{IsListing, AreOfRun}
 use Rattle.replica.proofs.Counting.{Rises, rises, nothing_at}
@@ -82,11 +83,11 @@ same_threads (a ∷ ts) (b ∷ us) many ra rb entries ends =
     let rest = same_threads ts us (omega arith) (λ i t is. ra (suc i) t is) (λ i t is. rb (suc i) t is) (λ i place. entries (suc i) place) (λ i. ends (suc i)) in
     ap (λ (t : ThreadLog). t ∷ ts) thread ∙ ap (λ (l : List ThreadLog). b ∷ l) rest
 
-pub same_listing : (a b : Log) → key_of a ≡ key_of b → IsOrdered a → IsOrdered b → IsSameLog a b → listing a ≡ listing b
-same_listing a b key oa ob same =
+pub same_listing : (form : ListingForm) (a b : Log) → key_of a ≡ key_of b → IsOrdered a → IsOrdered b → IsSameLog a b → listing form a ≡ listing form b
+same_listing form a b key oa ob same =
     let threads = same_threads a.threads b.threads (oa.sixteen ∙ sym ob.sixteen) oa.rising ob.rising same.entries same.ends in
     let log : a ≡ b = ap (λ (k : RunKey). record a { key = k }) key ∙ ap (λ (ts : List ThreadLog). record b { threads = ts }) threads in
-    ap listing log
+    ap (listing form) log
 
 -- the run of a piece of the set is the log's
 run_among : (key : RunKey) (ps : List PieceValue) (piece : PieceValue) → AreOfRun key ps → Among ps piece → piece.key ≡ key
@@ -97,10 +98,10 @@ run_among key (p ∷ ps) piece run among = elim among [
 ]
 
 pub one_listing : (ps qs : List PieceValue) → ((piece : PieceValue) → Among ps piece → Among qs piece) → ((piece : PieceValue) → Among qs piece → Among ps piece)
-    → (text other : List ℕ) → IsListing ps text → IsListing qs other → text ≡ other
-one_listing [] [] there back text other lp lq = lp ∙ sym lq
-one_listing [] (q ∷ qs) there back text other lp lq = absurd (back q (inl refl))
-one_listing (p ∷ ps) [] there back text other lp lq = absurd (there p (inl refl))
-one_listing (p ∷ ps) (q ∷ qs) there back text other lp lq =
+    → (form : ListingForm) (text other : List ℕ) → IsListing form ps text → IsListing form qs other → text ≡ other
+one_listing [] [] there back form text other lp lq = lp ∙ sym lq
+one_listing [] (q ∷ qs) there back form text other lp lq = absurd (back q (inl refl))
+one_listing (p ∷ ps) [] there back form text other lp lq = absurd (there p (inl refl))
+one_listing (p ∷ ps) (q ∷ qs) there back form text other lp lq =
     let key : key_of lp.0 ≡ key_of lq.0 = sym (run_among (key_of lp.0) (p ∷ ps) p lp.1.run (inl refl)) ∙ run_among (key_of lq.0) (q ∷ qs) p lq.1.run (there p (inl refl)) in
-    lp.3 ∙ same_listing lp.0 lq.0 key lp.2 lq.2 (one_log (p ∷ ps) (q ∷ qs) there back lp.0 lq.0 lp.1.items lq.1.items) ∙ sym lq.3
+    lp.3 ∙ same_listing form lp.0 lq.0 key lp.2 lq.2 (one_log (p ∷ ps) (q ∷ qs) there back lp.0 lq.0 lp.1.items lq.1.items) ∙ sym lq.3

@@ -10,6 +10,7 @@ use Rattle.replica.specs.declared.replica.Replica.{Replica}
 use Rattle.replica.specs.Log.{key_of, log_of}
 use Rattle.replica.specs.LogOf.{IsLogOf, Among, IsOrdered}
 use Rattle.replica.specs.Lines.{HasNoEnd}
+use Rattle.replica.specs.declared.form.ListingForm.{ListingForm}
 use Rattle.replica.specs.Listing.{listing, empty_listing}
 
 -- the text is the lines of these pieces
@@ -80,9 +81,9 @@ pub record IsGathered (pieces : List PieceValue) (log : Log) : Type 0 where
   pub run : AreOfRun (key_of log) pieces
 
 -- the listing of the log of these pieces, or that of no piece
-abbrev pub IsListing : List PieceValue → List ℕ → Type 0
-IsListing [] text = text ≡ empty_listing
-IsListing (first ∷ pieces) text = (log : Log) × IsGathered (first ∷ pieces) log × IsOrdered log × (text ≡ listing log)
+abbrev pub IsListing : ListingForm → List PieceValue → List ℕ → Type 0
+IsListing form [] text = text ≡ empty_listing
+IsListing form (first ∷ pieces) text = (log : Log) × IsGathered (first ∷ pieces) log × IsOrdered log × (text ≡ listing form log)
 
 -- what was collected stands by rising place
 abbrev pub found_ordered : Option Replica → Type 0
@@ -90,9 +91,9 @@ found_ordered None = Unit {0}
 found_ordered (Some replica) = IsOrdered (log_of replica)
 
 -- the listing of what was collected
-abbrev pub found_listing : Option Replica → List ℕ
-found_listing None = empty_listing
-found_listing (Some replica) = listing (log_of replica)
+abbrev pub found_listing : ListingForm → Option Replica → List ℕ
+found_listing form None = empty_listing
+found_listing form (Some replica) = listing form (log_of replica)
 
 module _ {Source : Type 0} (brings : List ℕ → Source → Type 0) where
   -- the source brought lines of pieces, up to its end, and this is the log of the set of these pieces
@@ -110,12 +111,12 @@ module _ {Source : Type 0} (brings : List ℕ → Source → Type 0) where
   Refuses source refused = (text : List ℕ) × brings text source × refused text
 
   -- the source brought lines of pieces, up to its end, and their listing went where `takes` says
-  pub record Lists (ended : Type 0) (source : Source) (takes : List ℕ → Type 0) : Type 0 where
+  pub record Lists (form : ListingForm) (ended : Type 0) (source : Source) (takes : List ℕ → Type 0) : Type 0 where
     pub text : List ℕ
     pub came : brings text source
     pub end : ended
     pub pieces : List PieceValue
     pub lines : IsText text pieces
     pub listed : List ℕ
-    pub is_listing : IsListing pieces listed
+    pub is_listing : IsListing form pieces listed
     pub taken : takes listed

@@ -4,6 +4,7 @@ use Rattle.wasm_types.specs.declared.key.RunKey.{RunKey}
 use Rattle.log_pieces.specs.Piece.{PieceValue}
 use Rattle.log_pieces.specs.Line.{IsLineOf}
 use Rattle.replica.specs.declared.replica.Replica.{Replica}
+use Rattle.replica.specs.declared.form.ListingForm.{ListingForm}
 use Rattle.replica.specs.declared.skipping.Skipped.{Skipped}
 use Rattle.replica.specs.Log.{log_of}
 use Rattle.replica.specs.Lines.{HasNoEnd}
@@ -84,7 +85,7 @@ module _ {Source : Type 0} (brings : List ℕ → Source → Type 0) where
     pub has_found : HasFound lines found skipped
 
   -- the source brought a text, up to its end, and the listing of the pieces that are kept of its lines went where `takes` says
-  pub record Skips (ended : Type 0) (source : Source) (skipped : Skipped) (takes : List ℕ → Type 0) : Type 0 where
+  pub record Skips (form : ListingForm) (ended : Type 0) (source : Source) (skipped : Skipped) (takes : List ℕ → Type 0) : Type 0 where
     pub text : List ℕ
     pub came : brings text source
     pub end : ended
@@ -93,5 +94,5 @@ module _ {Source : Type 0} (brings : List ℕ → Source → Type 0) where
     pub kept : List PieceValue
     pub is_skipped : IsSkipped lines skipped kept
     pub listed : List ℕ
-    pub is_listing : IsListing kept listed
+    pub is_listing : IsListing form kept listed
     pub taken : takes listed

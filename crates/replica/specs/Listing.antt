@@ -12,14 +12,16 @@ use Rattle.join_laws.specs.declared.flat.Flat.TheVariants.{Known, Clash}
 use Rattle.replica.specs.declared.thread_log.ThreadLog.{ThreadLog}
 use Rattle.replica.specs.declared.log.Log.{Log}
 use Rattle.replica.specs.Counts.{ends, missing, strays, clashes}
+use Rattle.replica.specs.declared.form.ListingForm.{ListingForm}
+use Rattle.replica.specs.Objects.{blocks_of, objects_text}
 
 abbrev pub item_text : Flat Entry → List ℕ
 item_text (Known entry) = entry_text entry
 item_text Clash = codes "clash"
 
--- `T.P` and the entry, or `clash`
-abbrev pub item_line : ℕ → ℕ × Flat Entry → List ℕ
-item_line thread e = decimal thread ++ codes "." ++ decimal e.0 ++ codes " " ++ item_text e.1 ++ 10 ∷ []
+-- `T.P` and the entry, or `clash`; where objects are told, which bytes those are that the entry touches
+abbrev pub item_line : Option ℕ → ℕ → ℕ × Flat Entry → List ℕ
+item_line blocks thread e = decimal thread ++ codes "." ++ decimal e.0 ++ codes " " ++ item_text e.1 ++ objects_text blocks e.1 ++ 10 ∷ []
 
 abbrev pub claimed_end_text : Flat End → List ℕ
 claimed_end_text (Known end) = end_text end
@@ -30,19 +32,19 @@ abbrev pub end_line : ℕ → Option (Flat End) → List ℕ
 end_line thread None = []
 end_line thread (Some end) = decimal thread ++ codes " end " ++ claimed_end_text end ++ 10 ∷ []
 
-abbrev pub thread_lines : ℕ → ThreadLog → List ℕ
-thread_lines thread log = flat_map (item_line thread) log.entries ++ end_line thread log.end
+abbrev pub thread_lines : Option ℕ → ℕ → ThreadLog → List ℕ
+thread_lines blocks thread log = flat_map (item_line blocks thread) log.entries ++ end_line thread log.end
 
-abbrev pub lines_from : ℕ → List ThreadLog → List ℕ
-lines_from thread [] = []
-lines_from thread (log ∷ logs) = thread_lines thread log ++ lines_from (suc thread) logs
+abbrev pub lines_from : Option ℕ → ℕ → List ThreadLog → List ℕ
+lines_from blocks thread [] = []
+lines_from blocks thread (log ∷ logs) = thread_lines blocks thread log ++ lines_from blocks (suc thread) logs
 
 abbrev pub counts_line : ℕ → ℕ → ℕ → ℕ → List ℕ
 counts_line ends missing strays clashes =
     codes "ends " ++ decimal ends ++ codes " missing " ++ decimal missing ++ codes " strays " ++ decimal strays ++ codes " clashes " ++ decimal clashes ++ 10 ∷ []
 
-abbrev pub listing : Log → List ℕ
-listing log = codes "run " ++ key_text log.key ++ 10 ∷ [] ++ lines_from 0 log.threads ++ counts_line (ends log) (missing log) (strays log) (clashes log)
+abbrev pub listing : ListingForm → Log → List ℕ
+listing form log = codes "run " ++ key_text log.key ++ 10 ∷ [] ++ lines_from (blocks_of form log.key.profile) 0 log.threads ++ counts_line (ends log) (missing log) (strays log) (clashes log)
 
 -- the listing where no piece came
 abbrev pub empty_listing : List ℕ

@@ -3,6 +3,7 @@
 ghost use Rattle.std.specs.Prelude.{◌≡◌, ℕ, List};
 ghost use Rattle.replica.specs.Gathered.{IsListing};
 ghost use Rattle.log_pieces.specs.Piece.{PieceValue};
+ghost use Rattle.replica.specs.declared.form.ListingForm.{ListingForm};
 ghost use Rattle.replica.specs.declared.log.Log.{Log};
 ghost use Rattle.replica.specs.LogOf.{IsLogOf, Among, IsJoinedWith, IsSameLog, first_items};
 ghost use Rattle.replica.specs.Claims.{claims_of, HasLimits};
@@ -15,11 +16,11 @@ pub fn same_pieces_make_one_log()
         → (a b : Log) → IsLogOf (Among ps) a → IsLogOf (Among qs) b → IsSameLog a b }
 {}
 
-/// A law of listings alone: the same set of pieces has one listing, byte for byte, whatever the order of the pieces and
+/// A law of listings alone: the same set of pieces has one listing of a form, byte for byte, whatever the order of the pieces and
 /// their repeats.
 pub fn same_pieces_have_one_listing()
     ensures { (ps qs : List PieceValue) → ((piece : PieceValue) → Among ps piece → Among qs piece) → ((piece : PieceValue) → Among qs piece → Among ps piece)
-        → (text other : List ℕ) → IsListing ps text → IsListing qs other → text ≡ other }
+        → (form : ListingForm) (text other : List ℕ) → IsListing form ps text → IsListing form qs other → text ≡ other }
 {}
 
 /// A law of logs alone: a log joined with the first items of a piece, and then with the piece, is joined with the piece.

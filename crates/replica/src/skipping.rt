@@ -8,6 +8,7 @@ ghost use Rattle.replica.specs.declared.skipping.Skipped.{Skipped};
 ghost use Rattle.replica.specs.declared.fault.GatherFault.TheVariants as faults;
 
 use crate::fault::{GatherFault, ReplicaFault};
+use crate::form::ListingForm;
 use crate::gathering::{replica_of, write_found};
 use crate::judging::{Judged, next_whole};
 use crate::lines::Chunk;
@@ -115,15 +116,16 @@ pub fn gather_skipping<R: Source, W: Sink>(
     alloc: Global,
     source: &mut R,
     sink: &mut W,
+    form: ListingForm,
 ) -> Result<Skipped, GatherFault>
     requires source { R.failed source.old < 2 ^ 64 - 1 }
     requires sink { W.failed sink.old < 2 ^ 64 - 1 }
     // The sink took the listing of the log of the set of the pieces of the first piece line's run, and so many of the
     // lines that the source brought are no piece lines, so many of other runs.
-    ensures listed { IfOk result (λ skipped. Skips (R.brings source.old) (R.ended source.new) source.new skipped (λ listed. W.takes sink.old listed sink.new)) }
+    ensures listed { IfOk result (λ skipped. Skips (R.brings source.old) form (R.ended source.new) source.new skipped (λ listed. W.takes sink.old listed sink.new)) }
     // Source and sink failed exactly where their counts of failures grew; after a failing sink a beginning of the listing was taken.
     ensures source_failed { result ≡ Err faults.SourceFailed → R.failed source.new ≡ R.failed source.old + 1 }
-    ensures sink_failed { result ≡ Err faults.SinkFailed → ((skipped : Skipped) × Skips (R.brings source.old) (R.ended source.new) source.new skipped (λ listed. (part rest : List ℕ) × (listed ≡ part ++ rest) × W.takes sink.old part sink.new)) × (W.failed sink.new ≡ W.failed sink.old + 1) }
+    ensures sink_failed { result ≡ Err faults.SinkFailed → ((skipped : Skipped) × Skips (R.brings source.old) form (R.ended source.new) source.new skipped (λ listed. (part rest : List ℕ) × (listed ≡ part ++ rest) × W.takes sink.old part sink.new)) × (W.failed sink.new ≡ W.failed sink.old + 1) }
     ensures source_worked { (result ≡ Err faults.SourceFailed → ⊥) → R.failed source.new ≡ R.failed source.old }
     ensures sink_worked { (result ≡ Err faults.SinkFailed → ⊥) → W.failed sink.new ≡ W.failed sink.old }
     // Otherwise nothing was written.
@@ -132,7 +134,7 @@ pub fn gather_skipping<R: Source, W: Sink>(
     ensures errors { IfErr result IsDeviceFault }
 {
     match find(alloc, source) {
-        Ok(found) => match write_found(alloc, sink, &found.replica) {
+        Ok(found) => match write_found(alloc, sink, form, &found.replica) {
             Ok(()) => Ok(found.skipped),
             Err(fault) => Err(fault),
         },

@@ -1,5 +1,5 @@
 -- A module's memory has no more objects than its profile, and so its recorded runs keep the rules of pieces.
-use Rattle.std.proofs.Common.{◌≡◌, ℕ, ◌+◌, ◌*◌, ◌/◌, ◌^◌, ◌≤◌, List, map, Option, Some, None, sym, ap, subst, arith}
+use Rattle.std.proofs.Common.{◌≡◌, ℕ, ◌+◌, ◌*◌, ◌/◌, ◌^◌, ◌≤◌, Bool, List, map, Option, Some, None, sym, ap, subst, arith}
 use Rattle.std.specs.Prelude.{option_map}
 use Rattle.std.proofs.Math.Nat.{div-mul-le_self}
 use Rattle.std.proofs.lemmas.Nat.{le-div, pow_pos}
@@ -17,7 +17,9 @@ use Rattle.event_core.specs.declared.pick.Pick.{Pick}
 use Rattle.log_pieces.specs.Piece.{greatest_object}
 use Rattle.replay_laws.specs.Laws.{IsWholeRun}
 use Rattle.replay_laws.specs.RunLog.{run_log}
-use Rattle.recorder.specs.ThreadLogAt.{ThreadLogAt, log_of}
+use Rattle.recorder.specs.ThreadLogAt.{RecordedAt, ThreadLogAt, log_of}
+use Rattle.event_core.specs.Opening.{IsOpeningWorld}
+use Rattle.workers.specs.Recording.{IsRecording}
 use Rattle.run_pieces.specs.Keeps.{KeepsRules}
 use Rattle.run_pieces.proofs.Keeping.{recorded_runs_keep_rules}
 use Rattle.thread_code.specs.ThreadCode.{ThreadAt, thread_code}
@@ -52,3 +54,8 @@ module _ (m : Module) (plan : PlanValue) (block : ℕ) where
   recording_keeps key w ps threads is opens whole same =
       recorded_runs_keep_rules shared_memory thread_code memory_laws threads_are_machines w ps whole key
       (subst (λ profile. shared_memory.objects w.memory.fixed ≤ greatest_object profile + 1) (sym is) (objects_fit w opens)) threads same
+
+  -- a recording by threads, whatever bounds it, keeps them
+  pub threads_keep : (key : RunKey) (may : ℕ → ThreadAt → Bool) (steps : ℕ) (w : WasmWorld) (recorded : RecordedAt) → key.profile ≡ Two block → opening_world_of m plan (Two block) ≡ Some w
+      → IsOpeningWorld thread_code w → IsRecording shared_memory thread_code may steps w recorded → KeepsRules key recorded.threads
+  threads_keep key may steps w recorded is opens opening r = recording_keeps key w r.picks recorded.threads is opens (record { opening = opening; run = r.run }) r.log

@@ -1,5 +1,5 @@
 -- Recordings of the runs of a module and a plan.
-use Rattle.std.specs.Prelude.{◌≡◌, ℕ, ◌++◌, List, Some}
+use Rattle.std.specs.Prelude.{◌≡◌, ℕ, ◌++◌, Bool, List, Some}
 use Rattle.sha2.specs.Sha256.{sha256}
 use Rattle.wasm_types.specs.declared.key.Profile.{Profile}
 use Rattle.wasm_types.specs.declared.key.RunKey.{RunKey}
@@ -8,12 +8,13 @@ use Rattle.block_objects.specs.SharedMemory.{shared_memory}
 use Rattle.event_core.specs.declared.pick.Pick.{Pick}
 use Rattle.event_core.specs.Run.{IsRun, run_end}
 use Rattle.thread_plan.specs.Plans.{PlanValue}
-use Rattle.thread_code.specs.ThreadCode.{thread_code}
+use Rattle.thread_code.specs.ThreadCode.{ThreadAt, thread_code}
 use Rattle.log_pieces.specs.Piece.{PieceValue}
 use Rattle.replay_laws.specs.RunLog.{run_log}
 use Rattle.recorder.specs.Picks.{picks_taken, picks_passed}
 use Rattle.recorder.specs.ThreadLogAt.{RecordedAt, log_of}
 use Rattle.run_pieces.specs.PieceOf.{ArePiecesOf}
+use Rattle.workers.specs.Recording.{IsRecording}
 use Rattle.wasm_world.specs.Opening.{WasmWorld, opening_world_of}
 
 -- which run, and what was recorded of it
@@ -36,7 +37,20 @@ pub record RecordsRun (m : Module) (plan : PlanValue) (profile : Profile) (picks
   pub end : recorded.end ≡ run_end shared_memory thread_code world (picks_taken shared_memory thread_code steps world picks)
   pub passed : recorded.passed ≡ picks_passed shared_memory thread_code steps world picks
 
--- pieces of each run that was so recorded; and the joined log of these pieces is the run's log
+-- from the opening world some picks are a run, of which the log and the end are recorded: no thread made more than so many
+-- steps, none that made fewer can go on, and a thread timed out only where it may
+pub record RecordsThreads (m : Module) (plan : PlanValue) (profile : Profile) (may : ℕ → ThreadAt → Bool) (steps : ℕ) (recorded : RecordedAt) : Type 0 where
+  pub world : WasmWorld
+  pub opens : opening_world_of m plan profile ≡ Some world
+  pub recording : IsRecording shared_memory thread_code may steps world recorded
+
+-- the picks are a run of the module and the plan, of which the log is recorded
+pub record HasLogOf (m : Module) (plan : PlanValue) (profile : Profile) (world : WasmWorld) (picks : List Pick) (recorded : RecordedAt) : Type 0 where
+  pub opens : opening_world_of m plan profile ≡ Some world
+  pub run : IsRun shared_memory thread_code world picks
+  pub log : log_of recorded.threads ≡ run_log shared_memory thread_code world picks
+
+-- pieces of each run of which the log is recorded; and the joined log of these pieces is the run's log
 abbrev pub ArePiecesOfRun : RunKey → RecordedAt → List PieceValue → Type 0
-ArePiecesOfRun key recorded pieces = (m : Module) (plan : PlanValue) (profile : Profile) (picks : List Pick) (steps : ℕ) → (run : RecordsRun m plan profile picks steps recorded)
-    → ArePiecesOf key (run_log shared_memory thread_code run.world (picks_taken shared_memory thread_code steps run.world picks)) pieces
+ArePiecesOfRun key recorded pieces = (m : Module) (plan : PlanValue) (profile : Profile) (world : WasmWorld) (picks : List Pick) → HasLogOf m plan profile world picks recorded
+    → ArePiecesOf key (run_log shared_memory thread_code world picks) pieces

@@ -20,8 +20,8 @@ use wasm_world::open_world;
 /// A recorded run of a module and a plan. Contracts see its key and what was recorded, of which each part is a piece.
 #[derive(Drop)]
 pub struct Recording {
-    key: RunKey,
-    recorded: Recorded,
+    pub(crate) key: RunKey,
+    pub(crate) recorded: Recorded,
 }
 
 impl Model for Recording {

@@ -1,5 +1,5 @@
 -- Where the replay of a gathered log stops, of the log and the opening world that it was handed.
-use Rattle.std.proofs.Common.{◌≡◌, ℕ, ◌+◌, ◌<◌, List, length, refl, ap, ◌∙◌, subst}
+use Rattle.std.proofs.Common.{◌≡◌, ℕ, ◌+◌, ◌<◌, Bool, List, length, refl, ap, ◌∙◌, subst}
 use Rattle.std.proofs.lemmas.Option.{slice_get_within}
 use Rattle.block_objects.specs.SharedMemory.{shared_memory}
 use Rattle.thread_code.specs.ThreadCode.{thread_code}
@@ -22,6 +22,7 @@ use Rattle.debug_views.specs.declared.fault.ViewFault.TheVariants as showing
 use Rattle.wasm_replay.specs.Replays.{Opens, IsOfRun, IsOpenerOf, world_or_empty, opened_world, gathered_log}
 use Rattle.wasm_replay.specs.declared.opener.Opener.{Opener}
 use Rattle.wasm_view.specs.declared.viewing.WasmViewFault.TheVariants.{View}
+use Rattle.wasm_view.specs.Standing.{notes_if}
 use Rattle.wasm_view.specs.Views.{Stops, IsViewOfLog, IsNotViewed}
 
 module _ (m : Module) (plan : PlanValue) (log handed : GatheredLog) (order : List ℕ) (breaks : List Break) (opened v : WasmWorld) where
@@ -51,15 +52,16 @@ module _ (m : Module) (plan : PlanValue) (log handed : GatheredLog) (order : Lis
       (subst (λ (l : GatheredLog). ShowsRecorded shared_memory thread_code (gathered_log l) (opened_world o.valid.now o.plan.now o.profile) shown_at) same_log h))
 
   -- the view of the world at which it stopped
-  pub view_of : (shown_at : WasmWorld) (s : Stopped) (power from len : ℕ) (text : List ℕ) → StopsAt shared_memory thread_code (gathered_log handed) opened order breaks v s → handed ≡ log → ((w : WasmWorld) → Opens m plan log w → opened ≡ w)
-      → shown_at ≡ v → power ≡ block_power (key_of log).profile → IsView shared_memory thread_code shown_at power s breaks from len text
-      → ((w : WasmWorld) → Opens m plan log w → ShowsRecorded shared_memory thread_code (gathered_log log) w v) → IsViewOfLog m plan log order breaks from len text
-  view_of shown_at s power from len text h same_log same_world same_end same_power view recorded = record {
+  pub view_of : (names : Bool) (notes : List (List ℕ)) (shown_at : WasmWorld) (s : Stopped) (power from len : ℕ) (text : List ℕ) → StopsAt shared_memory thread_code (gathered_log handed) opened order breaks v s → handed ≡ log → ((w : WasmWorld) → Opens m plan log w → opened ≡ w)
+      → shown_at ≡ v → power ≡ block_power (key_of log).profile → notes ≡ notes_if names m.source shown_at.threads → IsView shared_memory thread_code shown_at power s breaks notes from len text
+      → ((w : WasmWorld) → Opens m plan log w → ShowsRecorded shared_memory thread_code (gathered_log log) w v) → IsViewOfLog m plan log order breaks names from len text
+  view_of names notes shown_at s power from len text h same_log same_world same_end same_power same_notes view recorded = record {
     world = v;
     stopped = s;
     stops = stops_of s h same_log same_world;
-    view = subst (λ (x : WasmWorld). IsView shared_memory thread_code x (block_power (key_of log).profile) s breaks from len text) same_end
-        (subst (λ (p : ℕ). IsView shared_memory thread_code shown_at p s breaks from len text) same_power view);
+    view = subst (λ (x : WasmWorld). IsView shared_memory thread_code x (block_power (key_of log).profile) s breaks (notes_if names m.source x.threads) from len text) same_end
+        (subst (λ (n : List (List ℕ)). IsView shared_memory thread_code shown_at (block_power (key_of log).profile) s breaks n from len text) same_notes
+        (subst (λ (p : ℕ). IsView shared_memory thread_code shown_at p s breaks notes from len text) same_power view));
     recorded = recorded;
   }
 

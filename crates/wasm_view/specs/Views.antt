@@ -1,5 +1,5 @@
 -- Views of gathered logs: where the replay from the opening world of a module and a plan stops, and what is shown there.
-use Rattle.std.specs.Prelude.{◌≡◌, ◌⊎◌, ℕ, ◌+◌, ◌<◌, List, length}
+use Rattle.std.specs.Prelude.{◌≡◌, ◌⊎◌, ℕ, ◌+◌, ◌<◌, Bool, List, length}
 use Rattle.wasm_types.specs.declared.modules.Module.{Module}
 use Rattle.block_objects.specs.SharedMemory.{shared_memory}
 use Rattle.thread_plan.specs.Plans.{PlanValue}
@@ -21,6 +21,7 @@ use Rattle.debug_views.specs.declared.fault.ViewFault.TheVariants as showing
 use Rattle.wasm_replay.specs.Replays.{Opens, IsOfRun, IsOfNoRun, gathered_log}
 use Rattle.wasm_replay.specs.declared.replaying.WasmReplayFault.{WasmReplayFault}
 use Rattle.wasm_replay.specs.declared.replaying.WasmReplayFault.TheVariants as refusal
+use Rattle.wasm_view.specs.Standing.{notes_if}
 use Rattle.wasm_view.specs.declared.viewing.WasmViewFault.{WasmViewFault}
 use Rattle.wasm_view.specs.declared.viewing.WasmViewFault.TheVariants.{Replay, View}
 
@@ -29,12 +30,12 @@ module _ (m : Module) (plan : PlanValue) (log : GatheredLog) (order : List ℕ) 
   abbrev pub Stops : WasmWorld → Stopped → Type 0
   Stops v s = (w : WasmWorld) → Opens m plan log w → StopsAt shared_memory thread_code (gathered_log log) w order breaks v s
 
-  -- the view of the world at which the replay stops; on a log below that of a run, that world is right by the run
-  pub record IsViewOfLog (from len : ℕ) (text : List ℕ) : Type 0 where
+  -- the view of the world at which the replay stops, with where its threads stand if names are asked for; on a log below that of a run, that world is right by the run
+  pub record IsViewOfLog (names : Bool) (from len : ℕ) (text : List ℕ) : Type 0 where
     pub world : WasmWorld
     pub stopped : Stopped
     pub stops : Stops world stopped
-    pub view : IsView shared_memory thread_code world (block_power (key_of log).profile) stopped breaks from len text
+    pub view : IsView shared_memory thread_code world (block_power (key_of log).profile) stopped breaks (notes_if names m.source world.threads) from len text
     pub recorded : (w : WasmWorld) → Opens m plan log w → ShowsRecorded shared_memory thread_code (gathered_log log) w world
 
   -- the replay stops at a world whose memory the range passes

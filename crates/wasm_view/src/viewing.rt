@@ -5,6 +5,7 @@ ghost use Rattle.thread_plan.specs.Plans.{IsPlanOf};
 ghost use Rattle.wasm_replay.specs.Replays.{IsOfRun};
 ghost use Rattle.wasm_view.specs.Views.{IsViewOfLog, IsNotViewed};
 
+use crate::notes::notes_if;
 use debug_views::{ViewFault, view};
 use integer_machine::memory_limits;
 use replay_breaks::{Break, Stopped, run_to};
@@ -28,7 +29,8 @@ pub enum WasmViewFault {
 
 /// Replays a log that was gathered, in this order, up to the first break that holds, or until no thread goes on, and shows
 /// the world at which it stops. The bytes shown are those from an address on, so many. On a log below that of a run of the
-/// module and plan, the values and threads of that world are recorded ones alone.
+/// module and plan, the values and threads of that world are recorded ones alone. Where names are asked for, behind the line
+/// of each thread stands where it is, by the names in the module's bytes.
 pub fn view_log(
     alloc: Global,
     valid: &Valid,
@@ -36,12 +38,13 @@ pub fn view_log(
     log: &Log,
     order: &[u32],
     breaks: &[Break],
+    names: bool,
     from: u32,
     len: u32,
 ) -> Result<String, WasmViewFault>
     requires { IsPlanOf valid.now plan.now }
     ensures of_run { OnOk result (IsOfRun valid.now plan.now log.now) }
-    ensures shown { IfOk result (λ text. IsViewOfLog valid.now plan.now log.now order.now breaks.now from len (string_bytes text)) }
+    ensures shown { IfOk result (λ text. IsViewOfLog valid.now plan.now log.now order.now breaks.now names from len (string_bytes text)) }
     ensures refused { IfErr result (IsNotViewed valid.now plan.now log.now order.now breaks.now from len) }
 {
     let mut replay = match open_replay(alloc, valid, plan, log) {
@@ -53,7 +56,20 @@ pub fn view_log(
         return Err(WasmViewFault::Replay(WasmReplayFault::Replay(fault)));
     }
     let block = memory_limits(valid.module(), log.key().profile).block;
-    match view(alloc, replay.world(), block, stopped, breaks, from, len) {
+    let world = replay.world();
+    let Ok(notes) = notes_if(alloc, names, valid, world) else {
+        return Err(WasmViewFault::View(ViewFault::NoMemory));
+    };
+    match view(
+        alloc,
+        world,
+        block,
+        stopped,
+        breaks,
+        notes.as_slice(),
+        from,
+        len,
+    ) {
         Ok(text) => Ok(text),
         Err(fault) => Err(WasmViewFault::View(fault)),
     }

@@ -5,7 +5,7 @@ mod laws;
 mod open;
 
 pub use laws::{opening_worlds_open, plans_open};
-pub use open::open_world;
+pub use open::{OpeningParts, open_parts, open_world};
 
 #[cfg(test)]
 mod tests;

@@ -6,6 +6,8 @@ use log::sink::Discard;
 use program::run;
 use replica::{MemorySink, MemorySource};
 use std::alloc::Global;
+use std::sync::Wait;
+use std::thread::Threads;
 
 /// The most bytes that a fake stream moves at a call.
 const MOST: usize = 65_536;
@@ -58,7 +60,12 @@ fn text_of(sink: &MemorySink) -> &str {
 }
 
 /// Makes the command of a line: the line, what it wrote, and its exit status where that is not 0.
-pub(crate) fn made(alloc: Global, shelf: &mut Shelf, line: &str) -> anyhow::Result<String> {
+pub(crate) fn made<T: Threads + Wait + Sync>(
+    threads: &T,
+    alloc: Global,
+    shelf: &mut Shelf,
+    line: &str,
+) -> anyhow::Result<String> {
     let command = command_of(line);
     let words = words_of(alloc, command.words)?;
     let input = input_of(alloc, shelf, command.input)?;
@@ -67,6 +74,7 @@ pub(crate) fn made(alloc: Global, shelf: &mut Shelf, line: &str) -> anyhow::Resu
     let mut errors = MemorySink::new(alloc, MOST, None);
     let status = run(
         &Discard,
+        threads,
         alloc,
         &words,
         shelf,

@@ -15,7 +15,7 @@ fn main(rt: HostRuntime) -> anyhow::Result<ExitCode> {
     let text = fs::read_to_string(&rt, "commands")?;
     let mut shelf = Shelf::new(rt);
     for line in text.lines() {
-        print!(rt; "{}", made(rt.alloc(), &mut shelf, line)?)?;
+        print!(rt; "{}", made(&rt, rt.alloc(), &mut shelf, line)?)?;
     }
     Ok(ExitCode::SUCCESS)
 }

@@ -3,9 +3,10 @@
 ghost use Rattle.commands.specs.Files.{IsRead};
 
 use commands::{FileFault, Files};
+use standard_streams::StandardSource;
 use std::alloc::Global;
 use std::fs;
-use std::io::ErrorKind;
+use std::io::{Cursor, ErrorKind};
 
 /// A file that a command kept.
 #[derive(Drop)]
@@ -52,6 +53,8 @@ impl Shelf {
 }
 
 impl Files for Shelf {
+    type Stream = StandardSource<Cursor<Vec<u8>>>;
+
     ghost holds = { λ files path bytes. Unit {0} };
 
     ghost fails = { λ files path. Unit {0} };
@@ -75,5 +78,14 @@ impl Files for Shelf {
             Err(error) if error.kind() == ErrorKind::OutOfMemory => Err(FileFault::NoMemory),
             Err(_) => Err(FileFault::NotRead),
         }
+    }
+
+    fn open(
+        &mut self,
+        alloc: Global,
+        path: &str,
+    ) -> Result<StandardSource<Cursor<Vec<u8>>>, FileFault> {
+        let bytes = self.read(alloc, path, None)?;
+        Ok(StandardSource::new(Cursor::new(bytes)))
     }
 }

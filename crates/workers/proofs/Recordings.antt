@@ -93,7 +93,7 @@ module _ {M State Op Reply Fixed : Type 0} (code : Code State Op Reply Fixed) (s
 
       pub recording : (ms : List M) (us : List (Worker M)) → AreDriven code state may 0 calls (map (opening_worker steps) ms) us
           → IsResumed code state may space m calls legal (map (opening_worker steps) ms) us → (lists : List (List Entry)) → lists ≡ entries_by 0 calls (map (opening_worker steps) ms)
-          → (recorded : RecordedAt) → IsDone space code steps (world_with code state may space m calls legal (memory_after_calls space m calls) us) lists recorded.threads recorded.end
+          → (recorded : RecordedAt) → IsDone space code steps (world_with code state may space m calls legal (memory_after_calls space m calls) us) lists recorded
           → length us ≡ length (map (opening_worker steps) ms)
           → IsRecording space code may steps (world_with code state may space m calls legal m (map (opening_worker steps) ms)) recorded
       recording ms us h r lists same recorded d number =
@@ -121,6 +121,7 @@ module _ {M State Op Reply Fixed : Type 0} (code : Code State Op Reply Fixed) (s
             end = d.ended ∙ ap (end_of_world space code) (sym leads);
             within = subst (StepsWithin space code steps) (sym leads) (goes.within (λ t th e. within_by 0 calls ms us h t th e));
             none_goes = subst (NoneGoes space code steps) (sym leads) d.none;
+            passed = d.none_passed;
           }
 
 module _ {M State Op Reply Value Fixed : Type 0} (space : Space Op Reply Value Fixed) (code : Code State Op Reply Fixed) (state : M → State) (may : ℕ → State → Bool) (steps : ℕ) (fixed : Fixed) (values : ℕ → Value) (ms : List M) where
@@ -154,7 +155,7 @@ module _ {M State Op Reply Value Fixed : Type 0} (space : Space Op Reply Value F
     pub ran_logs : length logs ≡ length (threads_of state threads)
     ran_logs = ap length ran.entered ∙ (entries_number 0 ran.calls (map (opening_worker steps) ms) ∙ (sym number ∙ (sym (length-map us (thread_in code state may)) ∙ ap length (sym threads_are))))
 
-    pub ran_recording : (mid : WorldAt State Value Fixed) → mid.threads ≡ threads_of state threads → mid.memory ≡ memory → (recorded : RecordedAt) → IsDone space code steps mid logs recorded.threads recorded.end
+    pub ran_recording : (mid : WorldAt State Value Fixed) → mid.threads ≡ threads_of state threads → mid.memory ≡ memory → (recorded : RecordedAt) → IsDone space code steps mid logs recorded
         → IsRecording space code may steps (opening_world state fixed values ms) recorded
     ran_recording mid ts mem recorded d =
         let after = memory_after_calls space (memory_with fixed values no_counts) ran.calls in
@@ -162,4 +163,4 @@ module _ {M State Op Reply Value Fixed : Type 0} (space : Space Op Reply Value F
         ap (λ x. record { threads = x; memory = mid.memory }) (ts ∙ threads_are) ∙ ap (λ x. record { threads = map (thread_in code state may) us; memory = x }) (mem ∙ ran.led) in
         subst (λ w. IsRecording space code may steps w recorded) (sym (opens code state steps may space (memory_with fixed values no_counts) ran.calls ran.legal fixed values ms refl))
         (recording code state steps may space (memory_with fixed values no_counts) ran.calls ran.legal ms us ran.each run_of logs ran.entered recorded
-        (subst (λ w. IsDone space code steps w logs recorded.threads recorded.end) mid_is d) number)
+        (subst (λ w. IsDone space code steps w logs recorded) mid_is d) number)

@@ -13,7 +13,7 @@ use Rattle.recorder.specs.Rounds.{StepsWithin, NoneGoes}
 use Rattle.recorder.specs.ThreadLogAt.{RecordedAt, log_of}
 
 -- a run, with its log and its end, in which no thread made more than so many steps, none that made fewer can go on, and a
--- thread timed out only where it may
+-- thread timed out only where it may; no pick was passed over
 pub record IsRecording {State Op Reply Value Fixed : Type 0} (space : Space Op Reply Value Fixed) (code : Code State Op Reply Fixed) (may : ℕ → State → Bool) (steps : ℕ) (w : WorldAt State Value Fixed) (recorded : RecordedAt) : Type 0 where
   pub picks : List Pick
   pub run : IsRun space code w picks
@@ -22,3 +22,4 @@ pub record IsRecording {State Op Reply Value Fixed : Type 0} (space : Space Op R
   pub end : recorded.end ≡ run_end space code w picks
   pub within : StepsWithin space code steps (world_run space code w picks)
   pub none_goes : NoneGoes space code steps (world_run space code w picks)
+  pub passed : recorded.passed ≡ 0

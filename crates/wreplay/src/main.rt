@@ -42,7 +42,17 @@ fn system_file(
     Ok(bytes)
 }
 
+/// Why a file of the system is not read.
+fn fault_of(error: &io::Error) -> FileFault {
+    match error.kind() {
+        ErrorKind::OutOfMemory => FileFault::NoMemory,
+        _ => FileFault::NotRead,
+    }
+}
+
 impl Files for SystemFiles {
+    type Stream = StandardSource<File>;
+
     ghost holds = { λ files path bytes. Unit {0} };
 
     ghost fails = { λ files path. Unit {0} };
@@ -55,8 +65,14 @@ impl Files for SystemFiles {
     ) -> Result<Vec<u8>, FileFault> {
         match system_file(&self.runtime, alloc, path, most) {
             Ok(bytes) => Ok(bytes),
-            Err(error) if error.kind() == ErrorKind::OutOfMemory => Err(FileFault::NoMemory),
-            Err(_) => Err(FileFault::NotRead),
+            Err(error) => Err(fault_of(&error)),
+        }
+    }
+
+    fn open(&mut self, _alloc: Global, path: &str) -> Result<StandardSource<File>, FileFault> {
+        match File::open(&self.runtime, path) {
+            Ok(file) => Ok(StandardSource::new(file)),
+            Err(error) => Err(fault_of(&error)),
         }
     }
 }
@@ -74,6 +90,7 @@ fn main(rt: HostRuntime) -> ExitCode {
     let status = match words(&rt) {
         Ok(words) => run(
             &Discard,
+            &rt,
             rt.alloc(),
             &words,
             &mut files,

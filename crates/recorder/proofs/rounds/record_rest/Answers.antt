@@ -17,4 +17,5 @@ returns g c =
       logged = ap (map (λ l. l.entries)) seen ∙ (c.in_ok-threads.ensures.entries ∙ c.into_lists.ensures);
       ends = ap (map (λ l. l.end)) seen ∙ c.in_ok-threads.ensures.ends;
       ended = c.new.ensures.end ∙ c.in_ok-end.ensures;
+      none_passed = c.new.ensures.passed;
     }

@@ -1,4 +1,5 @@
-use Rattle.std.proofs.Common.{sym, ap, ◌∙◌, subst}
+use Rattle.std.specs.Prelude.{string_bytes}
+use Rattle.std.proofs.Common.{map, sym, ap, ◌∙◌, subst}
 use Rattle.wasm_instance.specs.Memories.{block_power}
 use Rattle.event_core.specs.World.{world_of}
 use Rattle.wasm_replay.specs.Replays.{IsOpenerOf}
@@ -14,12 +15,13 @@ pub returns-in-Ok-view : goal.returns-in-Ok-view
 returns-in-Ok-view c = record {
   of_run = c.in-Ok.ensures.of_run;
   shown = view_of c.args.valid.now c.args.plan.now c.args.log.now c.in-Ok.replay.log.log.now c.args.order.now c.args.breaks.now (world_of c.in-Ok.replay.world) (world_of c.run_to-stopped.new.replay.world)
-      (world_of c.world.result.now) c.run_to-stopped.result c.memory_limits-block.result.block c.args.from c.args.len _
-      c.run_to-stopped.ensures.stops c.in-Ok.ensures.log c.in-Ok.ensures.world (ap (λ x. world_of x) c.world.ensures.same)
-      (ap (λ l. l.block) c.memory_limits-block.ensures ∙ ap (λ k. block_power k.profile) c.key.ensures) c.in-Ok-view.ensures.view
+      c.args.names (map string_bytes c.as_slice.result.now) (world_of c.world-world.result.now) c.run_to-stopped.result c.memory_limits-block.result.block c.args.from c.args.len _
+      c.run_to-stopped.ensures.stops c.in-Ok.ensures.log c.in-Ok.ensures.world (ap (λ x. world_of x) c.world-world.ensures.same)
+      (ap (λ l. l.block) c.memory_limits-block.ensures ∙ ap (λ k. block_power k.profile) c.key.ensures)
+      (ap (map string_bytes) c.as_slice.ensures.value ∙ c.in-Ok-notes_if.ensures) c.in-Ok-view.ensures.view
       (shows c.args.valid.now c.args.plan.now c.args.log.now c.run_to-stopped.new.replay.log.log.now c.args.order.now c.args.breaks.now (world_of c.in-Ok.replay.world) (world_of c.run_to-stopped.new.replay.world)
-      c.run_to-stopped.new.replay.opens (world_of c.world.result.now) (ap (λ (g : Gathered). g.log.now) c.run_to-stopped.ensures.log ∙ c.in-Ok.ensures.log)
-      (subst (IsOpenerOf c.args.valid.now c.args.plan.now c.args.log.now) (sym c.run_to-stopped.ensures.opens) c.in-Ok.ensures.opens) (ap (λ x. world_of x) c.world.ensures.same) c.world.ensures.recorded);
+      c.run_to-stopped.new.replay.opens (world_of c.world-world.result.now) (ap (λ (g : Gathered). g.log.now) c.run_to-stopped.ensures.log ∙ c.in-Ok.ensures.log)
+      (subst (IsOpenerOf c.args.valid.now c.args.plan.now c.args.log.now) (sym c.run_to-stopped.ensures.opens) c.in-Ok.ensures.opens) (ap (λ x. world_of x) c.world-world.ensures.same) c.world-world.ensures.recorded);
   refused = tt;
 }
 
@@ -28,7 +30,7 @@ returns c = record {
   of_run = tt;
   shown = tt;
   refused = fault_of c.args.valid.now c.args.plan.now c.args.log.now c.in-Ok.replay.log.log.now c.args.order.now c.args.breaks.now (world_of c.in-Ok.replay.world) (world_of c.run_to-stopped.new.replay.world)
-      (world_of c.world.result.now) c.run_to-stopped.result c.args.from c.args.len c.in-Err-view.fault
-      c.run_to-stopped.ensures.stops c.in-Ok.ensures.log c.in-Ok.ensures.world (ap (λ x. world_of x) c.world.ensures.same)
+      (world_of c.world-world.result.now) c.run_to-stopped.result c.args.from c.args.len c.in-Err-view.fault
+      c.run_to-stopped.ensures.stops c.in-Ok.ensures.log c.in-Ok.ensures.world (ap (λ x. world_of x) c.world-world.ensures.same)
       c.in-Ok.ensures.of_run c.in-Err-view.ensures.fault;
 }

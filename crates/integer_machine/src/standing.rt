@@ -1,0 +1,64 @@
+//! Where a thread stands in the code.
+
+ghost use Rattle.std.specs.Prelude.{◌≡◌, ◌∷◌, length, option_copied, reverse, slice_get};
+ghost use Rattle.wasm_types.specs.declared.modules.Module.{Module};
+ghost use Rattle.integer_machine.specs.Meaning.{meaning};
+ghost use Rattle.integer_machine.specs.Standing.{standing, place_of_level};
+
+use thread_words::{Level, Stacks, Stage};
+
+/// A place in the code of a module.
+#[derive(Clone, Copy, Debug, PartialEq, Eq)]
+pub struct CodePlace {
+    /// The function's index.
+    pub function: u32,
+    /// The number of an instruction of its body, from 0.
+    pub instruction: u32,
+}
+
+/// How many functions a thread is in.
+pub(crate) fn depth_of(m: &Stacks) -> usize
+    ensures { (within : Module) → result ≡ length (standing (meaning within m.now)) }
+{
+    if let Stage::Ended(_) = m.stage {
+        return 0;
+    }
+    m.callers.len() + 1
+}
+
+/// The level of a function that a thread is in: that of the one that runs, or of the caller with this number from 1.
+fn level_at(m: &Stacks, depth: usize) -> Option<&Level>
+    ensures { option_copied result ≡ slice_get (m.now.here ∷ reverse m.now.callers.items) depth }
+{
+    if depth == 0 {
+        return Some(&m.here);
+    }
+    let callers = m.callers.as_slice();
+    if callers.len() < depth {
+        return None;
+    }
+    callers.get(callers.len() - depth)
+}
+
+/// Where a function stands by its level.
+fn place_of_level(level: &Level) -> CodePlace
+    ensures { result ≡ place_of_level level.now }
+{
+    CodePlace {
+        function: level.function,
+        instruction: level.place,
+    }
+}
+
+/// Where a thread stands in a function that it is in.
+pub(crate) fn place_at(m: &Stacks, depth: usize) -> Option<CodePlace>
+    ensures { (within : Module) → result ≡ slice_get (standing (meaning within m.now)) depth }
+{
+    if let Stage::Ended(_) = m.stage {
+        return None;
+    }
+    match level_at(m, depth) {
+        Some(level) => Some(place_of_level(level)),
+        None => None,
+    }
+}

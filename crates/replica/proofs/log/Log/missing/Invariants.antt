@@ -1,7 +1,0 @@
-use Rattle.std.proofs.Common.{◌≡◌, ◌*◌, ◌^◌, ◌≤◌, take}
-use Rattle.std.specs.Prelude.{sum_by}
-use Rattle.replica.specs.Counts.{thread_missing}
-use Rattle.replica.proofs.log.Log.missing.Given as goal
-
-abbrev pub invariant-loop-log : goal.invariant-loop-log
-invariant-loop-log l = (l.count ≡ sum_by thread_missing (take l.log-index l.log-items)) × (l.count ≤ 2 ^ 33 * l.log-index)

@@ -1,0 +1,87 @@
+//! Which bytes of the memory objects are, as text.
+
+ghost use Rattle.std.specs.Prelude.{◌≡◌, ◌+◌, ◌*◌, ◌<◌, ◌≤◌, ◌^◌, ◌++◌, length};
+ghost use Rattle.replica.specs.Objects.{block_first, range_text, object_text, touched_text, touches_text, objects_text};
+
+use crate::room::Room;
+use join_laws::{Flat, PackedClaim};
+use rw_objects::Entry;
+use wasm_types::Block;
+
+/// Puts the first and the last byte of so many behind other bytes.
+fn put_range(room: &mut Room, first: u64, size: u32)
+    requires room { length room.old + 42 ≤ 66560 }
+    requires size { 1 ≤ size }
+    requires first { first < 2 ^ 63 }
+    ensures text { room.new ≡ room.old ++ range_text first size }
+    ensures short { length room.new ≤ length room.old + 42 }
+{
+    room.put_number(first);
+    room.put(b"..");
+    room.put_number(first + u64::from(size) - 1);
+}
+
+/// The first byte of the block that an object is, or is the queue of.
+fn block_first(size: u32, object: u32) -> u64
+    requires { 1 ≤ object }
+    ensures first { result ≡ block_first size object }
+    ensures bound { result < 2 ^ 63 }
+{
+    u64::from((object - 1) / 2) * u64::from(size)
+}
+
+/// Puts which bytes an object is behind other bytes.
+fn put_object(room: &mut Room, block: Block, object: u32)
+    requires { length room.old + 50 ≤ 66560 }
+    ensures text { room.new ≡ room.old ++ object_text block object }
+    ensures short { length room.new ≤ length room.old + 50 }
+{
+    if object == 0 {
+        room.put(b"length");
+        return;
+    }
+    if (object - 1) % 2 == 0 {
+        room.put(b"bytes ");
+    } else {
+        room.put(b"waiters ");
+    }
+    let size = block.size();
+    put_range(room, block_first(size, object), size);
+}
+
+/// Puts which object is touched, and which bytes it is, behind other bytes.
+fn put_touched(room: &mut Room, block: Block, object: u32)
+    requires { length room.old + 74 ≤ 66560 }
+    ensures text { room.new ≡ room.old ++ touched_text block object }
+    ensures short { length room.new ≤ length room.old + 74 }
+{
+    room.put(b"; ");
+    room.put_number(u64::from(object));
+    room.put(b": ");
+    put_object(room, block, object);
+}
+
+/// Puts which bytes the objects are that an entry touches behind other bytes.
+fn put_touches(room: &mut Room, block: Block, entry: &Entry)
+    requires { length room.old + 222 ≤ 66560 }
+    ensures text { room.new ≡ room.old ++ touches_text block entry.now }
+    ensures short { length room.new ≤ length room.old + 222 }
+{
+    for found in entry.found.as_slice() {
+        put_touched(room, block, found.object());
+    }
+}
+
+/// Puts which bytes the objects of an item are behind other bytes, where a block is given to tell them by.
+pub(crate) fn put_objects(room: &mut Room, blocks: &Option<Block>, claim: &PackedClaim<'_, Entry>)
+    requires { length room.old + 222 ≤ 66560 }
+    ensures text { room.new ≡ room.old ++ objects_text blocks.now claim.now }
+    ensures short { length room.new ≤ length room.old + 222 }
+{
+    if let Some(block) = blocks {
+        match claim.claim(room.allocator()) {
+            Flat::Known(entry) => put_touches(room, *block, &entry),
+            Flat::Clash => {}
+        }
+    }
+}
