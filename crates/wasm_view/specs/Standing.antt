@@ -1,15 +1,20 @@
 -- Where threads stand, as notes behind their lines: ` at bump+5 from main+3`.
-use Rattle.std.specs.Prelude.{ℕ, zero, suc, ◌+◌, Bool, true, false, List, [], ◌∷◌, ◌++◌, codes, map, Option, Some, None}
+use Rattle.std.specs.Prelude.{ℕ, zero, suc, ◌+◌, Bool, true, false, List, [], ◌∷◌, ◌++◌, codes, map, nat_le, cond, Option, Some, None}
 use Rattle.std.specs.Fmt.{decimal}
+use Rattle.std.specs.List.{list_all}
 use Rattle.event_core.specs.Threads.{ThreadAt}
 use Rattle.function_names.specs.Names.{function_name}
 use Rattle.integer_machine.specs.declared.standing.CodePlace.{CodePlace}
 use Rattle.integer_machine.specs.Standing.{standing}
 use Rattle.thread_code.specs.ThreadCode.{ThreadAt as CodeThread}
 
--- the function by its name, or by its number where it has none
+-- a name without control characters, which may be put into a line
+abbrev pub fits_line : List ℕ → Bool
+fits_line name = list_all (λ byte. nat_le 32 byte) name
+
+-- the function by its name, or by its number where it has none that may be put into a line
 abbrev pub title : Option (List ℕ) → ℕ → List ℕ
-title (Some name) function = name
+title (Some name) function = cond (fits_line name) name (decimal function)
 title None function = decimal function
 
 -- the function that runs comes first, then its callers

@@ -3,7 +3,7 @@
 ghost use Rattle.std.specs.Prelude.{◌≡◌, ◌++◌, IfOk, OnOk, map, string_bytes};
 ghost use Rattle.event_core.specs.World.{world_of};
 ghost use Rattle.function_names.specs.Kept.{name_of};
-ghost use Rattle.wasm_view.specs.Standing.{word_at, frame_text, note_of, notes_of, notes_if};
+ghost use Rattle.wasm_view.specs.Standing.{fits_line, word_at, frame_text, note_of, notes_of, notes_if};
 
 use event_core::World;
 use function_names::FunctionNames;
@@ -21,6 +21,17 @@ fn word_at(depth: usize) -> &'static str
     if depth == 0 { " at " } else { " from " }
 }
 
+/// Whether a name has no control character, so that it may be put into a line.
+fn fits_line(name: &str) -> bool
+    ensures { result ≡ fits_line name.now }
+{
+    let mut fits = true;
+    for byte in name.as_bytes() {
+        fits &= *byte >= b' ';
+    }
+    fits
+}
+
 /// Writes where a thread stands in a function.
 fn write_frame(
     text: &mut String,
@@ -34,8 +45,8 @@ fn write_frame(
     let function = place.function;
     let instruction = place.instruction;
     match names.get(function) {
-        Some(name) => write!(text, "{word}{name}+{instruction}")?,
-        None => write!(text, "{word}{function}+{instruction}")?,
+        Some(name) if fits_line(name) => write!(text, "{word}{name}+{instruction}")?,
+        _ => write!(text, "{word}{function}+{instruction}")?,
     }
     Ok(())
 }
