@@ -44,6 +44,15 @@ end, then four counts:
   0 end steps=8 places=2 i32 1
   ends 1 missing 0 strays 0 clashes 1
 
+What was done at a place is `access`, or `woken` where a thread that waited went
+on because it was notified, or `timedout` where its wait timed out. Behind it
+stand the objects that it touched: `rO@V` read object O and found version V;
+`wO@V/R` wrote O, and found version V and R reads of that version. Object 0 is
+the length of the memory; object 1 + 2B is block B of its bytes, and object
+2 + 2B the queue of those who wait in that block. An end says how many steps and
+places the thread had, and what it came to: its result or `none`, a trap,
+`waiting` where it was not woken, or `running` where it could have gone on.
+
 ends     threads whose end is known
 missing  places below a known end that no piece claims
 strays   items at or past a known end
@@ -102,7 +111,9 @@ Refusals (exit status 1):
                              both numbered from 0
   refused 11 Invalid module  a rule outside the functions is broken
   refused 12 NoMemory        the types do not fit into memory
+  refused 23 NoMemory        the file or the summary does not fit into memory
   refused 44 SourceFailed    the file can't be read
+  refused 45 SinkFailed      writing failed; a beginning was written
 
 Example:
   wreplay check examples/counter.wasm";
@@ -129,8 +140,8 @@ The schedule says in which order the threads go on:
 A step that its thread cannot make is passed over: the thread is done, or sleeps
 and was not woken, or made as many steps as --steps lets it.
 
-With --threads each thread of the plan is a thread of the system, and they run at
-once: each run may come out otherwise, and each can be replayed. Whatever can
+With --threads each thread of the plan is a thread of the system, and they run
+at once: each run may come out otherwise, and each can be replayed. Whatever can
 still go on when they have ended goes on. `--timeouts now` lets each wait that
 has a time-out time out at once.";
 
