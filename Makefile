@@ -32,6 +32,7 @@ bench: $(PROGRAM) $(BENCH)
 	python3 bench/view.py $(PROGRAM) $(BENCH)
 	python3 bench/long_log.py $(PROGRAM)
 	python3 bench/recordings.py $(PROGRAM)
+	python3 bench/threads.py $(PROGRAM)
 
 # Refuses each growth of the program in turn, on recordings, replays and listings of the worked rows.
 growths: $(PROGRAM)
@@ -40,8 +41,11 @@ growths: $(PROGRAM)
 $(BENCH): crates.txt $(wildcard crates/*/src/*.rt crates/*/specs/*.antt)
 	cd crates/wreplay_bench && rt run -- machine data/sieve.wasm data/sieve.plan >/dev/null
 
+# The program, and its man page from the texts of its help.
 install: $(PROGRAM)
 	install -D -m 755 $(PROGRAM) $(DESTDIR)$(PREFIX)/bin/wreplay
+	install -d $(DESTDIR)$(PREFIX)/share/man/man1
+	python3 scripts/man.py $(PROGRAM) > $(DESTDIR)$(PREFIX)/share/man/man1/wreplay.1
 
 clean:
 	rm -rf crates/*/out

@@ -1,0 +1,68 @@
+#!/usr/bin/env python3
+"""Measures how fast `wreplay` records threads that run at once, and the memory that a long recording takes.
+
+usage: threads.py PATH_OF_WREPLAY [EVENTS]
+
+The modules are those of record.py. Threads that compute alone: the seconds of a recording by threads of one thread, and of four that
+each do the same, the least of ROUNDS, less those of threads of one turn; and how many times the steps a second of one thread the
+four make. Threads that share a counter: four of them make EVENTS accesses (10,000,000 by default) between them, and the greatest
+resident memory, less that of a recording of few events, is given for each event, once where the report is written and once
+where the pieces are. Seconds are those of the clock, so nothing else should run.
+"""
+
+import os
+import subprocess
+import sys
+import tempfile
+import time
+
+from record import module, written
+
+ROUNDS = 5
+TURNS = 30_000_000
+MOST = "1000000000"
+
+
+def recorded(wreplay, folder, wasm, threads, *more):
+    """The seconds of a recording by threads, and its greatest resident memory in bytes."""
+    plan = written(folder, "plan", b"wreplay plan 1\n" + b"thread run\n" * threads)
+    start = time.monotonic()
+    with open(os.path.join(folder, "out"), "wb") as out:
+        process = subprocess.Popen([wreplay, "record", wasm, plan, "--threads", "--steps", MOST, *more], stdout=out)
+        _, status, used = os.wait4(process.pid, 0)
+    seconds = time.monotonic() - start
+    if os.waitstatus_to_exitcode(status) != 0:
+        sys.exit(f"record --threads: status {os.waitstatus_to_exitcode(status)}")
+    return seconds, used.ru_maxrss * 1024
+
+
+def least(wreplay, folder, wasm, threads):
+    return min(recorded(wreplay, folder, wasm, threads, "--report")[0] for _ in range(ROUNDS))
+
+
+def main():
+    if len(sys.argv) not in (2, 3):
+        sys.exit(__doc__)
+    wreplay, events = sys.argv[1], int(sys.argv[2]) if len(sys.argv) == 3 else 10_000_000
+    with tempfile.TemporaryDirectory() as folder:
+        short = written(folder, "short.wasm", module(1, False))
+        wasm = written(folder, "long.wasm", module(TURNS, False))
+        one = least(wreplay, folder, wasm, 1) - least(wreplay, folder, short, 1)
+        four = least(wreplay, folder, wasm, 4) - least(wreplay, folder, short, 4)
+        print("| threads | turns each | s | times the steps a second of one |")
+        print("|---:|---:|---:|---:|")
+        print(f"| 1 | {TURNS:,} | {one:.2f} | 1 |")
+        print(f"| 4 | {TURNS:,} | {four:.2f} | {4 * one / four:.2f} |")
+        print()
+        few = written(folder, "few.wasm", module(1, True))
+        many = written(folder, "many.wasm", module(events // 8, True))
+        print("| events of four threads | written | s | peak bytes an event |")
+        print("|---:|---|---:|---:|")
+        for name, more in [("report", ["--report"]), ("pieces", [])]:
+            _, least_memory = recorded(wreplay, folder, few, 4, *more)
+            seconds, memory = recorded(wreplay, folder, many, 4, *more)
+            print(f"| {events:,} | {name} | {seconds:.2f} | {(memory - least_memory) / events:.1f} |")
+
+
+if __name__ == "__main__":
+    main()
