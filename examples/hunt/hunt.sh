@@ -75,7 +75,10 @@ grep thread "$folder/report"
 
 echo "== the write by which an item was lost"
 second_write > "$folder/second"
-read -r event object < "$folder/second"
+if ! read -r event object < "$folder/second"; then
+    echo "no place was written twice: the length of the queue was set back"
+    exit
+fi
 from=$(((object - 1) / 2 * 64))
 grep "^$event " "$folder/listing"
 echo "== behind the first write of that place in the queue"

@@ -11,8 +11,8 @@
 /* The threads are 0 and 1, the workers, and 2, which adds up. */
 enum { THREADS = 3, WORKERS = 2, STACK_SIZE = 256 };
 
-/* A range has so many numbers, from a multiple of it on. */
-enum { RANGES = 20, WIDTH = 100 };
+/* The numbers are counted range by range, each worker its share of the ranges. */
+enum { RANGES = 20, SHARE = RANGES / WORKERS, WIDTH = 100 };
 
 /* Accesses are logged by blocks of so many bytes. Each thing that threads share stands in a block of its own. */
 enum { BLOCK = 64 };
@@ -83,12 +83,12 @@ static int primes_from(int from)
     return primes;
 }
 
-/* Counts the primes of every second range, and puts each count into the queue. */
+/* Counts the primes of the worker's ranges, and puts the count of each into the queue. */
 static __attribute__((noinline)) int count_ranges(int worker)
 {
     int puts = 0;
-    for (int range = worker; range < RANGES; range += WORKERS) {
-        struct item item = {range * WIDTH, primes_from(range * WIDTH)};
+    for (int from = worker * SHARE * WIDTH; puts < SHARE; from += WIDTH) {
+        struct item item = {from, primes_from(from)};
         put(&item);
         puts++;
     }
