@@ -1,5 +1,5 @@
-"""Writes the commands of crates/worked_rows, the files that they read, and what they must write: by the model, and for the
-recordings of profile 1 by what was recorded apart."""
+"""Writes the commands of crates/worked_rows, the files that they read, and what they must write: by the model, for the
+recordings of profile 1 by what was recorded apart, and for the hunt by what is kept with it."""
 import os, struct, sys
 from model import Module, World, digest
 from views import stop, view
@@ -256,6 +256,17 @@ keep('twice.pieces', TWO_WRITES % 1 + '\n' + TWO_WRITES % 1 + 'z' * 1000)
 command('gather --skip < twice.pieces', LISTED, 'skipped 2 0\n')
 command('gather --skip < counter.plan', NO_PIECES, 'skipped 3 0\n')
 command('gather --skip', NO_PIECES, 'skipped 0 0\n')
+
+# the hunt: its commands, and what they write, are kept with it; its pages show them
+HUNT = os.path.join(os.path.dirname(os.path.abspath(__file__)), '..', '..', 'examples', 'hunt')
+def of_hunt(name):
+    with open(os.path.join(HUNT, name), 'rb') as file: return file.read()
+for name in ('queue.wasm', 'queue.plan'): keep(name, of_hunt(name))
+EAST, WEST = of_hunt('east.pieces'), of_hunt('west.pieces').splitlines(keepends=True)
+keep('queue_come.pieces', EAST + b''.join(WEST[:1] + WEST[2:]))
+keep('queue_whole.pieces', EAST + b''.join(WEST))
+script += of_hunt('commands').decode().splitlines()
+expected.append(of_hunt('outputs').decode())
 
 keep('commands', '\n'.join(script) + '\n')
 with open(os.path.join(TARGET, 'stdout'), 'w') as file: file.write(''.join(expected))
