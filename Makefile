@@ -1,11 +1,11 @@
-# build, try, test, bench and install wreplay; growths refuses it memory. PREFIX says where install puts it, JOBS how many
+# build, try, test, bench and install wreplay; growths refuses it memory, pages runs what its pages show. PREFIX says where install puts it, JOBS how many
 # processors a check takes.
 PREFIX ?= /usr/local
 JOBS ?= $(shell nproc)
 PROGRAM = crates/wreplay/out/wreplay
 BENCH = crates/wreplay_bench/out/wreplay_bench
 
-.PHONY: build try test bench growths install clean
+.PHONY: build try test pages bench growths install clean
 
 # Proves the program and what it stands on, crate by crate, and builds it: minutes the first time, seconds after that.
 build: $(PROGRAM)
@@ -20,6 +20,10 @@ try:
 # Every proof from nothing, the wrong bodies that must be refused, the tests and the program's stored run.
 test:
 	.ci/run
+
+# The commands that stand in the README, the tutorial and the hunt write what stands behind them.
+pages: $(PROGRAM)
+	python3 bench/pages.py $(PROGRAM) README.md docs/TUTORIAL.md examples/hunt/README.md
 
 # Speeds as ratios to named peers in the same run; docs/BENCH.md keeps them.
 bench: $(PROGRAM) $(BENCH)

@@ -1,11 +1,12 @@
 #!/bin/sh
 # Hunts the fault of queue.c, from the top of the repository:
 #
-#   examples/hunt/hunt.sh           records runs by threads until one comes to a wrong sum
-#   examples/hunt/hunt.sh --kept    takes the run that is kept here
+#   examples/hunt/hunt.sh              records runs by threads until one comes to a wrong sum
+#   examples/hunt/hunt.sh --kept       takes the run that is kept here
+#   examples/hunt/hunt.sh --count N    records N runs, and counts the wrong ones
 #
-# Then it loses a piece of the run's log, finds it again, replays the run, and views the write by which an item was lost.
-# WREPLAY names the program.
+# With the wrong run it then loses a piece of the log, finds it again, replays the run, and views the write by which an item was
+# lost. WREPLAY names the program.
 set -eu
 
 wreplay=${WREPLAY:-crates/wreplay/out/wreplay}
@@ -16,21 +17,34 @@ right=303
 folder=$(mktemp -d)
 trap 'rm -rf "$folder"' EXIT
 
-# What a thread came to, by the listing of its run.
-end_of() {
-    sed -n "s/^$1 end steps=[0-9]* places=[0-9]* //p" "$folder/listing"
+# Records a run. What the third thread answers, by the listing of the run, is its sum.
+record_run() {
+    "$wreplay" record $module $plan --threads --size 16 > "$folder/night.pieces"
+    "$wreplay" gather < "$folder/night.pieces" > "$folder/listing"
+    sum=$(sed -n 's/^2 end steps=[0-9]* places=[0-9]* i32 //p' "$folder/listing")
 }
 
-# Records until the third thread answers another sum than the right one.
+# Records until a sum is wrong.
 record_until_wrong() {
     runs=0
     while :; do
         runs=$((runs + 1))
-        "$wreplay" record $module $plan --threads --size 16 > "$folder/night.pieces"
-        "$wreplay" gather < "$folder/night.pieces" > "$folder/listing"
-        [ "$(end_of 2)" = "i32 $right" ] || break
+        record_run
+        [ "$sum" = $right ] || break
     done
-    echo "run $runs came to $(end_of 2), and $right is right"
+    echo "run $runs came to $sum, and $right is right"
+}
+
+# Records so many runs, and counts the wrong sums.
+count_wrong() {
+    runs=0
+    wrong=0
+    while [ $runs -lt "$1" ]; do
+        runs=$((runs + 1))
+        record_run
+        [ "$sum" = $right ] || wrong=$((wrong + 1))
+    done
+    echo "of $runs runs $wrong came to a wrong sum"
 }
 
 # Keeps each second line of the log on one machine, the others on another.
@@ -54,12 +68,19 @@ view_place() {
     "$wreplay" view $module $plan "$folder/come.pieces" "$@" --from "$from" --len 16 --names
 }
 
-if [ "${1-}" = --kept ]; then
-    cp $here/east.pieces $here/west.pieces "$folder"
-else
-    record_until_wrong
-    keep
-fi
+case ${1-} in
+    --count)
+        count_wrong "$2"
+        exit
+        ;;
+    --kept)
+        cp $here/east.pieces $here/west.pieces "$folder"
+        ;;
+    *)
+        record_until_wrong
+        keep
+        ;;
+esac
 
 echo "== the second piece of the second machine is lost on its way"
 (cat "$folder/east.pieces"; sed 2d "$folder/west.pieces") > "$folder/come.pieces"
