@@ -1,5 +1,5 @@
-# build, try, test, bench and install wreplay; growths refuses it memory, pages runs what its pages show. PREFIX says where install puts it, JOBS how many
-# processors a check takes.
+# build, try, test, bench and install wreplay; growths refuses it memory, pages runs what its pages show. PREFIX says where install
+# puts it, JOBS how many processors a check takes.
 PREFIX ?= /usr/local
 JOBS ?= $(shell nproc)
 PROGRAM = crates/wreplay/out/wreplay
