@@ -1,0 +1,6 @@
+//! Replay by threads over a shared memory.
+#![tactic(auto)]
+
+mod replay;
+
+pub use replay::replay_memory;

@@ -1,0 +1,4 @@
+pub mod Along
+pub mod Gating
+pub mod Pointing
+pub mod Ends

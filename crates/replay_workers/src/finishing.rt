@@ -1,0 +1,81 @@
+//! Replay by threads, up to its end.
+
+ghost use Rattle.std.specs.Prelude.{◌≡◌, ◌≤◌, IfOk, IfErr, length};
+ghost use Rattle.wasm_types.specs.declared.sizes.TheConstants.{MOST_THREADS};
+ghost use Rattle.event_core.specs.Opening.{AllFresh, IsOpeningWorld, opening_world};
+ghost use Rattle.event_core.specs.World.{WorldAt, world_of};
+ghost use Rattle.shared_core.specs.Begins.{names_of, ledger_names};
+ghost use Rattle.replay_gate.specs.Leads.{Leads};
+ghost use Rattle.replay_workers.specs.Finishing.{IsReplayEnd, IsReplayFault};
+
+use crate::replaying::replay_workers;
+use event_core::{Ended, World};
+use replay_gate::{ReadLog, ReplayFault, run_ordered};
+use rw_objects::{Machine, ObjectSpace};
+use shared_core::{Hold, Opened};
+use shared_parts::Opening;
+use std::alloc::Global;
+use std::sync::Wait;
+use std::thread::Threads;
+use striped_objects::Striped;
+
+/// Makes the turns that are left, in rounds of all threads, and answers the end, or why a thread does not come to it.
+fn finish<M: Machine<S> + Drop, S: ObjectSpace + Drop, L: ReadLog>(
+    alloc: Global,
+    world: World<M, S>,
+    log: &L,
+) -> Result<Ended, ReplayFault>
+    ensures ended { IfOk result (λ ended. (w : WorldAt M.State S.Value S.Fixed) → IsOpeningWorld M.code w → Leads S.meaning M.code (L.log log.now) w (world_of world) → IsReplayEnd S.meaning M.code (L.log log.now) w ended) }
+    ensures refused { IfErr result (λ f. (w : WorldAt M.State S.Value S.Fixed) → Leads S.meaning M.code (L.log log.now) w (world_of world) → IsReplayFault S.meaning M.code (L.log log.now) w f) }
+{
+    let mut world = world;
+    match run_ordered(alloc, &mut world, log, &[]) {
+        Err(fault) => Err(fault),
+        Ok(()) => match world.end(alloc) {
+            Err(_) => Err(ReplayFault::NoMemory),
+            Ok(ended) => Ok(ended),
+        },
+    }
+}
+
+/// Replays a log by threads, of machines that made no step, over a space that no thread has touched. Each is driven by a worker of
+/// its own; the turns that these leave are made in rounds. What is answered is the end of a gated run from the log, or the fault at
+/// which one stands.
+pub fn replay_by_threads<
+    S: Striped + Drop + Send + Sync,
+    X,
+    M: Machine<S, State = X> + Drop + Send + Sync,
+    J: Opening<S, S::Value, S::Fixed> + Send + Sync,
+    Z: Drop + Send,
+    L: ReadLog<Reader = Z> + Sync,
+    H: Hold + Sync,
+    R: Threads + Wait + Sync,
+>(
+    rt: &R,
+    alloc: Global,
+    opened: Opened<S>,
+    machines: Vec<M>,
+    log: &L,
+    hold: &H,
+) -> Result<Ended, ReplayFault>
+where
+    S::Op: Send + Sync,
+    S::Reply: Send + Sync,
+    S::Value: Send + Sync,
+    S::Fixed: Send + Sync,
+    S::Part: Send + Sync,
+    S::Seen: Send + Sync,
+    S::Decision: Send + Sync,
+    requires chain { opened.chain ≡ J.chain }
+    requires named { names_of (S.fixed opened.space) (S.values opened.space) opened.count.name (ledger_names opened.lanes) opened.threads ≡ J.named }
+    requires threads { length machines.items ≡ opened.threads }
+    requires few { length machines.items ≤ MOST_THREADS }
+    requires fresh { AllFresh M.code M.state (S.fixed opened.space) machines.items }
+    ensures ended { IfOk result (IsReplayEnd S.meaning M.code (L.log log.now) (opening_world M.state (S.fixed opened.space) (S.values opened.space) machines.items)) }
+    ensures refused { IfErr result (IsReplayFault S.meaning M.code (L.log log.now) (opening_world M.state (S.fixed opened.space) (S.values opened.space) machines.items)) }
+{
+    match replay_workers::<S, X, M, J, Z, L, H, R>(rt, alloc, opened, machines, log, hold) {
+        Err(_) => Err(ReplayFault::NoMemory),
+        Ok(world) => finish(alloc, world, log),
+    }
+}
