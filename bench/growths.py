@@ -3,8 +3,8 @@
 
 usage: growths.py PATH_OF_WREPLAY [WORD..]
 
-The commands are those of `crates/worked_rows/data/commands` that have one of the words; without a word those of the counter's
-first run and those of five waiting threads. A small library, made by the C compiler and loaded before the system's, answers
+The commands are those of `crates/worked_rows/data/commands` that have one of the words, and recordings by threads that come to the
+same each time; without a word those of the counter's first run, those of five waiting threads, and these recordings. A small library, made by the C compiler and loaded before the system's, answers
 one of the program's calls for memory with none: the first, then the second, and so on until a run asks for no more. Each time
 the program must do one of two things: exactly what it does with ample memory, or exit with 1, the output empty, and on
 standard error one line `refused N NoMemory`. Behind each such run the same command is run again with ample memory and must
@@ -21,7 +21,9 @@ import tempfile
 
 HERE = os.path.dirname(os.path.abspath(__file__))
 ROWS = os.path.join(HERE, "..", "crates", "worked_rows", "data")
-USUAL = ["first.", "five."]
+USUAL = ["first.", "five.", "--threads"]
+# Threads that share nothing, so that each recording of them is as the others.
+BY_THREADS = ["record alone.wasm alone2.plan --threads --report", "record alone.wasm alone2.plan --threads", "record far.wasm farf.plan --threads"]
 
 LIBRARY = r"""
 #include <errno.h>
@@ -32,7 +34,7 @@ static long asked, refused;
 /* Whether this call is the one to refuse; where it is, a byte on descriptor 3 tells so. */
 static int is_refused(void) {
     if (!refused) { char *word = getenv("REFUSED_GROWTH"); refused = word ? atol(word) : -1; }
-    if (++asked != refused) return 0;
+    if (__sync_add_and_fetch(&asked, 1) != refused) return 0;
     if (write(3, "r", 1) < 0) {}
     errno = ENOMEM;
     return 1;
@@ -58,6 +60,8 @@ def commands(words):
             command, _, kept = line.partition(" > ")
             command, _, source = command.partition(" < ")
             yield line, command.split(), source, kept, any(word in line for word in words)
+    for line in BY_THREADS:
+        yield line, line.split(), "", "", any(word in line for word in words)
 
 
 def run(path, library, folder, words, source, growth):
