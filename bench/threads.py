@@ -3,9 +3,10 @@
 
 usage: threads.py PATH_OF_WREPLAY [EVENTS]
 
-The modules are those of record.py. Threads that compute alone: the seconds of a recording by threads of one thread, and of four that
-each do the same, the least of ROUNDS, less those of threads of one turn; and how many times the steps a second of one thread the
-four make. Threads that share a counter: four of them make EVENTS accesses (10,000,000 by default) between them, and the greatest
+The modules are those of record.py. Threads that compute alone: the seconds of a recording by threads of one thread, of four that each
+do the same, and of four programs of one thread each that run side by side, the least of ROUNDS, less those of one turn; and how many
+times the steps a second of one thread the four make. The four programs share nothing, so they are what the machine has to give.
+Threads that share a counter: four of them make EVENTS accesses (10,000,000 by default) between them, and the greatest
 resident memory, less that of a recording of few events, is given for each event, once where the report is written and once
 where the pieces are. Seconds are those of the clock, so nothing else should run.
 """
@@ -23,9 +24,13 @@ TURNS = 30_000_000
 MOST = "1000000000"
 
 
+def plan_of(folder, threads):
+    return written(folder, f"{threads}.plan", b"wreplay plan 1\n" + b"thread run\n" * threads)
+
+
 def recorded(wreplay, folder, wasm, threads, *more):
     """The seconds of a recording by threads, and its greatest resident memory in bytes."""
-    plan = written(folder, "plan", b"wreplay plan 1\n" + b"thread run\n" * threads)
+    plan = plan_of(folder, threads)
     start = time.monotonic()
     with open(os.path.join(folder, "out"), "wb") as out:
         process = subprocess.Popen([wreplay, "record", wasm, plan, "--threads", "--steps", MOST, *more], stdout=out)
@@ -40,6 +45,20 @@ def least(wreplay, folder, wasm, threads):
     return min(recorded(wreplay, folder, wasm, threads, "--report")[0] for _ in range(ROUNDS))
 
 
+def side_by_side(wreplay, folder, wasm, count):
+    """The least seconds of so many programs that each record one thread."""
+    words = [wreplay, "record", wasm, plan_of(folder, 1), "--threads", "--steps", MOST, "--report"]
+    best = None
+    for _ in range(ROUNDS):
+        start = time.monotonic()
+        processes = [subprocess.Popen(words, stdout=subprocess.DEVNULL) for _ in range(count)]
+        if any(process.wait() != 0 for process in processes):
+            sys.exit("record --threads failed")
+        seconds = time.monotonic() - start
+        best = seconds if best is None else min(best, seconds)
+    return best
+
+
 def main():
     if len(sys.argv) not in (2, 3):
         sys.exit(__doc__)
@@ -49,10 +68,12 @@ def main():
         wasm = written(folder, "long.wasm", module(TURNS, False))
         one = least(wreplay, folder, wasm, 1) - least(wreplay, folder, short, 1)
         four = least(wreplay, folder, wasm, 4) - least(wreplay, folder, short, 4)
-        print("| threads | turns each | s | times the steps a second of one |")
-        print("|---:|---:|---:|---:|")
-        print(f"| 1 | {TURNS:,} | {one:.2f} | 1 |")
-        print(f"| 4 | {TURNS:,} | {four:.2f} | {4 * one / four:.2f} |")
+        apart = side_by_side(wreplay, folder, wasm, 4) - side_by_side(wreplay, folder, short, 4)
+        print("| what records | turns of each thread | s | times the steps a second of one |")
+        print("|---|---:|---:|---:|")
+        print(f"| one thread | {TURNS:,} | {one:.2f} | 1 |")
+        print(f"| four threads | {TURNS:,} | {four:.2f} | {4 * one / four:.2f} |")
+        print(f"| four programs of one thread | {TURNS:,} | {apart:.2f} | {4 * one / apart:.2f} |")
         print()
         few = written(folder, "few.wasm", module(1, True))
         many = written(folder, "many.wasm", module(events // 8, True))
