@@ -3,6 +3,7 @@
 ghost use Rattle.std.specs.Prelude.{◌<◌};
 
 use join_laws::Flat;
+use line_faults::{BytesFault, LineFault};
 use log_pieces::{End, Piece, read_line};
 use replica::{
     GatherFault, ListingForm, Log, MemorySink, MemorySource, Replica, ReplicaFault, Sink, Source,
@@ -313,18 +314,75 @@ fn gathered_parts(alloc: Global, parts: &[&str]) -> Result<Gathered, NoMemory> {
 
 /// The parts of a text, and the fault of its first faulty line.
 static REFUSED: &[(&[&str], GatherFault)] = &[
-    (&["no piece\n"], GatherFault::BadLine { line: 1 }),
+    (
+        &["no piece\n"],
+        GatherFault::BadLine {
+            line: 1,
+            reason: LineFault::NotADigit {
+                column: 1,
+                byte: b'n',
+            },
+        },
+    ),
     (
         &[WHOLE, "\n", FIRST, "\nno piece\n", WHOLE, "\n"],
-        GatherFault::BadLine { line: 3 },
+        GatherFault::BadLine {
+            line: 3,
+            reason: LineFault::NotADigit {
+                column: 1,
+                byte: b'n',
+            },
+        },
     ),
-    (&[WHOLE, "00\n"], GatherFault::BadLine { line: 1 }),
-    (&["\n", WHOLE, "\n"], GatherFault::BadLine { line: 1 }),
-    (&[WHOLE, "\n\n"], GatherFault::BadLine { line: 2 }),
-    (&[WHOLE, "\r\n"], GatherFault::BadLine { line: 1 }),
-    (&[WHOLE, "\r"], GatherFault::BadLine { line: 1 }),
-    (&["\0\0", WHOLE, "\n"], GatherFault::BadLine { line: 1 }),
-    (&[WHOLE, "\n\0"], GatherFault::BadLine { line: 2 }),
+    (
+        &[WHOLE, "00\n"],
+        GatherFault::BadLine {
+            line: 1,
+            reason: LineFault::Bytes(BytesFault::LeftOver { bytes: 1 }),
+        },
+    ),
+    (
+        &["\n", WHOLE, "\n"],
+        GatherFault::BadLine {
+            line: 1,
+            reason: LineFault::Empty,
+        },
+    ),
+    (
+        &[WHOLE, "\n\n"],
+        GatherFault::BadLine {
+            line: 2,
+            reason: LineFault::Empty,
+        },
+    ),
+    (
+        &[WHOLE, "\r\n"],
+        GatherFault::BadLine {
+            line: 1,
+            reason: LineFault::CarriageReturn,
+        },
+    ),
+    (
+        &[WHOLE, "\r"],
+        GatherFault::BadLine {
+            line: 1,
+            reason: LineFault::CarriageReturn,
+        },
+    ),
+    (
+        &["\0\0", WHOLE, "\n"],
+        GatherFault::BadLine {
+            line: 1,
+            reason: LineFault::NotADigit { column: 1, byte: 0 },
+        },
+    ),
+    (
+        &[WHOLE, "\n\0"],
+        GatherFault::BadLine {
+            line: 2,
+            reason: LineFault::NotADigit { column: 1, byte: 0 },
+        },
+    ),
     (
         &[WHOLE, "\n", OTHER_RUN, "\nno piece\n"],
         GatherFault::OtherRun { line: 2 },
@@ -354,17 +412,25 @@ fn refused_lines_have_their_numbers(rt: HostRuntime) -> Result<(), Fail> {
 
 #[test]
 fn lines_that_are_cut_or_in_upper_case_are_refused(rt: HostRuntime) -> Result<(), Fail> {
-    let (first, second) = (
-        GatherFault::BadLine { line: 1 },
-        GatherFault::BadLine { line: 2 },
-    );
+    let upper_case = GatherFault::BadLine {
+        line: 2,
+        reason: LineFault::UpperCase { column: 9 },
+    };
+    let short = GatherFault::BadLine {
+        line: 1,
+        reason: LineFault::Bytes(BytesFault::TooShort),
+    };
+    let odd = GatherFault::BadLine {
+        line: 1,
+        reason: LineFault::OddDigits { digits: 221 },
+    };
     let upper = [WHOLE, "\n", &WHOLE[..8], "AA", &WHOLE[10..], "\n"];
     let found = gathered_parts(rt.alloc(), &upper)?;
-    same(&rt, &found, &failed(second, 0, 0), "AA");
+    same(&rt, &found, &failed(upper_case, 0, 0), "AA");
     let found = gathered_parts(rt.alloc(), &[&WHOLE[..220], "\n"])?;
-    same(&rt, &found, &failed(first, 0, 0), "220");
+    same(&rt, &found, &failed(short, 0, 0), "220");
     let found = gathered_parts(rt.alloc(), &[&WHOLE[..221]])?;
-    same(&rt, &found, &failed(first, 0, 0), "221");
+    same(&rt, &found, &failed(odd, 0, 0), "221");
     Ok(())
 }
 
@@ -379,7 +445,10 @@ fn collected(alloc: Global, bytes: &[u8], fails_at: u64) -> (Option<GatherFault>
 fn a_line_without_end_is_refused_before_the_source_ends(rt: HostRuntime) -> Result<(), Fail> {
     // Longer than any piece line after nine reads of 65,536 bytes; the tenth would fail.
     let bytes = vec![in rt.alloc(); b'0'; 700_000]?;
-    let refused = Some(GatherFault::BadLine { line: 1 });
+    let refused = Some(GatherFault::BadLine {
+        line: 1,
+        reason: LineFault::TooLong,
+    });
     assert!(rt; collected(rt.alloc(), &bytes, 10) == (refused, 0));
     let fails = Some(GatherFault::SourceFailed);
     assert!(rt; collected(rt.alloc(), &bytes, 9) == (fails, 1));
@@ -468,7 +537,14 @@ fn a_bad_line_comes_before_a_later_failure(rt: HostRuntime) {
         sink_fails_at: None,
     };
     let found = gather_over(rt.alloc(), "no piece\n", &devices, b"");
-    let want = failed(GatherFault::BadLine { line: 1 }, 0, 0);
+    let fault = GatherFault::BadLine {
+        line: 1,
+        reason: LineFault::NotADigit {
+            column: 1,
+            byte: b'n',
+        },
+    };
+    let want = failed(fault, 0, 0);
     same(&rt, &found, &want, "no piece");
 }
 

@@ -1,5 +1,6 @@
 //! Why pieces were not gathered.
 
+use line_faults::LineFault;
 use thiserror::Error;
 use wasm_types::NoMemory;
 
@@ -24,9 +25,9 @@ pub enum GatherFault {
     /// Refusal 42: memory could not be had.
     #[error("out of memory")]
     NoMemory,
-    /// Refusal 43: that line is the first that is no piece line.
-    #[error("line {line} is no piece line")]
-    BadLine { line: u64 },
+    /// Refusal 43: that line is the first that is no piece line, for that reason.
+    #[error("line {line} is no piece line: {reason}")]
+    BadLine { line: u64, reason: LineFault },
     /// Refusal 44: a call of the source failed.
     #[error("the source failed")]
     SourceFailed,

@@ -6,8 +6,8 @@ use Rattle.replica.proofs.CollectLemmas.{first_bad, first_cut, all_gathered, all
 use Rattle.replica.proofs.gathering.collect.Goals as goal
 
 pub returns-in-Err-clause-bad_line : goal.returns-in-Err-clause-bad_line
-returns-in-Err-clause-bad_line g c n is =
-    let bad = c.in-Err.ensures.bad n (cc (is)) in
+returns-in-Err-clause-bad_line g c n reason is =
+    let bad = c.in-Err.ensures.bad n reason (cc (is)) in
     (bad.1, bad.2, first_bad (g.R.Source.ended c.next_piece.new.source) c.in_ok-chunk.chunk bad.1 n c.in_ok-chunk.ensures bad.0 bad.3)
 
 pub returns-in-Err-clause-source_failed : goal.returns-in-Err-clause-source_failed
@@ -23,9 +23,9 @@ returns-in-Ok-collect_rest-clause-gathered g c replica is =
     (all_gathered (g.R.Source.brings c.args.source.now) g.R.Source.brings (λ s t got more h k. g.met.R.Source.brings_more c.args.source.now s t got more h k) c.in_ok-chunk.chunk next.0 next.1 c.next_piece.new.chunk c.in-Ok-Piece.piece c.next_piece.new.source c.collect_rest.new.source c.in_ok-chunk.ensures next.2 next.3 next.4 (g.R.Source.ended c.collect_rest.new.source) c.in-Ok-replica_of.replica.log c.collect_rest.new.replica.log c.in-Ok-replica_of.ensures.key c.in-Ok-replica_of.ensures.log c.in-Ok-collect_rest.ensures.gathered)
 
 pub returns-in-Ok-replica_of-clause-bad_line : goal.returns-in-Ok-replica_of-clause-bad_line
-returns-in-Ok-replica_of-clause-bad_line g c n is =
+returns-in-Ok-replica_of-clause-bad_line g c n reason is =
     let next = c.in-Ok-Piece.ensures.piece c.in-Ok-Piece.piece (cc (c.in-Ok-Piece.field-0-is)) in
-    all_bad (g.R.Source.brings c.args.source.now) g.R.Source.brings (λ s t got more h k. g.met.R.Source.brings_more c.args.source.now s t got more h k) c.in_ok-chunk.chunk next.0 next.1 c.next_piece.new.chunk c.in-Ok-Piece.piece c.next_piece.new.source c.collect_rest.new.source c.in_ok-chunk.ensures next.2 next.3 next.4 (g.R.Source.ended c.collect_rest.new.source) c.in-Ok-replica_of.replica.log.key n c.in-Ok-replica_of.ensures.key (c.in-Err-collect_rest.ensures.bad n (cc (is)))
+    all_bad (g.R.Source.brings c.args.source.now) g.R.Source.brings (λ s t got more h k. g.met.R.Source.brings_more c.args.source.now s t got more h k) c.in_ok-chunk.chunk next.0 next.1 c.next_piece.new.chunk c.in-Ok-Piece.piece c.next_piece.new.source c.collect_rest.new.source c.in_ok-chunk.ensures next.2 next.3 next.4 (g.R.Source.ended c.collect_rest.new.source) c.in-Ok-replica_of.replica.log.key n c.in-Ok-replica_of.ensures.key (c.in-Err-collect_rest.ensures.bad n reason (cc (is)))
 
 pub returns-in-Ok-replica_of-clause-other_run : goal.returns-in-Ok-replica_of-clause-other_run
 returns-in-Ok-replica_of-clause-other_run g c n is =

@@ -8,8 +8,8 @@ joined (Ok x) f a b c = f a b c
 joined (Err e) f a b c = tt
 
 pub returns-in-Err-clause-bad : goal.returns-in-Err-clause-bad
-returns-in-Err-clause-bad g c n is =
-    let bad = c.in-Err.ensures.bad n (cc (is)) in
+returns-in-Err-clause-bad g c n reason is =
+    let bad = c.in-Err.ensures.bad n reason (cc (is)) in
     rest_bad (g.R.Source.brings c.args.source.now) g.R.Source.brings (λ s t got more h k. g.met.R.Source.brings_more c.args.source.now s t got more h k) c.args.chunk.now c.args.replica.now.log c.loop-fault.source c.loop-fault.chunk c.loop-fault.replica.log c.loop-fault.number c.loop-fault.invariant.so_far c.next_piece.new.source bad.1 bad.2 (g.R.Source.ended c.next_piece.new.source) n (bad.0 ∙ c.saturating_add-number.ensures) bad.3
 
 pub returns-in-Err-clause-source_failed : goal.returns-in-Err-clause-source_failed

@@ -17,16 +17,16 @@ returns-in-Ok-Line-Some-clause-piece g c piece is =
     )
 
 pub returns-in-Ok-Line-None-clause-bad : goal.returns-in-Ok-Line-None-clause-bad
-returns-in-Ok-Line-None-clause-bad g c n is =
+returns-in-Ok-Line-None-clause-bad g c n reason is =
     let w = c.in-Ok-Line-None.ensures.line None (cc (c.in-Ok-Line-None.field-0-is, c.in-Ok-Line-None.field-0-0-is)) in
     (cc (is), w.0, w.2, bad_whole (g.R.Source.ended c.next_judged.new.source) (c.args.chunk.now ++ w.0) w.1 c.next_judged.new.chunk w.3 w.4 w.5)
 
 pub returns-in-Ok-Last-None-clause-bad : goal.returns-in-Ok-Last-None-clause-bad
-returns-in-Ok-Last-None-clause-bad g c n is =
+returns-in-Ok-Last-None-clause-bad g c n reason is =
     let w = c.in-Ok-Last-None.ensures.last None (cc (c.in-Ok-Last-None.field-0-is, c.in-Ok-Last-None.field-0-0-is)) in
     (cc (is), w.0, w.2, inr (w.3, λ none. w.5 (sym w.6 ∙ none), λ piece line. w.7 piece (subst (λ (l : List ℕ). IsLineOf (l ++ 10 ∷ []) piece) w.6 line)))
 
 pub returns-in-Ok-TooLong-clause-bad : goal.returns-in-Ok-TooLong-clause-bad
-returns-in-Ok-TooLong-clause-bad g c n is =
+returns-in-Ok-TooLong-clause-bad g c n reason is =
     let w = c.in-Ok-TooLong.ensures.too_long (cc (c.in-Ok-TooLong.field-0-is)) in
     (cc (is), w.0, w.2, bad_long (g.R.Source.ended c.next_judged.new.source) (c.args.chunk.now ++ w.0) w.1 c.next_judged.new.chunk w.3 w.4 w.5)
