@@ -1,0 +1,21 @@
+//! Why a line of a plan or of a schedule is refused, in words: each finds the refused line in its text again.
+#![tactic(auto)]
+
+mod arguments;
+mod lines;
+mod plan;
+mod plan_reasons;
+mod quoted;
+mod schedule;
+mod schedule_reasons;
+
+pub use plan::plan_reason;
+pub use plan_reasons::PlanReason;
+pub use quoted::Quoted;
+pub use schedule::schedule_reason;
+pub use schedule_reasons::ScheduleReason;
+
+#[cfg(test)]
+mod plan_tests;
+#[cfg(test)]
+mod schedule_tests;
