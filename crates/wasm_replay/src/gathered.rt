@@ -1,5 +1,7 @@
 //! A gathered log, as a replay reads it.
 
+ghost use Rattle.std.specs.Prelude.{◌≡◌};
+
 use crate::reader::{LogReader, ThreadReader};
 use join_laws::Flat;
 use log_pieces::End;
@@ -12,6 +14,15 @@ use std::array;
 #[derive(Drop)]
 pub struct Gathered<'a> {
     pub(crate) log: &'a Log,
+}
+
+impl<'a> Gathered<'a> {
+    /// This log, as a replay reads it.
+    pub fn new(log: &'a Log) -> Gathered<'a>
+        ensures { result.log.now ≡ log.now }
+    {
+        Gathered { log }
+    }
 }
 
 impl<'a> ReadLog for Gathered<'a> {

@@ -9,5 +9,5 @@ mod replaying;
 
 pub use gathered::Gathered;
 pub use opener::Opener;
-pub use opening::{WasmReplay, open_replay};
+pub use opening::{WasmReplay, open_replay, opener_of};
 pub use replaying::{WasmReplayFault, replay_gathered};

@@ -1,5 +1,7 @@
 //! A module and a plan, as what opens their world.
 
+ghost use Rattle.std.specs.Prelude.{◌≡◌};
+
 use event_core::World;
 use integer_machine::ThreadState;
 use replay_gate::OpenWorld;
@@ -16,6 +18,15 @@ pub struct Opener<'a> {
     pub(crate) valid: &'a Valid,
     pub(crate) plan: &'a Plan,
     pub(crate) profile: Profile,
+}
+
+impl<'a> Opener<'a> {
+    /// The profile of the runs.
+    pub fn profile(&self) -> Profile
+        ensures { result ≡ self.now.profile }
+    {
+        self.profile
+    }
 }
 
 impl<'a> OpenWorld<ThreadState<'a>, SharedSpace> for Opener<'a> {

@@ -45,7 +45,7 @@ fn has_small_blocks(profile: &Profile)
 }
 
 /// What opens the world of a log's runs, if they can be runs of this module and plan.
-pub(crate) fn opener_of<'a>(
+pub fn opener_of<'a>(
     valid: &'a Valid,
     plan: &'a Plan,
     log: &Log,
