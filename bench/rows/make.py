@@ -18,7 +18,16 @@ def command(line, output='', errors='', status=0):
     script.append(line)
     expected.append('$ wreplay ' + line + '\n' + output + errors + ('exit %d\n' % status if status else ''))
 
-def refused(line, text): command(line, '', 'refused %s\n' % text, 1)
+# the words of reasons are open, so no model makes them: they are what the program says, read by hand
+with open(os.path.join(os.path.dirname(os.path.abspath(__file__)), 'reasons')) as file:
+    REASONS = dict(line.rstrip('\n').split('\t') for line in file)
+
+def refused(line, text):
+    """A command that is refused, and the same asked for the reason."""
+    command(line, '', 'refused %s\n' % text, 1)
+    front, mark, name = line.partition(' < ')
+    asked = front + ' --why' + mark + name
+    command(asked, '', 'refused %s\n%s\n' % (text, REASONS.get(asked, '?')), 1)
 
 # ---- one recorded run, its pieces, its listing and its replays
 
@@ -44,6 +53,7 @@ def recorded(name, module_file, module, plan_file, plan, schedule, block=64, ste
     command('gather < %s.pieces' % name, world.listing(d, number))
     for order in orders:
         command('replay %s %s.pieces%s' % (files, name, ' --order ' + order if order else ''), world.report())
+    command('replay %s %s.pieces --threads' % (files, name), world.report())
     return world
 
 # ---- modules and plans
@@ -147,6 +157,8 @@ refused('replay counter.wasm bad.plan absent.pieces', '15 WrongArguments 2')
 refused('replay counter.wasm counter.plan absent.pieces', '44 SourceFailed')
 refused('replay readers.wasm readers.plan first.pieces', '51 OtherRun')
 refused('replay counter.wasm counter.plan empty', '53 Missing 0 0')
+refused('replay counter.wasm counter.plan empty --threads', '53 Missing 0 0')
+refused('replay readers.wasm readers.plan first.pieces --threads', '51 OtherRun')
 refused('replay counter.wasm counter.plan first.schedule', '43 BadLine 1')
 
 # ---- logs with one change: each a piece more, or a thread's whole log in another form
@@ -168,6 +180,7 @@ def thread1(entries=w[2:], end=(8, 2), outcome=THREE): return piece(FIRST, D, 0,
 assert thread0() + thread1() == FIRST.lines(D, 0, 4096)
 def changed(name, text, answer, order=''):
     keep(name + '.pieces', text); refused('replay counter.wasm counter.plan %s.pieces%s' % (name, order), answer)
+    if not order: refused('replay counter.wasm counter.plan %s.pieces --threads' % name, answer)
 changed('missing', thread0() + piece(FIRST, D, 0, 1, 0, w[2:3]), '53 Missing 1 0')
 changed('hole', thread0() + piece(FIRST, D, 0, 1, 0, w[2:3]) + piece(FIRST, D, 0, 1, 2, [], (8, 2), None, THREE), '53 Missing 1 1')
 changed('clash', thread0() + thread1() + piece(FIRST, D, 0, 0, 0, [('access', ['w1@5/0'])]), '52 Clash 0 0')
@@ -192,6 +205,7 @@ LARGE = Module([('w', [], 'i32', add + ['drop'] + add + ['end'])], (17, 17, True
 keep('large.wasm', LARGE.bytes)
 keep('large.pieces', piece(FIRST, digest(LARGE, TWO), 1, 0, 0, w[:2], (8, 2), None, ONE, False))
 refused('replay large.wasm counter.plan large.pieces', '58 OldProfile')
+refused('replay large.wasm counter.plan large.pieces --threads', '58 OldProfile')
 # the pieces of the missing place, found
 script.append('record counter.wasm counter.plan --schedule first.schedule > whole.pieces'); expected.append('$ wreplay ' + script[-1] + '\n')
 command('replay counter.wasm counter.plan whole.pieces', FIRST.report())
@@ -256,6 +270,37 @@ keep('twice.pieces', TWO_WRITES % 1 + '\n' + TWO_WRITES % 1 + 'z' * 1000)
 command('gather --skip < twice.pieces', LISTED, 'skipped 2 0\n')
 command('gather --skip < counter.plan', NO_PIECES, 'skipped 3 0\n')
 command('gather --skip', NO_PIECES, 'skipped 0 0\n')
+
+# reasons of more refusals: modules, plans, schedules and lines with one change
+def patched(at, *bytes_): return COUNTER.bytes[:at] + bytes(bytes_) + COUNTER.bytes[at + len(bytes_):]
+def check_of(name, content, text): keep(name + '.wasm', content); refused('check %s.wasm' % name, text)
+check_of('text', b'(module)', '1 Refused 0')
+check_of('float', patched(37, 0x43), '1 Refused 37')
+check_of('bulk', patched(41, 0xFC, 0x0A), '1 Refused 41')
+check_of('sections', patched(8, 0x0D, 0x05), '1 Refused 8')
+check_of('many', bytes.fromhex('0061736d01000000050401008102ff'), '2 TooLarge')
+check_of('untyped', patched(37, 0x01, 0x01), '11 Invalid 0 3')
+check_of('aligned', patched(43, 0x01, 0x00), '11 Invalid 0 2')
+check_of('upside', patched(24, 0x00, 0x07), '11 Invalid module')
+PATCHED = Module([('w', [], 'i32', add + ['end'])], data=((65535, b'ab'),))
+keep('outside.wasm', PATCHED.bytes)
+def plan_refused(name, content, text, module='counter'):
+    keep(name + '.plan', content); refused('record %s.wasm %s.plan --schedule first.schedule' % (module, name), text)
+plan_refused('headless', b'thread w\n', '13 BadLine 1')
+plan_refused('spaced', b'wreplay plan 1\nthread w \n', '13 BadLine 2')
+plan_refused('stranger', b'wreplay plan 1\nthread w\nthread v\n', '14 NoExport 3')
+plan_refused('outsider', b'wreplay plan 1\nthread w\n', '17 SegmentOutOfBounds', 'outside')
+def schedule_refused(name, content, text):
+    keep(name + '.schedule', content); refused('record counter.wasm counter.plan --schedule %s.schedule' % name, text)
+schedule_refused('sixteenth', b'go 0 1\ngo 16 1\n', '18 BadSchedule 2')
+schedule_refused('millions', b'go 0 1000000\ngo 0 1\n', '18 BadSchedule 2')
+schedule_refused('returned', b'go 0 1\r\n', '18 BadSchedule 1')
+def line_refused(name, content, text): keep(name + '.pieces', content); refused('gather < %s.pieces' % name, text)
+line_refused('odd', FIRST_WRITE + FIRST_WRITE[1:], '43 BadLine 2')
+line_refused('upper', FIRST_WRITE.replace('aa', 'AA', 1), '43 BadLine 1')
+line_refused('ended', FIRST_WRITE.rstrip() + '\r\n', '43 BadLine 1')
+line_refused('short', FIRST_WRITE[:40] + '\n', '43 BadLine 1')
+line_refused('foreign', TWO_WRITES % 1 + TWO_WRITES % 2, '41 OtherRun 2')
 
 # the hunt: its commands, and what they write, are kept with it; its pages show them
 HUNT = os.path.join(os.path.dirname(os.path.abspath(__file__)), '..', '..', 'examples', 'hunt')

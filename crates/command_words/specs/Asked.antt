@@ -66,6 +66,11 @@ pub record IsReplayAsked (rows : List Row) (r : ReplayRequest) : Type 0 where
   pub has_pieces : first_of (codes "PIECES") rows ≡ Some r.pieces.now
   pub has_order : order_of (first_of (codes "order") rows) ≡ Some r.order.items
 
+-- and say whether the threads replay at once, which no order does
+abbrev pub IsTurnsAsked : List Row → Bool → Type 0
+IsTurnsAsked rows true = (first_of (codes "order") rows ≡ None) × (is_text (codes "true") (first_of (codes "threads") rows) ≡ true)
+IsTurnsAsked rows false = is_text (codes "true") (first_of (codes "threads") rows) ≡ false
+
 -- `T.N`, and `FROM+LEN`
 abbrev pub IsCountAsked : Option Text → Option ThreadCount → Type 0
 IsCountAsked text count = pair_of_option 46 text ≡ Some (option_map (λ c. (c.thread, c.count)) count)
@@ -89,7 +94,7 @@ IsAsked name rows (Gather skips objects) = (name ≡ codes "gather") × (skips �
     × (objects ≡ is_text (codes "true") (first_of (codes "objects") rows))
 IsAsked name rows (Check path) = (name ≡ codes "check") × (first_of (codes "MODULE") rows ≡ Some path.now)
 IsAsked name rows (Record r) = (name ≡ codes "record") × IsRecordAsked rows r
-IsAsked name rows (Replay r) = (name ≡ codes "replay") × IsReplayAsked rows r
+IsAsked name rows (Replay r by_threads) = (name ≡ codes "replay") × IsReplayAsked rows r × IsTurnsAsked rows by_threads
 IsAsked name rows (View v) = (name ≡ codes "view") × IsViewAsked rows v
 
 -- the same of a command and its values that a parser found
@@ -102,6 +107,15 @@ pub record Asks (words : List Text) (request : Request) : Type 0 where
   pub taken : fault_of program words ≡ []
   pub found : IsFoundBy (subcommand_of program words) request
 
+-- what a parser found asks for the reason of a refusal in words
+abbrev pub why_of : Option (Text × List Row) → Bool
+why_of None = false
+why_of (Some p) = is_text (codes "true") (first_of (codes "why") p.1)
+
+-- the words ask for the reason of a refusal in words
+abbrev pub asks_why : List Text → Bool
+asks_why words = why_of (subcommand_of program words)
+
 -- the words ask for nothing that there is
 abbrev pub AsksNothing : List Text → Type 0
 AsksNothing words = (request : Request) → Asks words request → ⊥
@@ -112,14 +126,14 @@ AsksForText words = IsAmong kind.DisplayHelp (fault_of program words) ⊎ IsAmon
 
 -- what is answered says what the words ask for
 abbrev pub IsRequested : List Text → Asked → Type 0
-IsRequested words (asked.Request request) = Asks words request
+IsRequested words (asked.Request request why) = Asks words request × (why ≡ asks_why words)
 IsRequested words (asked.Text text) = AsksNothing words × AsksForText words
 IsRequested words (asked.Unknown text) = AsksNothing words
 IsRequested words (asked.Wrong text) = AsksNothing words
 
 -- what is answered says what was found
 abbrev pub IsFound : Option (Text × List Row) → Asked → Type 0
-IsFound found (asked.Request request) = IsFoundBy found request
+IsFound found (asked.Request request why) = IsFoundBy found request × (why ≡ why_of found)
 IsFound found (asked.Text text) = ⊥
 IsFound found (asked.Unknown text) = ⊥
 IsFound found (asked.Wrong text) = (request : Request) → IsFoundBy found request → ⊥

@@ -19,11 +19,15 @@ option_rule name = record (new_rule name) { long = Some name; value_names = 1 }
 abbrev pub flag_rule : Text → Rule
 flag_rule name = record (new_rule name) { long = Some name; action = Some SetTrue }
 
+-- a command that can say in words why it refuses
+abbrev pub with_why : App → App
+with_why a = with_rule a (flag_rule (codes "why"))
+
 abbrev pub gather : App
-gather = with_rule (with_rule (new_app (codes "gather")) (flag_rule (codes "skip"))) (flag_rule (codes "objects"))
+gather = with_why (with_rule (with_rule (new_app (codes "gather")) (flag_rule (codes "skip"))) (flag_rule (codes "objects")))
 
 abbrev pub check : App
-check = with_rule (new_app (codes "check")) (file_rule (codes "MODULE"))
+check = with_why (with_rule (new_app (codes "check")) (file_rule (codes "MODULE")))
 
 -- a command on a module and a plan
 abbrev pub on_program : App → App
@@ -38,14 +42,14 @@ abbrev pub with_orders : App → App
 with_orders a = with_rule (with_rule (with_rule a (option_rule (codes "schedule"))) (flag_rule (codes "threads"))) (default_rule (codes "timeouts") (codes "never"))
 
 abbrev pub recording : App
-recording = with_rule (with_numbers (with_orders (on_program (new_app (codes "record"))))) (flag_rule (codes "report"))
+recording = with_why (with_rule (with_numbers (with_orders (on_program (new_app (codes "record"))))) (flag_rule (codes "report")))
 
 -- a replay's files, and its order
 abbrev pub on_pieces : App → App
 on_pieces a = with_rule (with_rule (on_program a) (file_rule (codes "PIECES"))) (option_rule (codes "order"))
 
 abbrev pub replaying : App
-replaying = on_pieces (new_app (codes "replay"))
+replaying = with_why (with_rule (on_pieces (new_app (codes "replay"))) (flag_rule (codes "threads")))
 
 abbrev pub with_breaks : App → App
 with_breaks a = with_rule (with_rule (with_rule a (option_rule (codes "place"))) (option_rule (codes "step"))) (option_rule (codes "write"))
@@ -55,7 +59,7 @@ abbrev pub with_range : App → App
 with_range a = with_rule (with_rule (with_rule a (default_rule (codes "from") (codes "0"))) (default_rule (codes "len") (codes "64"))) (flag_rule (codes "names"))
 
 abbrev pub viewing : App
-viewing = with_range (with_breaks (on_pieces (new_app (codes "view"))))
+viewing = with_why (with_range (with_breaks (on_pieces (new_app (codes "view")))))
 
 -- the program before its commands, one of which is required
 abbrev pub above : App

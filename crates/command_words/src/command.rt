@@ -3,13 +3,13 @@
 ghost use Rattle.std.specs.Prelude.{◌≡◌, map, IfOk, codes, true, false};
 ghost use Rattle.clap.specs.Words.{app_of, rule_of, shape_of, new_app, with_rule, with_subcommand};
 ghost use Rattle.clap.specs.declared.builder.command.Command.TheViews.{out-Command};
-ghost use Rattle.command_words.specs.Commands.{program, gather, check, recording, replaying, viewing, on_program, on_pieces, with_breaks, with_range, with_orders, with_numbers, file_rule, option_rule, default_rule, flag_rule};
+ghost use Rattle.command_words.specs.Commands.{program, gather, check, recording, replaying, viewing, on_program, on_pieces, with_breaks, with_range, with_orders, with_numbers, with_why, file_rule, option_rule, default_rule, flag_rule};
 ghost use Rattle.command_words.specs.Asked.{IsRequested, IsFound};
 ghost use Rattle.clap.specs.Words.{subcommand_rows_of};
 
 use crate::help;
 use crate::requests::Request;
-use crate::wanted::request_of;
+use crate::wanted::{has_text, request_of};
 use clap::error::ErrorKind;
 use clap::{Arg, ArgAction, ArgMatches, Command};
 use std::alloc::{AllocError, Global};
@@ -22,8 +22,8 @@ const NO_COMMAND: &str = "error: there is no such command\n";
 /// What a command line comes to.
 #[derive(Drop)]
 pub enum Asked<'a> {
-    /// It asks for this.
-    Request(Request<'a>),
+    /// It asks for this, and perhaps for the reason in words where it is refused.
+    Request { request: Request<'a>, why: bool },
     /// It asks for this text: help, or the version.
     Text(String),
     /// It asks for nothing that there is, and this text says so.
@@ -141,6 +141,15 @@ fn with_numbers<'a>(alloc: Global, command: Command<'a>) -> Result<Command<'a>, 
     with_argument(command, block)
 }
 
+/// A command that can say in words why it refuses.
+fn with_why<'a>(alloc: Global, command: Command<'a>) -> Result<Command<'a>, AllocError>
+    ensures app { IfOk result (λ c. app_of c ≡ with_why (app_of command.entry)) }
+    ensures local { IfOk result (λ c. (out-Command c).has_globals ≡ (out-Command command.entry).has_globals) }
+{
+    let why = "Say in a second line of standard error why it is refused";
+    with_argument(command, flag(alloc, "why", why))
+}
+
 /// The command `check`.
 fn check_command<'a>(alloc: Global) -> Result<Command<'a>, AllocError>
     ensures app { IfOk result (λ c. app_of c ≡ check) }
@@ -150,7 +159,8 @@ fn check_command<'a>(alloc: Global) -> Result<Command<'a>, AllocError>
         .about("Decode and validate a module, and summarize it")
         .long_about(help::CHECK_ABOUT)
         .after_help(help::CHECK_REFUSALS);
-    with_argument(command, file(alloc, "MODULE", "The file of the module"))
+    let command = with_argument(command, file(alloc, "MODULE", "The file of the module"))?;
+    with_why(alloc, command)
 }
 
 /// The command `record`, without its arguments.
@@ -196,7 +206,8 @@ fn record_command<'a>(alloc: Global) -> Result<Command<'a>, AllocError>
     let command = on_program(alloc, bare_record(alloc))?;
     let command = with_orders(alloc, command)?;
     let command = with_numbers(alloc, command)?;
-    with_argument(command, report)
+    let command = with_argument(command, report)?;
+    with_why(alloc, command)
 }
 
 /// A command on the pieces of a run of a module and a plan, with an order.
@@ -220,7 +231,10 @@ fn replay_command<'a>(alloc: Global) -> Result<Command<'a>, AllocError>
         .about("Make a recorded run again, and write what it came to")
         .long_about(help::REPLAY_ABOUT)
         .after_help(help::REPLAY_REFUSALS);
-    on_pieces(alloc, command)
+    let threads = "Replay the threads at once, as the system lets them";
+    let command = on_pieces(alloc, command)?;
+    let command = with_argument(command, flag(alloc, "threads", threads))?;
+    with_why(alloc, command)
 }
 
 /// A command with the breaks of `view`.
@@ -269,7 +283,8 @@ fn view_command<'a>(alloc: Global) -> Result<Command<'a>, AllocError>
 {
     let command = on_pieces(alloc, bare_view(alloc))?;
     let command = with_breaks(alloc, command)?;
-    with_range(alloc, command)
+    let command = with_range(alloc, command)?;
+    with_why(alloc, command)
 }
 
 /// The command `gather`.
@@ -284,7 +299,8 @@ fn gather_command<'a>(alloc: Global) -> Result<Command<'a>, AllocError>
     let skip = "Pass over lines that cannot be joined, and count them";
     let objects = "Say behind each entry which bytes its objects are";
     let command = with_argument(command, flag(alloc, "skip", skip))?;
-    with_argument(command, flag(alloc, "objects", objects))
+    let command = with_argument(command, flag(alloc, "objects", objects))?;
+    with_why(alloc, command)
 }
 
 /// The command lines that there are.
@@ -317,7 +333,10 @@ fn found_in<'a>(alloc: Global, matches: &ArgMatches<'a>) -> Result<Asked<'a>, No
         return Ok(Asked::Wrong(NO_COMMAND));
     };
     match request_of(alloc, name, values)? {
-        Ok(request) => Ok(Asked::Request(request)),
+        Ok(request) => Ok(Asked::Request {
+            request,
+            why: has_text(values, "why", "true"),
+        }),
         Err(wrong) => Ok(Asked::Wrong(wrong)),
     }
 }

@@ -17,7 +17,8 @@ pub(crate) const STATUSES: &str = "\
 Exit status:
   0  done
   1  refused: standard error has one line, `refused`, a number, a name, and
-     perhaps numbers that say where
+     perhaps numbers that say where; with --why a second line says in words
+     which file it is, where, and why
   2  the command line was not understood
 
 Example:
@@ -177,7 +178,12 @@ repeats. A file of no bytes is an empty log.
 
 Each thread waits at each access until the objects have the versions that the
 log names, so every order gives the same end. --order says which threads take
-turns first, one turn for each number; then all threads take turns in rounds.";
+turns first, one turn for each number; then all threads take turns in rounds.
+
+With --threads each thread of the plan is a thread of the system, and they make
+the run again at once, which saves time where there are several cores. What is
+written is the same; where there are several reasons to refuse the replay, it
+may name another of them than a replay in turns.";
 
 /// How `replay` refuses.
 pub(crate) const REPLAY_REFUSALS: &str = "\
@@ -202,7 +208,8 @@ Refusals (exit status 1), the first of them in this order:
 Example:
   wreplay record examples/lost.wasm examples/lost.plan \\
       --schedule examples/lost.schedule > pieces.txt
-  wreplay replay examples/lost.wasm examples/lost.plan pieces.txt --order 1,0,1";
+  wreplay replay examples/lost.wasm examples/lost.plan pieces.txt --order 1,0,1
+  wreplay replay examples/lost.wasm examples/lost.plan pieces.txt --threads";
 
 /// What `view` reads and writes.
 pub(crate) const VIEW_ABOUT: &str = "\

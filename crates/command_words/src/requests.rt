@@ -72,13 +72,19 @@ pub struct ViewRequest<'a> {
 pub enum Request<'a> {
     /// The listing of piece lines, whether those that cannot be joined are passed over, and whether it says which bytes each
     /// object is.
-    Gather { skips: bool, objects: bool },
+    Gather {
+        skips: bool,
+        objects: bool,
+    },
     /// The summary of the module in the file at this path.
     Check(&'a str),
     /// The pieces or the report of a recording.
     Record(RecordRequest<'a>),
-    /// The report of a replay.
-    Replay(ReplayRequest<'a>),
+    /// The report of a replay, whose threads take turns, or replay at once, as threads of the system.
+    Replay {
+        replay: ReplayRequest<'a>,
+        by_threads: bool,
+    },
     /// A view of a replay that stops.
     View(ViewRequest<'a>),
 }

@@ -1,9 +1,9 @@
 //! What the values of a command ask for.
 
-ghost use Rattle.std.specs.Prelude.{◌≡◌, ℕ, Option, codes, Some, None, IfOk, OnErr, IfSome, IfNone, option_map};
+ghost use Rattle.std.specs.Prelude.{◌≡◌, ℕ, Bool, Option, codes, Some, None, IfOk, OnErr, IfSome, IfNone, option_map};
 ghost use Rattle.clap.specs.Words.{Row, rows_of, first_of};
 ghost use Rattle.clap.specs.Matches.{found_of};
-ghost use Rattle.command_words.specs.Asked.{IsAsked, IsOrderAsked, IsRecordAsked, IsReplayAsked, IsViewAsked, IsCountAsked, IsRangeAsked, IsBlockOf, order_of, is_text, number_of, pair_of_option};
+ghost use Rattle.command_words.specs.Asked.{IsAsked, IsOrderAsked, IsRecordAsked, IsReplayAsked, IsTurnsAsked, IsViewAsked, IsCountAsked, IsRangeAsked, IsBlockOf, order_of, is_text, number_of, pair_of_option};
 ghost use Rattle.command_words.specs.declared.requests.Request.{Request};
 ghost use Rattle.command_words.specs.declared.requests.RecordOrder.{RecordOrder};
 ghost use Rattle.command_words.specs.declared.requests.RecordRequest.{RecordRequest};
@@ -39,6 +39,9 @@ const BAD_TIMEOUTS: &str = "error: '--timeouts <WHEN>' takes never or now\n";
 
 const BAD_ORDER: &str =
     "error: '--order <LIST>' takes 1 to 1000000 thread numbers, joined by commas\n";
+
+/// What is said where an order is named for threads that replay at once.
+const BAD_TURNS: &str = "error: 'replay' takes either '--order <LIST>' or '--threads'\n";
 
 const BAD_PLACE: &str = "error: '--place <T.P>' takes a thread and a place, as 1.0\n";
 
@@ -91,7 +94,7 @@ fn block(matches: &ArgMatches<'_>) -> Option<Block>
 }
 
 /// Whether an option's value is this text.
-fn has_text(matches: &ArgMatches<'_>, id: &str, text: &str) -> bool
+pub(crate) fn has_text(matches: &ArgMatches<'_>, id: &str, text: &str) -> bool
     ensures { result ≡ is_text text.now (first_of id.now (rows_of (found_of matches.now))) }
 {
     match value(matches, id) {
@@ -168,6 +171,18 @@ fn replay_of<'a>(matches: &ArgMatches<'a>, order: Option<Vec<u32>>) -> Wanted<Re
         pieces,
         order,
     })
+}
+
+/// Whether threads replay at once, as the values of `replay` say; None where they name an order, too.
+fn by_threads(matches: &ArgMatches<'_>) -> Option<bool>
+    ensures asked { IfSome result (IsTurnsAsked (rows_of (found_of matches.now))) }
+    ensures none { IfNone result ((by_threads : Bool) → IsTurnsAsked (rows_of (found_of matches.now)) by_threads → ⊥) }
+{
+    let threads = has_text(matches, "threads", "true");
+    match value(matches, "order") {
+        Some(_) if threads => None,
+        _ => Some(threads),
+    }
 }
 
 /// The two numbers that an option has, if it is there.
@@ -255,7 +270,10 @@ pub(crate) fn request_of<'a>(
             Err(wrong) => Ok(Err(wrong)),
         },
         "replay" => match replay_of(matches, order_of(alloc, matches)?) {
-            Ok(replay) => Ok(Ok(Request::Replay(replay))),
+            Ok(replay) => match by_threads(matches) {
+                Some(by_threads) => Ok(Ok(Request::Replay { replay, by_threads })),
+                None => Ok(Err(BAD_TURNS)),
+            },
             Err(wrong) => Ok(Err(wrong)),
         },
         "view" => match view_of(matches, replay_of(matches, order_of(alloc, matches)?)) {

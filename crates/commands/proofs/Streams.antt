@@ -7,6 +7,7 @@ use Rattle.replica.specs.declared.fault.GatherFault.TheVariants as gathering
 use Rattle.replica.specs.declared.replica.Replica.{Replica}
 use Rattle.replica.specs.Log.{log_of}
 use Rattle.replica.specs.Lines.{IsCollectFault}
+use Rattle.line_faults.specs.declared.reasons.LineFault.{LineFault}
 use Rattle.replica.specs.Gathered.{Collects, Refuses, IsBadLine, IsOtherRun, IsCutText, HasNoLine}
 use Rattle.commands.specs.declared.fault.Fault.{Fault}
 use Rattle.commands.specs.Files.{IsOpened}
@@ -25,11 +26,11 @@ module _ {Stream : Type 0} {brings : Stream → List ℕ → Stream → Type 0} 
   found_in found k replica h = log_in (log_of replica) (k replica (ap (λ (o : Option Replica). Ok o) (ap what_was_found h)))
 
   -- where the text ends there, the file is the text; else it goes on
-  at_end : (text : List ℕ) (n : ℕ) (came : brings stream text later) (bad : IsBadLine (ended later) text n) → HasNoLine (ended later) bad.rest → (bytes : List ℕ) × holds bytes × IsLinesFault bytes (gathering.BadLine n)
-  at_end text n came bad (inl unlike) =
+  at_end : (text : List ℕ) (n : ℕ) (reason : LineFault) (came : brings stream text later) (bad : IsBadLine (ended later) text n) → HasNoLine (ended later) bad.rest → (bytes : List ℕ) × holds bytes × IsLinesFault bytes (gathering.BadLine n reason)
+  at_end text n reason came bad (inl unlike) =
       let more : (rest : List ℕ) × holds (text ++ rest) = opened.begins text later came in
       (text ++ more.0, more.1, (text, more.0, refl, record { key = bad.key; pieces = bad.pieces; rest = bad.rest; begins = bad.begins; counted = bad.counted; bad = inl unlike }))
-  at_end text n came bad (inr h) =
+  at_end text n reason came bad (inr h) =
       (text, opened.whole text later came h.0, (text, [], sym (append-nil text), record { key = bad.key; pieces = bad.pieces; rest = bad.rest; begins = bad.begins; counted = bad.counted; bad = inr (refl, h.1, h.2) }))
 
   other_run_in : (n : ℕ) → Refuses (brings stream) later (λ text. IsOtherRun text n) → (bytes : List ℕ) × holds bytes × IsLinesFault bytes (gathering.OtherRun n)
@@ -38,7 +39,7 @@ module _ {Stream : Type 0} {brings : Stream → List ℕ → Stream → Type 0} 
       (h.0 ++ more.0, more.1, (h.0, more.0, refl, h.2))
 
   pub fault_in : (fault : GatherFault) → IsCollectFault fault → brings stream [] stream
-      → ((n : ℕ) → ◌≡◌ {A = Result (Option Replica) GatherFault} (Err fault) (Err (gathering.BadLine n)) → Refuses (brings stream) later (λ text. IsBadLine (ended later) text n))
+      → ((n : ℕ) (reason : LineFault) → ◌≡◌ {A = Result (Option Replica) GatherFault} (Err fault) (Err (gathering.BadLine n reason)) → Refuses (brings stream) later (λ text. IsBadLine (ended later) text n))
       → ((n : ℕ) → ◌≡◌ {A = Result (Option Replica) GatherFault} (Err fault) (Err (gathering.OtherRun n)) → Refuses (brings stream) later (λ text. IsOtherRun text n))
       → (◌≡◌ {A = Result (Option Replica) GatherFault} (Err fault) (Err gathering.SourceFailed) → Refuses (brings stream) later IsCutText × (failed later ≡ failed stream + 1))
       → IsLinesRefused holds fails (lines_fault fault)
@@ -46,9 +47,9 @@ module _ {Stream : Type 0} {brings : Stream → List ℕ → Stream → Type 0} 
       let more : (rest : List ℕ) × holds ([] ++ rest) = opened.begins [] stream nothing in
       (more.0, more.1, tt)
   fault_in (gathering.OtherRun n) may nothing bad other broke = other_run_in n (other n refl)
-  fault_in (gathering.BadLine n) may nothing bad other broke =
-      let h : Refuses (brings stream) later (λ text. IsBadLine (ended later) text n) = bad n refl in
-      at_end h.0 n h.1 h.2 h.2.bad
+  fault_in (gathering.BadLine n reason) may nothing bad other broke =
+      let h : Refuses (brings stream) later (λ text. IsBadLine (ended later) text n) = bad n reason refl in
+      at_end h.0 n reason h.1 h.2 h.2.bad
   fault_in gathering.SourceFailed may nothing bad other broke =
       let h : Refuses (brings stream) later IsCutText × (failed later ≡ failed stream + 1) = broke refl in
       let some : 0 < failed later = omega (arith, h.1) in

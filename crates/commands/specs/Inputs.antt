@@ -37,7 +37,7 @@ IsLogIn text m plan log = IsLogOfLines text log ⊎ ((text ≡ []) × IsEmptyLog
 abbrev pub IsLinesFault : List ℕ → GatherFault → Type 0
 IsLinesFault text (gathering.OtherRun line) = (read rest : List ℕ) × (text ≡ read ++ rest) × IsOtherRun read line
 IsLinesFault text gathering.NoMemory = Unit {0}
-IsLinesFault text (gathering.BadLine line) = (read rest : List ℕ) × (text ≡ read ++ rest) × IsBadLine (rest ≡ []) read line
+IsLinesFault text (gathering.BadLine line reason) = (read rest : List ℕ) × (text ≡ read ++ rest) × IsBadLine (rest ≡ []) read line
 IsLinesFault text gathering.SourceFailed = ⊥
 IsLinesFault text gathering.SinkFailed = ⊥
 

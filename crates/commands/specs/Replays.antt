@@ -1,10 +1,11 @@
 -- What `replay` answers, by what its three files may hold.
-use Rattle.std.specs.Prelude.{◌≡◌, ◌⊎◌, ℕ, List}
+use Rattle.std.specs.Prelude.{◌≡◌, ◌⊎◌, ℕ, Bool, true, false, List}
 use Rattle.wasm_types.specs.declared.modules.Module.{Module}
 use Rattle.event_core.specs.End.{RunEnd}
 use Rattle.thread_plan.specs.Plans.{PlanValue}
 use Rattle.replica.specs.declared.log.Log.{Log}
 use Rattle.wasm_replay.specs.Replays.{IsOrderedAnswer, EndsAsRecorded, IsRefusal}
+use Rattle.threaded_replay.specs.Threaded.{IsThreadsRefusal}
 use Rattle.run_report.specs.Report.{report_text}
 use Rattle.commands.specs.Inputs.{IsProgram, IsProgramRefused, IsLogFile, IsLinesRefused}
 use Rattle.commands.specs.declared.fault.Fault.{Fault}
@@ -28,6 +29,17 @@ IsReplayRefusal m plan log order (Replay fault) = IsRefusal m plan log order fau
 IsReplayRefusal m plan log order NoMemory = Unit {0}
 IsReplayRefusal m plan log order _ = ⊥
 
+-- the same where threads replay at once
+abbrev pub IsThreadsFault : Module → PlanValue → Log → Fault → Type 0
+IsThreadsFault m plan log (Replay fault) = IsThreadsRefusal m plan log fault
+IsThreadsFault m plan log NoMemory = Unit {0}
+IsThreadsFault m plan log _ = ⊥
+
+-- by whether they do
+abbrev pub IsRefusedBy : Bool → Module → PlanValue → Log → List ℕ → Fault → Type 0
+IsRefusedBy true m plan log order fault = IsThreadsFault m plan log fault
+IsRefusedBy false m plan log order fault = IsReplayRefusal m plan log order fault
+
 module _ (holds : List ℕ → List ℕ → Type 0) where
   -- the module, the plan and the log in the files
   pub record IsReplayInput (request : ReplayRequest) (m : Module) (plan : PlanValue) (log : Log) : Type 0 where
@@ -39,6 +51,7 @@ module _ (holds : List ℕ → List ℕ → Type 0) where
   IsInputRefused fails request fault = IsProgramRefused holds fails request.«module».now request.plan.now fault
       ⊎ ((m : Module) × (plan : PlanValue) × IsProgram holds request.«module».now request.plan.now m plan × IsLinesRefused (holds request.pieces.now) (fails request.pieces.now) fault)
 
+  -- the report of the end, in turns or by threads: it is the same
   pub record IsReplayedText (request : ReplayRequest) (text : List ℕ) : Type 0 where
     pub m : Module
     pub plan : PlanValue
@@ -47,6 +60,6 @@ module _ (holds : List ℕ → List ℕ → Type 0) where
     pub report : IsReplayReport m plan log request.order.items text
 
   -- the files are refused, else the replay
-  abbrev pub IsReplayRefused : (List ℕ → Type 0) → ReplayRequest → Fault → Type 0
-  IsReplayRefused fails request fault = IsInputRefused fails request fault
-      ⊎ ((m : Module) × (plan : PlanValue) × (log : Log) × IsReplayInput request m plan log × IsReplayRefusal m plan log request.order.items fault)
+  abbrev pub IsReplayRefused : (List ℕ → Type 0) → ReplayRequest → Bool → Fault → Type 0
+  IsReplayRefused fails request by_threads fault = IsInputRefused fails request fault
+      ⊎ ((m : Module) × (plan : PlanValue) × (log : Log) × IsReplayInput request m plan log × IsRefusedBy by_threads m plan log request.order.items fault)

@@ -16,6 +16,20 @@ pub enum FileFault {
     NoMemory,
 }
 
+/// What stands at a path, as far as it can be told without reading it.
+#[derive(Clone, Copy, Debug, PartialEq, Eq)]
+pub enum FileState {
+    /// A file, which can be read again.
+    Regular,
+    /// A pipe or a device, of which no byte comes twice.
+    Special,
+    Folder,
+    NotThere,
+    NotAllowed,
+    /// It can't be told.
+    Unknown,
+}
+
 /// Where the files stand that a command names. What the system's files hold nobody can know beforehand; files for tests
 /// can say it.
 pub trait Files {
@@ -35,6 +49,12 @@ pub trait Files {
     fn read(&mut self, alloc: Global, path: &str, most: Option<usize>) -> Result<Vec<u8>, FileFault>
         ensures bytes { IfOk result (λ bytes. IsRead (holds self.old path.now) most bytes.items) }
         ensures not_read { result ≡ Err NotRead → fails self.old path.now }
+        // What may be read later might have been read before.
+        ensures still_holds { (other bytes : List ℕ) → holds self.new other bytes → holds self.old other bytes }
+        ensures still_fails { (other : List ℕ) → fails self.new other → fails self.old other };
+
+    /// What stands at that path now.
+    fn state(&mut self, path: &str) -> FileState
         // What may be read later might have been read before.
         ensures still_holds { (other bytes : List ℕ) → holds self.new other bytes → holds self.old other bytes }
         ensures still_fails { (other : List ℕ) → fails self.new other → fails self.old other };

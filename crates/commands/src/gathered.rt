@@ -77,14 +77,14 @@ fn read_log<L: Log, F: Files>(
 
 /// What a replay is made of: a module, a plan for it, and a log.
 #[derive(Drop)]
-pub(crate) struct ReplayInput {
-    pub(crate) program: Program,
-    pub(crate) replica: Replica,
+pub struct ReplayInput {
+    pub program: Program,
+    pub replica: Replica,
 }
 
 /// The module, the plan and the log in the files of a replay. The module is read and judged, then the plan, then the piece
 /// lines.
-pub(crate) fn read_replay_input<L: Log, F: Files>(
+pub fn read_replay_input<L: Log, F: Files>(
     rt: &L,
     alloc: Global,
     files: &mut F,

@@ -15,7 +15,9 @@ mod viewing;
 
 pub use checking::check;
 pub use fault::Fault;
-pub use files::{FileFault, Files};
+pub use files::{FileFault, FileState, Files};
+pub use gathered::{ReplayInput, read_replay_input};
+pub use program::{MODULE_BEGINNING, Program};
 pub use recording::record;
 pub use replaying::replay;
 pub use texts::skipped_text;

@@ -16,7 +16,7 @@ use validator::{Valid, validate};
 use wasm_types::Module;
 
 /// How many bytes of a module's file are read at most: one more than a module can have.
-const MODULE_BEGINNING: usize = 1_048_577;
+pub const MODULE_BEGINNING: usize = 1_048_577;
 
 /// The module that the bytes of a file spell, of which this is the beginning.
 fn decode_beginning(alloc: Global, beginning: &[u8]) -> Result<Module, DecodeFault>
@@ -78,9 +78,9 @@ fn read_plan<L: Log, F: Files>(
 
 /// A module, and a plan for it.
 #[derive(Drop)]
-pub(crate) struct Program {
-    pub(crate) valid: Valid,
-    pub(crate) plan: Plan,
+pub struct Program {
+    pub valid: Valid,
+    pub plan: Plan,
 }
 
 /// The module and the plan in two files. The module is read and judged, then the plan.

@@ -160,7 +160,7 @@ fn text_of_gather(fault: &GatherFault) -> ArrayString<64>
     match *fault {
         GatherFault::OtherRun { line } => numbered("refused 41 OtherRun ", line),
         GatherFault::NoMemory => plain("refused 42 NoMemory"),
-        GatherFault::BadLine { line } => numbered("refused 43 BadLine ", line),
+        GatherFault::BadLine { line, .. } => numbered("refused 43 BadLine ", line),
         GatherFault::SourceFailed => plain("refused 44 SourceFailed"),
         GatherFault::SinkFailed => plain("refused 45 SinkFailed"),
     }

@@ -1,7 +1,10 @@
 -- How a command stops.
 use Rattle.std.proofs.Common.{◌≡◌, ℕ, List, ◌++◌, Bool, true, false, Result, Ok, Err, OnErr, IfErr, inl, inr, sym, subst, refl}
 use Rattle.command_words.specs.declared.requests.Request.{Request}
+use Rattle.command_words.specs.declared.requests.ReplayRequest.{ReplayRequest}
+use Rattle.commands.specs.Replays.{IsReplayRefused}
 use Rattle.command_words.specs.declared.requests.Request.TheVariants as request
+use Rattle.line_faults.specs.declared.reasons.LineFault.{LineFault}
 use Rattle.replica.specs.Gathered.{IsBadLine, IsOtherRun, IsCutText}
 use Rattle.replica.specs.Lines.{IsDeviceFault}
 use Rattle.replica.specs.declared.fault.GatherFault.{GatherFault}
@@ -19,23 +22,29 @@ module _ (holds : List ℕ → List ℕ → Type 0) (fails brought : List ℕ �
   shown_stops asked asks text items (Err fault) is same done e u b =
       inr (e, u, (text, b.0, b.1, subst (λ (r : Request). IsDone holds fails brought ended broke (λ skipped. Unit {0}) r text) (sym is) (subst (IsDone holds fails brought ended broke (λ skipped. Unit {0}) asks) (sym same) done), b.2, b.3))
 
+  -- a replay that is refused stops
+  pub replay_stops : (asked : Request) (r : ReplayRequest) (by_threads : Bool) (fault : Fault) → asked ≡ request.Replay r by_threads
+      → IsReplayRefused holds fails r by_threads fault → unwritten → IsStopped holds fails brought ended broke took unwritten unwritable asked fault
+  replay_stops asked r by_threads fault is refused kept =
+      subst (λ (q : Request). IsStopped holds fails brought ended broke took unwritten unwritable q fault) (sym is) (inl (refused, kept))
+
   -- gathering stops at what the source brought, at its failure, or at the output's
   module _ {T : Type 0} (objects : Bool) where
     stops : (fault : GatherFault)
-        → ((n : ℕ) → ◌≡◌ {A = Result T GatherFault} (Err fault) (Err (gathering.BadLine n)) → (text : List ℕ) × brought text × IsBadLine ended text n)
+        → ((n : ℕ) (reason : LineFault) → ◌≡◌ {A = Result T GatherFault} (Err fault) (Err (gathering.BadLine n reason)) → (text : List ℕ) × brought text × IsBadLine ended text n)
         → ((n : ℕ) → ◌≡◌ {A = Result T GatherFault} (Err fault) (Err (gathering.OtherRun n)) → (text : List ℕ) × brought text × IsOtherRun text n)
         → (◌≡◌ {A = Result T GatherFault} (Err fault) (Err gathering.SourceFailed) → ((text : List ℕ) × brought text × IsCutText text) × broke)
         → (◌≡◌ {A = Result T GatherFault} (Err fault) (Err gathering.SinkFailed) → IsCut took (IsListed (form_of objects) brought ended) × unwritable)
         → ((◌≡◌ {A = Result T GatherFault} (Err fault) (Err gathering.SinkFailed) → ⊥) → unwritten)
         → IsStopped holds fails brought ended broke took unwritten unwritable (request.Gather false objects) (fault_of fault)
-    stops (gathering.BadLine n) bad other source sink kept = inl (bad n refl, kept (λ e. absurd cc))
+    stops (gathering.BadLine n reason) bad other source sink kept = inl (bad n reason refl, kept (λ e. absurd cc))
     stops (gathering.OtherRun n) bad other source sink kept = inl (other n refl, kept (λ e. absurd cc))
     stops gathering.NoMemory bad other source sink kept = inl (tt, kept (λ e. absurd cc))
     stops gathering.SourceFailed bad other source sink kept = inl (source refl, kept (λ e. absurd cc))
     stops gathering.SinkFailed bad other source sink kept = let s = sink refl in inr (refl, s.1, s.0)
 
     pub gather_stops : (asked : Request) (told : Fault) (fault : GatherFault) → asked ≡ request.Gather false objects → told ≡ fault_of fault
-        → ((n : ℕ) → ◌≡◌ {A = Result T GatherFault} (Err fault) (Err (gathering.BadLine n)) → (text : List ℕ) × brought text × IsBadLine ended text n)
+        → ((n : ℕ) (reason : LineFault) → ◌≡◌ {A = Result T GatherFault} (Err fault) (Err (gathering.BadLine n reason)) → (text : List ℕ) × brought text × IsBadLine ended text n)
         → ((n : ℕ) → ◌≡◌ {A = Result T GatherFault} (Err fault) (Err (gathering.OtherRun n)) → (text : List ℕ) × brought text × IsOtherRun text n)
         → (◌≡◌ {A = Result T GatherFault} (Err fault) (Err gathering.SourceFailed) → ((text : List ℕ) × brought text × IsCutText text) × broke)
         → (◌≡◌ {A = Result T GatherFault} (Err fault) (Err gathering.SinkFailed) → IsCut took (IsListed (form_of objects) brought ended) × unwritable)
@@ -52,7 +61,7 @@ module _ (holds : List ℕ → List ℕ → Type 0) (fails brought : List ℕ �
         → (◌≡◌ {A = Result T GatherFault} (Err fault) (Err gathering.SinkFailed) → IsCut took (IsListedSkipping (form_of objects) brought ended (λ skipped. Unit {0})) × unwritable)
         → ((◌≡◌ {A = Result T GatherFault} (Err fault) (Err gathering.SinkFailed) → ⊥) → unwritten)
         → IsStopped holds fails brought ended broke took unwritten unwritable (request.Gather true objects) (fault_of fault)
-    skipping (gathering.BadLine n) device source sink kept = absurd device
+    skipping (gathering.BadLine n reason) device source sink kept = absurd device
     skipping (gathering.OtherRun n) device source sink kept = absurd device
     skipping gathering.NoMemory device source sink kept = inl (tt, kept (λ e. absurd cc))
     skipping gathering.SourceFailed device source sink kept = inl (source refl, kept (λ e. absurd cc))

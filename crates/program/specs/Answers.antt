@@ -1,5 +1,5 @@
 -- What the program answers.
-use Rattle.std.specs.Prelude.{◌≡◌, ◌≤◌, ◌⊎◌, ℕ, List, ◌++◌, Bool, Option, true, false}
+use Rattle.std.specs.Prelude.{◌≡◌, ◌≤◌, ◌⊎◌, ℕ, List, [], ◌∷◌, ◌++◌, Bool, Option, true, false, codes, cond, map, nat_le}
 use Rattle.clap.specs.Words.{Text}
 use Rattle.log_pieces.specs.Piece.{PieceValue}
 use Rattle.replica.specs.Gathered.{IsText, IsListing, IsBadLine, IsOtherRun, IsCutText}
@@ -9,9 +9,11 @@ use Rattle.replica.specs.declared.form.ListingForm.TheVariants.{Plain, WithObjec
 use Rattle.replica.specs.declared.skipping.Skipped.{Skipped}
 use Rattle.replica.specs.declared.fault.GatherFault.{GatherFault}
 use Rattle.replica.specs.declared.fault.GatherFault.TheVariants as gathering
-use Rattle.command_words.specs.Asked.{Asks, AsksNothing, AsksForText}
+use Rattle.command_words.specs.Asked.{Asks, AsksNothing, AsksForText, asks_why}
 use Rattle.command_words.specs.declared.requests.Request.{Request}
 use Rattle.command_words.specs.declared.requests.Request.TheVariants as request
+use Rattle.commands.specs.Texts.{fault_text}
+use Rattle.explanations.specs.Explained.{IsExplanation}
 use Rattle.commands.specs.Checks.{IsChecked, IsCheckRefused}
 use Rattle.commands.specs.Records.{IsRecordedText, IsRecordRefused}
 use Rattle.commands.specs.Replays.{IsReplayedText, IsReplayRefused}
@@ -60,7 +62,7 @@ pub record IsListedSkipping (form : ListingForm) (brought : List ℕ → Type 0)
 abbrev pub IsGatherRefused : (List ℕ → Type 0) → Type 0 → Type 0 → Fault → Type 0
 IsGatherRefused brought ended broke (Gather (gathering.OtherRun line)) = (text : List ℕ) × brought text × IsOtherRun text line
 IsGatherRefused brought ended broke (Gather gathering.NoMemory) = Unit {0}
-IsGatherRefused brought ended broke (Gather (gathering.BadLine line)) = (text : List ℕ) × brought text × IsBadLine ended text line
+IsGatherRefused brought ended broke (Gather (gathering.BadLine line reason)) = (text : List ℕ) × brought text × IsBadLine ended text line
 IsGatherRefused brought ended broke (Gather gathering.SourceFailed) = ((text : List ℕ) × brought text × IsCutText text) × broke
 IsGatherRefused brought ended broke _ = ⊥
 
@@ -69,6 +71,23 @@ abbrev pub IsSkippingRefused : Type 0 → Fault → Type 0
 IsSkippingRefused broke (Gather gathering.NoMemory) = Unit {0}
 IsSkippingRefused broke (Gather gathering.SourceFailed) = broke
 IsSkippingRefused broke _ = ⊥
+
+-- the line of a fault
+abbrev pub fault_line : Fault → List ℕ
+fault_line fault = fault_text fault ++ 10 ∷ []
+
+-- a byte as a line shows it: control characters are `?`
+abbrev pub shown : ℕ → ℕ
+shown byte = cond (nat_le 32 byte) byte 63
+
+-- the reason in words, or that there is no memory for it
+abbrev pub IsReason : Request → Fault → List ℕ → Type 0
+IsReason r fault text = IsExplanation r fault text ⊎ (text ≡ codes "memory: the words of the reason do not fit into it")
+
+-- the line of a fault is told; and where the words ask for the reason, this in one more line
+abbrev pub IsTold : (List ℕ → Type 0) → Bool → Request → Fault → Type 0
+IsTold tells false r fault = tells (fault_line fault)
+IsTold tells true r fault = (text : List ℕ) × IsReason r fault text × tells (fault_line fault ++ (map shown text ++ 10 ∷ []))
 
 module _ (took : List ℕ → Type 0) where
   -- the output took such a text
@@ -87,7 +106,7 @@ module _ (holds : List ℕ → List ℕ → Type 0) (fails : List ℕ → Type 0
   IsDone counted (request.Gather true objects) text = IsListedSkipping (form_of objects) brought ended counted text
   IsDone counted (request.Check path) text = IsChecked (holds path.now) text
   IsDone counted (request.Record r) text = IsRecordedText holds r text
-  IsDone counted (request.Replay r) text = IsReplayedText holds r text
+  IsDone counted (request.Replay r by_threads) text = IsReplayedText holds r text
   IsDone counted (request.View r) text = IsViewedText holds r text
 
   -- when each fault is answered
@@ -96,7 +115,7 @@ module _ (holds : List ℕ → List ℕ → Type 0) (fails : List ℕ → Type 0
   IsRefused (request.Gather true objects) fault = IsSkippingRefused broke fault
   IsRefused (request.Check path) fault = IsCheckRefused (holds path.now) (fails path.now) fault
   IsRefused (request.Record r) fault = IsRecordRefused holds fails r fault
-  IsRefused (request.Replay r) fault = IsReplayRefused holds fails r fault
+  IsRefused (request.Replay r by_threads) fault = IsReplayRefused holds fails r by_threads fault
   IsRefused (request.View r) fault = IsViewRefused holds fails r fault
 
   -- Which texts the output took from first to last, and whether it took nothing, or failed.
@@ -105,20 +124,21 @@ module _ (holds : List ℕ → List ℕ → Type 0) (fails : List ℕ → Type 0
     abbrev pub IsStopped : Request → Fault → Type 0
     IsStopped r fault = (IsRefused r fault × unwritten) ⊎ ((fault ≡ SinkFailed) × unwritable × IsCut took (IsDone (λ skipped. Unit {0}) r))
 
-    -- Whether numbers of lines or a fault were told, and whether no file and no input was read.
-    module _ (counted : Skipped → Type 0) (tells : Fault → Type 0) (unread : Type 0) (words : List Text) where
+    -- Whether numbers of lines were told, which texts were told from first to last, and whether no file and no input was read.
+    module _ (counted : Skipped → Type 0) (tells : List ℕ → Type 0) (unread : Type 0) (words : List Text) where
       -- the very text of the command that the words ask for, or a text of help where they ask for that
       abbrev pub IsDoneBy : Type 0
       IsDoneBy = ((r : Request) × Asks words r × IsShown took (IsDone counted r)) ⊎ (AsksForText words × unread × IsShown took (λ text. Unit {0}))
 
       -- the command that the words ask for stops so; or a text of help is not written; or there is no memory for the words
       abbrev pub IsRefusedBy : Fault → Type 0
-      IsRefusedBy fault = ((r : Request) × Asks words r × IsStopped r fault)
-          ⊎ ((AsksForText words × unread × (fault ≡ SinkFailed) × unwritable × IsCut took (λ text. Unit {0})) ⊎ (unread × unwritten × (fault ≡ NoMemory)))
+      IsRefusedBy fault = ((r : Request) × Asks words r × IsStopped r fault × IsTold tells (asks_why words) r fault)
+          ⊎ ((AsksForText words × unread × (fault ≡ SinkFailed) × unwritable × IsCut took (λ text. Unit {0}) × tells (fault_line fault))
+          ⊎ (unread × unwritten × (fault ≡ NoMemory) × tells (fault_line fault)))
 
       -- by the exit status: done, refused, not understood
       pub record IsAnswered (status : ℕ) : Type 0 where
         pub done : status ≡ 0 → IsDoneBy
-        pub refused : status ≡ 1 → (fault : Fault) × tells fault × IsRefusedBy fault
+        pub refused : status ≡ 1 → (fault : Fault) × IsRefusedBy fault
         pub unknown : status ≡ 2 → AsksNothing words × unread × unwritten
         pub statuses : status ≤ 2

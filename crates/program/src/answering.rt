@@ -2,12 +2,14 @@
 
 ghost use Rattle.std.specs.Prelude.{◌≡◌, ◌<◌, ◌-◌, ◌^◌, ◌⊎◌, ◌++◌, ◌+◌, ℕ, [], ◌∷◌, Err, OnOk, OnErr, IfErr, map};
 ghost use Rattle.std.specs.IoError.{error_kind};
-ghost use Rattle.commands.specs.Texts.{fault_text, skipped_text};
+ghost use Rattle.commands.specs.Texts.{skipped_text};
 ghost use Rattle.commands.specs.declared.fault.Fault.TheVariants as faults;
 ghost use Rattle.replica.specs.declared.fault.GatherFault.TheVariants as gathering;
 ghost use Rattle.replica.specs.Lines.{IsDeviceFault};
 ghost use Rattle.program.specs.Answers.{WritesSome, IsShown, IsCut, IsListedSkipping, IsDone, IsStopped, IsAnswered, fault_of, form_of};
 
+use crate::refusing::{refuse, refuse_request};
+use arrayvec::ArrayString;
 use command_words::{Asked, Request, requested};
 use commands::{Fault, Files, check, record, replay, skipped_text, view};
 use log::Log;
@@ -16,6 +18,7 @@ use replica::{
 };
 use std::alloc::Global;
 use std::convert::AsStr;
+use std::fmt::Write;
 use std::io::{self, ErrorKind};
 use std::sync::Wait;
 use std::thread::Threads;
@@ -37,18 +40,6 @@ fn show<W: Sink>(output: &mut W, text: &[u8]) -> Result<(), Fault>
         Ok(()) => Ok(()),
         Err(Failed) => Err(Fault::SinkFailed),
     }
-}
-
-/// Writes the line of a fault, and answers the exit status of a refusal. Where writing fails there is nobody to tell.
-fn refuse<E: Sink>(errors: &mut E, fault: &Fault) -> u8
-    requires { E.failed errors.old < 2 ^ 64 - 1 }
-    ensures status { result ≡ 1 }
-    ensures tells { (E.takes errors.old (fault_text fault.now ++ 10 ∷ []) errors.new) ⊎ (E.failed errors.new ≡ E.failed errors.old + 1) }
-{
-    let mut line = fault.text();
-    line.push_str("\n");
-    let _ = write_all(errors, line.as_str().as_bytes());
-    1
 }
 
 /// Writes what is wrong with a command line, and answers the exit status of one that is not understood.
@@ -163,7 +154,10 @@ fn perform<L: Log, T: Threads + Wait + Sync, F: Files, R: Source, W: Sink, E: Si
             Ok(text) => show(output, &text),
             Err(fault) => Err(fault),
         },
-        Request::Replay(request) => match replay(rt, alloc, files, request) {
+        Request::Replay {
+            replay: request,
+            by_threads,
+        } => match replay(rt, threads, alloc, files, request, *by_threads) {
             Ok(text) => show(output, text.as_str().as_bytes()),
             Err(fault) => Err(fault),
         },
@@ -174,22 +168,46 @@ fn perform<L: Log, T: Threads + Wait + Sync, F: Files, R: Source, W: Sink, E: Si
     }
 }
 
-/// Answers the exit status where the words of the command line could not be had: they are not UTF-8, or do not fit into
+/// A word of the command line that is not UTF-8: its number, where the program's name is 0, and its bytes.
+#[derive(Clone, Copy)]
+pub struct OddWord<'a> {
+    pub number: usize,
+    pub bytes: &'a [u8],
+}
+
+/// What is said of a word that is not UTF-8: its number and its first bytes, with `?` for what is no printable ASCII.
+fn not_text(word: &OddWord<'_>) -> ArrayString<128> {
+    let number = word.number;
+    let mut text = ArrayString::<128>::new();
+    let _ = write!(
+        text,
+        "error: word {number} of the command line is not UTF-8: "
+    );
+    for byte in word.bytes.iter().take(40) {
+        let shown = if byte.is_ascii_graphic() { *byte } else { b'?' };
+        let _ = text.write_char(char::from(shown));
+    }
+    let _ = text.write_str("\n");
+    text
+}
+
+/// Answers the exit status where the words of the command line could not be had: this one is not UTF-8, or they do not fit into
 /// memory.
-pub fn refuse_words<E: Sink>(errors: &mut E, error: &io::Error) -> u8
+pub fn refuse_words<E: Sink>(errors: &mut E, error: &io::Error, odd: Option<OddWord<'_>>) -> u8
     requires { E.failed errors.old < 2 ^ 64 - 1 }
     ensures no_memory { error_kind error.now ≡ ErrorKind.OutOfMemory → result ≡ 1 }
     ensures not_text { (error_kind error.now ≡ ErrorKind.OutOfMemory → ⊥) → result ≡ 2 }
 {
-    match error.kind() {
-        ErrorKind::OutOfMemory => refuse(errors, &Fault::NoMemory),
-        _ => complain(errors, NOT_UTF_8),
+    match (error.kind(), odd) {
+        (ErrorKind::OutOfMemory, _) => refuse(errors, &Fault::NoMemory),
+        (_, Some(word)) => complain(errors, not_text(&word).as_str()),
+        (_, None) => complain(errors, NOT_UTF_8),
     }
 }
 
 /// Does what the words ask for, the first of which is the program's name, and answers the exit status: 0 where it is
-/// done, 1 where it is refused, and then `errors` took the line that says why, 2 where the words are not understood. `rt` logs
-/// the path of each file before it is read; `threads` makes the threads of a recording by threads.
+/// done, 1 where it is refused, and then `errors` took the line that says so, 2 where the words are not understood. `rt` logs
+/// the path of each file before it is read; `threads` makes the threads of a recording or a replay by threads.
 pub fn run<L: Log, T: Threads + Wait + Sync, F: Files, R: Source, W: Sink, E: Sink, S: AsStr>(
     rt: &L,
     threads: &T,
@@ -204,23 +222,23 @@ pub fn run<L: Log, T: Threads + Wait + Sync, F: Files, R: Source, W: Sink, E: Si
     requires output { W.failed output.old < 2 ^ 64 - 1 }
     requires errors { E.failed errors.old < 2 ^ 64 - 1 }
     // Done: the output took the very text of the command that the words ask for, and where lines were passed over `errors`
-    // took the line of their numbers, or failed. Refused: `errors` took the line of the fault, or failed, and nothing was
-    // written but by a failing output. Not understood: nothing was read or written.
+    // took the line of their numbers, or failed. Refused: `errors` took the line of the fault, and where the words ask for it
+    // one more line, of the reason, or failed; and nothing was written but by a failing output. Not understood: nothing was read or written.
     ensures answered { IsAnswered (F.holds files.old) (F.fails files.old)
         (λ text. R.brings source.old text source.new) (R.ended source.new) (R.failed source.new ≡ R.failed source.old + 1)
         (λ text. W.takes output.old text output.new) (output.new ≡ output.old) (W.failed output.new ≡ W.failed output.old + 1)
         (λ skipped. (E.takes errors.old (skipped_text skipped ++ 10 ∷ []) errors.new) ⊎ (E.failed errors.new ≡ E.failed errors.old + 1))
-        (λ fault. (E.takes errors.old (fault_text fault ++ 10 ∷ []) errors.new) ⊎ (E.failed errors.new ≡ E.failed errors.old + 1))
+        (λ text. (E.takes errors.old text errors.new) ⊎ (E.failed errors.new ≡ E.failed errors.old + 1))
         ((files.new ≡ files.old) × (source.new ≡ source.old)) (map S.text words.now) result }
     // A failing source or output is answered with 1.
     ensures source_failed { (result ≡ 1 → ⊥) → R.failed source.new ≡ R.failed source.old }
     ensures output_failed { (result ≡ 1 → ⊥) → W.failed output.new ≡ W.failed output.old }
 {
     match requested(alloc, words) {
-        Ok(Asked::Request(request)) => {
+        Ok(Asked::Request { request, why }) => {
             match perform(rt, threads, alloc, &request, files, source, output, errors) {
                 Ok(()) => 0,
-                Err(fault) => refuse(errors, &fault),
+                Err(fault) => refuse_request(rt, alloc, files, &request, why, errors, &fault),
             }
         }
         Ok(Asked::Text(text)) => match show(output, text.as_str().as_bytes()) {

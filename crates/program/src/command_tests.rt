@@ -4,7 +4,7 @@ ghost use Rattle.std.specs.Prelude.{IfOk};
 ghost use Rattle.commands.specs.Files.{IsRead};
 
 use crate::answering::run;
-use commands::{FileFault, Files};
+use commands::{FileFault, FileState, Files};
 use log::sink::{Lines, Memory};
 use replica::{MemorySink, MemorySource};
 use std::alloc::Global;
@@ -88,6 +88,13 @@ impl<'a> Files for MemoryFiles<'a> {
     ) -> Result<Vec<u8>, FileFault> {
         let bytes = self.bytes_at(path)?;
         copied(alloc, bytes, most)
+    }
+
+    fn state(&mut self, path: &str) -> FileState {
+        match self.bytes_at(path) {
+            Ok(_) => FileState::Regular,
+            Err(_) => FileState::NotThere,
+        }
     }
 
     fn open(&mut self, _alloc: Global, path: &str) -> Result<MemorySource<'a>, FileFault> {
@@ -298,6 +305,48 @@ fn takes_a_schedule_or_threads(rt: HostRuntime) -> Result<(), Fail> {
         assert_eq!(rt; text(&unknown.output), "");
         assert_eq!(rt; unknown.noted.as_slice(), b"".as_slice());
     }
+    Ok(())
+}
+
+#[test]
+fn replays_by_threads(rt: HostRuntime) -> Result<(), Fail> {
+    let record = ["wreplay", "record", "m", "p", "--schedule", "s"];
+    let recorded = running(
+        &rt,
+        rt.alloc(),
+        record.as_slice(),
+        "go 0 3\ngo 1 8\ngo 0 5\n",
+        "",
+    );
+    assert_eq!(rt; recorded.status, 0);
+    let lines = text(&recorded.output);
+    let words = ["wreplay", "replay", "m", "p", "l", "--threads"];
+    let done = running(&rt, rt.alloc(), words.as_slice(), "", lines);
+    assert_eq!(rt; text(&done.errors), "");
+    assert_eq!(rt; done.status, 0);
+    assert_eq!(rt; done.noted.as_slice(), b"mpl".as_slice());
+    assert!(rt; text(&done.output).ends_with("thread 0 i32 3\nthread 1 i32 2\n"));
+    Ok(())
+}
+
+#[test]
+fn takes_an_order_or_threads(rt: HostRuntime) -> Result<(), Fail> {
+    let line = "error: 'replay' takes either '--order <LIST>' or '--threads'\n";
+    let words = [
+        "wreplay",
+        "replay",
+        "m",
+        "p",
+        "l",
+        "--order",
+        "1,0",
+        "--threads",
+    ];
+    let unknown = running(&rt, rt.alloc(), words.as_slice(), "", "");
+    assert_eq!(rt; unknown.status, 2);
+    assert_eq!(rt; text(&unknown.errors), line);
+    assert_eq!(rt; text(&unknown.output), "");
+    assert_eq!(rt; unknown.noted.as_slice(), b"".as_slice());
     Ok(())
 }
 

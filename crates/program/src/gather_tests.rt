@@ -1,9 +1,10 @@
-use crate::answering::run;
+use crate::answering::{OddWord, refuse_words, run};
 use crate::command_tests::copied;
-use commands::{FileFault, Files};
+use commands::{FileFault, FileState, Files};
 use log::sink::Discard;
 use replica::{MemorySink, MemorySource};
 use std::alloc::Global;
+use std::io::{self, ErrorKind};
 use std::sync::Wait;
 use std::test::Fail;
 use std::thread::Threads;
@@ -38,6 +39,10 @@ impl Files for NoFiles {
         _most: Option<usize>,
     ) -> Result<Vec<u8>, FileFault> {
         Err(FileFault::NotRead)
+    }
+
+    fn state(&mut self, _path: &str) -> FileState {
+        FileState::NotThere
     }
 
     fn open(&mut self, _alloc: Global, _path: &str) -> Result<MemorySource<'static>, FileFault> {
@@ -158,6 +163,54 @@ fn says_why_it_refuses(rt: HostRuntime) -> Result<(), Fail> {
 }
 
 #[test]
+fn says_in_words_why_it_refuses(rt: HostRuntime) -> Result<(), Fail> {
+    let words = ["wreplay", "gather", "--why"];
+    let cases = [
+        (
+            gathering(&words, "zz\n"),
+            "refused 43 BadLine 1\nstandard input: line 1: `z` at column 1 is no digit 0 to 9 or a to f\n",
+        ),
+        (
+            Case {
+                read_fails_at: Some(1),
+                ..gathering(&words, "")
+            },
+            "refused 44 SourceFailed\nstandard input: reading it failed\n",
+        ),
+        (
+            Case {
+                write_fails_at: Some(1),
+                ..gathering(&words, "")
+            },
+            "refused 45 SinkFailed\nstandard output: writing failed, after a beginning was written\n",
+        ),
+    ];
+    for (case, lines) in cases {
+        let refused = try_out(&rt, rt.alloc(), case);
+        assert_eq!(rt; refused.status, 1);
+        assert_eq!(rt; text(&refused.errors), lines);
+    }
+    Ok(())
+}
+
+#[test]
+fn names_a_word_that_is_not_text(rt: HostRuntime) -> Result<(), Fail> {
+    let mut errors = MemorySink::new(rt.alloc(), 8, None);
+    let odd = OddWord {
+        number: 2,
+        bytes: b"m\xFF.wasm".as_slice(),
+    };
+    let error = io::Error::from(ErrorKind::InvalidInput);
+    let status = refuse_words(&mut errors, &error, Some(odd));
+    assert_eq!(rt; status, 2);
+    assert_eq!(rt;
+        text(&errors),
+        "error: word 2 of the command line is not UTF-8: m?.wasm\n"
+    );
+    Ok(())
+}
+
+#[test]
 fn passes_over_lines_that_cannot_be_joined(rt: HostRuntime) -> Result<(), Fail> {
     let words = ["wreplay", "gather", "--skip"];
     let input = format!(in rt.alloc(); "zz\n{PIECE}\n{OTHER}\n\n{OTHER}")?;
@@ -237,7 +290,7 @@ fn explains_itself(rt: HostRuntime) -> Result<(), Fail> {
 fn refuses_words_that_it_does_not_know(rt: HostRuntime) -> Result<(), Fail> {
     let cases = [
         ["wreplay"].as_slice(),
-        ["wreplay", "replay", "m", "p", "l", "--threads"].as_slice(),
+        ["wreplay", "view", "m", "p", "l", "--threads"].as_slice(),
         ["wreplay", "gather", "pieces.txt"].as_slice(),
         ["wreplay", "gather", "--fast"].as_slice(),
     ];
@@ -282,6 +335,14 @@ impl<'a> Files for OneFile<'a> {
             return Err(FileFault::NotRead);
         }
         copied(alloc, self.bytes, most)
+    }
+
+    fn state(&mut self, path: &str) -> FileState {
+        if path == self.path {
+            FileState::Regular
+        } else {
+            FileState::NotThere
+        }
     }
 
     fn open(&mut self, _alloc: Global, path: &str) -> Result<MemorySource<'a>, FileFault> {

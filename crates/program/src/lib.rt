@@ -2,8 +2,9 @@
 #![tactic(auto)]
 
 mod answering;
+mod refusing;
 
-pub use answering::{refuse_words, run};
+pub use answering::{OddWord, refuse_words, run};
 
 #[cfg(test)]
 mod command_tests;

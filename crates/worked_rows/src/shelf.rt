@@ -2,7 +2,7 @@
 
 ghost use Rattle.commands.specs.Files.{IsRead};
 
-use commands::{FileFault, Files};
+use commands::{FileFault, FileState, Files};
 use standard_streams::StandardSource;
 use std::alloc::Global;
 use std::fs;
@@ -77,6 +77,18 @@ impl Files for Shelf {
             Ok(bytes) => Ok(cut(bytes, most)),
             Err(error) if error.kind() == ErrorKind::OutOfMemory => Err(FileFault::NoMemory),
             Err(_) => Err(FileFault::NotRead),
+        }
+    }
+
+    fn state(&mut self, path: &str) -> FileState {
+        for kept in &self.kept {
+            if kept.name.as_str() == path {
+                return FileState::Regular;
+            }
+        }
+        match fs::read(&self.runtime, path) {
+            Ok(_) => FileState::Regular,
+            Err(_) => FileState::NotThere,
         }
     }
 

@@ -2,18 +2,22 @@
 //! log that they claim, replays it, and checks modules.
 #![tactic(auto)]
 
-ghost use Rattle.std.specs.Prelude.{IfOk};
+ghost use Rattle.std.specs.Prelude.{◌≤◌, ◌<◌, ◌-◌, ◌^◌, IfOk, IfSome, length};
 ghost use Rattle.commands.specs.Files.{IsRead};
 
-use commands::{FileFault, Files};
+use commands::{FileFault, FileState, Files};
 use log::sink::Discard;
-use program::{refuse_words, run};
+use program::{OddWord, refuse_words, run};
+use replica::Sink;
 use standard_streams::{StandardSink, StandardSource};
 use std::alloc::Global;
-use std::env;
+use std::env::{self, Env, FillError};
 use std::fs::{self, File};
 use std::io::{self, ErrorKind, Read};
 use std::process::ExitCode;
+
+/// The most words that are looked at for one that is not UTF-8.
+const MOST_WORDS: usize = 1_000_000;
 
 /// The files of the system.
 #[derive(Drop)]
@@ -50,6 +54,15 @@ fn fault_of(error: &io::Error) -> FileFault {
     }
 }
 
+/// What an error of the system says of a path.
+fn state_of(error: &io::Error) -> FileState {
+    match error.kind() {
+        ErrorKind::NotFound => FileState::NotThere,
+        ErrorKind::PermissionDenied => FileState::NotAllowed,
+        _ => FileState::Unknown,
+    }
+}
+
 impl Files for SystemFiles {
     type Stream = StandardSource<File>;
 
@@ -69,6 +82,18 @@ impl Files for SystemFiles {
         }
     }
 
+    fn state(&mut self, path: &str) -> FileState {
+        match fs::metadata(&self.runtime, path) {
+            Ok(found) if found.is_dir() => FileState::Folder,
+            Ok(found) if !found.is_file() => FileState::Special,
+            Ok(_) => match File::open(&self.runtime, path) {
+                Ok(_) => FileState::Regular,
+                Err(error) => state_of(&error),
+            },
+            Err(error) => state_of(&error),
+        }
+    }
+
     fn open(&mut self, _alloc: Global, path: &str) -> Result<StandardSource<File>, FileFault> {
         match File::open(&self.runtime, path) {
             Ok(file) => Ok(StandardSource::new(file)),
@@ -80,6 +105,35 @@ impl Files for SystemFiles {
 /// The words of the command line.
 fn words(runtime: &HostRuntime) -> io::Result<Vec<String>> {
     Ok(env::args(runtime)?.collect(runtime.alloc())?)
+}
+
+/// The number of the first word that is not UTF-8, and how many bytes it has, which are put into `bytes`. Words that have more
+/// bytes than these are passed over.
+fn odd_word(runtime: &HostRuntime, bytes: &mut [u8]) -> Option<(usize, usize)>
+    ensures { IfSome result (λ found. found.1 ≤ length bytes.old) }
+{
+    for number in 0..MOST_WORDS {
+        match runtime.arg(number, bytes) {
+            Ok(len) if str::from_utf8(&bytes[..len]).is_err() => return Some((number, len)),
+            Err(FillError::NotPresent) => return None,
+            _ => {}
+        }
+    }
+    None
+}
+
+/// Refuses words that could not be had, and answers the exit status.
+fn refuse_odd<E: Sink>(runtime: &HostRuntime, errors: &mut E, error: &io::Error) -> u8
+    requires { E.failed errors.old < 2 ^ 64 - 1 }
+{
+    let mut bytes = [0; 4096];
+    match odd_word(runtime, &mut bytes) {
+        Some((number, len)) => {
+            let bytes = &bytes[..len];
+            refuse_words(errors, error, Some(OddWord { number, bytes }))
+        }
+        None => refuse_words(errors, error, None),
+    }
 }
 
 fn main(rt: HostRuntime) -> ExitCode {
@@ -98,7 +152,7 @@ fn main(rt: HostRuntime) -> ExitCode {
             &mut output,
             &mut errors,
         ),
-        Err(error) => refuse_words(&mut errors, &error),
+        Err(error) => refuse_odd(&rt, &mut errors, &error),
     };
     ExitCode::from(status)
 }

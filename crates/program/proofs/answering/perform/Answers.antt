@@ -1,7 +1,7 @@
-use Rattle.std.proofs.Common.{rules, subst}
+use Rattle.std.proofs.Common.{rules, refl, subst}
 use Rattle.replica.specs.Gathered.{IsListing}
 use Rattle.replica.specs.declared.form.ListingForm.{ListingForm}
-use Rattle.program.proofs.Stops.{shown_stops, gather_stops, skipping_stops}
+use Rattle.program.proofs.Stops.{shown_stops, gather_stops, skipping_stops, replay_stops}
 use Rattle.program.proofs.answering.perform.Goals as goal
 
 pub returns-in-Err-clause-stopped : goal.returns-in-Err-clause-stopped
@@ -16,7 +16,7 @@ returns-in-Err-clause-stopped g c =
 pub returns-in-Err-gather-clause-stopped : goal.returns-in-Err-gather-clause-stopped
 returns-in-Err-gather-clause-stopped g c =
     gather_stops _ _ _ _ _ _ _ _ c.in-Gather-false-default.objects c.args.request.now c.fault_of-in-Err-gather.result c.in-Err-gather.fault (cc (c.in-Gather-false-default.is)) c.fault_of-in-Err-gather.ensures
-    (λ n e. c.in-Err-gather.ensures.bad_line n e)
+    (λ n reason e. c.in-Err-gather.ensures.bad_line n reason e)
     (λ n e. c.in-Err-gather.ensures.other_run n e)
     (λ e. let s = c.in-Err-gather.ensures.source_failed e in s)
     (λ e. let s = c.in-Err-gather.ensures.sink_failed e in
@@ -38,3 +38,7 @@ returns-in-Ok-replay-clause-stopped g c =
 pub returns-in-Ok-view-clause-stopped : goal.returns-in-Ok-view-clause-stopped
 returns-in-Ok-view-clause-stopped g c =
     shown_stops _ _ _ _ _ _ _ _ c.args.request.now _ c.as_bytes-in-Ok-view.result.now _ c.show-in-Ok-view.result c.in-View.is (search rules) c.in-Ok-view.ensures.viewed c.show-in-Ok-view.ensures.error c.show-in-Ok-view.ensures.one_failed c.show-in-Ok-view.ensures.begun
+
+pub returns-in-Err-replay-clause-stopped : goal.returns-in-Err-replay-clause-stopped
+returns-in-Err-replay-clause-stopped g c =
+    replay_stops _ _ _ _ _ _ _ _ c.args.request.now _ _ c.in-Err-replay.fault c.in-Replay.is c.in-Err-replay.ensures.refused refl

@@ -1,0 +1,98 @@
+-- What an explanation says for certain: where the cause of the refusal stands. Its other words are open.
+use Rattle.std.specs.Prelude.{◌≡◌, ◌++◌, ℕ, List, codes, Some}
+use Rattle.command_words.specs.declared.requests.Request.{Request}
+use Rattle.command_words.specs.declared.requests.Request.TheVariants.{Gather, Check, Record, Replay, View}
+use Rattle.command_words.specs.declared.requests.RecordOrder.{RecordOrder}
+use Rattle.command_words.specs.declared.requests.RecordOrder.TheVariants as order
+use Rattle.byte_reader.specs.declared.fault.DecodeFault.{DecodeFault}
+use Rattle.byte_reader.specs.declared.fault.DecodeFault.TheVariants as decoding
+use Rattle.validator.specs.declared.fault.ValidFault.{ValidFault}
+use Rattle.validator.specs.declared.fault.ValidFault.TheVariants as typing
+use Rattle.thread_plan.specs.declared.fault.PlanFault.{PlanFault}
+use Rattle.thread_plan.specs.declared.fault.PlanFault.TheVariants as planning
+use Rattle.pick_schedule.specs.declared.fault.ScheduleFault.{ScheduleFault}
+use Rattle.pick_schedule.specs.declared.fault.ScheduleFault.TheVariants as scheduling
+use Rattle.replica.specs.declared.fault.GatherFault.{GatherFault}
+use Rattle.replica.specs.declared.fault.GatherFault.TheVariants as gathering
+use Rattle.replay_gate.specs.declared.answers.ReplayFault.{ReplayFault}
+use Rattle.replay_gate.specs.declared.answers.ReplayFault.TheVariants as replaying
+use Rattle.wasm_replay.specs.declared.replaying.WasmReplayFault.{WasmReplayFault}
+use Rattle.wasm_replay.specs.declared.replaying.WasmReplayFault.TheVariants as refusal
+use Rattle.commands.specs.declared.fault.Fault.{Fault}
+use Rattle.commands.specs.declared.fault.Fault.TheVariants as fault
+use Rattle.explanations.specs.Places.{at_byte, at_line, at_instruction, at_event}
+
+-- the files that a request names; what it gathers comes from standard input
+abbrev pub module_path : Request → List ℕ
+module_path (Gather skips objects) = codes "standard input"
+module_path (Check path) = path.now
+module_path (Record r) = r.«module».now
+module_path (Replay r by_threads) = r.«module».now
+module_path (View v) = v.replay.«module».now
+
+abbrev pub plan_path : Request → List ℕ
+plan_path (Gather skips objects) = codes "standard input"
+plan_path (Check path) = path.now
+plan_path (Record r) = r.plan.now
+plan_path (Replay r by_threads) = r.plan.now
+plan_path (View v) = v.replay.plan.now
+
+abbrev pub schedule_of : RecordOrder → List ℕ
+schedule_of (order.Schedule path) = path.now
+schedule_of (order.Threads times_out) = codes "--threads"
+
+abbrev pub schedule_path : Request → List ℕ
+schedule_path (Record r) = schedule_of r.order
+schedule_path r = codes "--schedule"
+
+abbrev pub pieces_path : Request → List ℕ
+pieces_path (Replay r by_threads) = r.pieces.now
+pieces_path (View v) = v.replay.pieces.now
+pieces_path r = codes "standard input"
+
+abbrev pub in_module : List ℕ → DecodeFault → List ℕ
+in_module file (decoding.Refused offset) = at_byte file offset
+in_module file fault = file
+
+abbrev pub in_functions : List ℕ → ValidFault → List ℕ
+in_functions file (typing.Invalid (Some function) instruction) = at_instruction file function instruction
+in_functions file fault = file
+
+abbrev pub in_plan : List ℕ → PlanFault → List ℕ
+in_plan file (planning.BadLine line) = at_line file line
+in_plan file (planning.NoExport line) = at_line file line
+in_plan file (planning.WrongArguments line) = at_line file line
+in_plan file fault = file
+
+abbrev pub in_schedule : List ℕ → ScheduleFault → List ℕ
+in_schedule file (scheduling.BadLine line) = at_line file line
+in_schedule file fault = file
+
+abbrev pub in_lines : List ℕ → GatherFault → List ℕ
+in_lines file (gathering.OtherRun line) = at_line file line
+in_lines file (gathering.BadLine line reason) = at_line file line
+in_lines file fault = file
+
+abbrev pub in_events : List ℕ → ReplayFault → List ℕ
+in_events file (replaying.Clash thread place) = at_event file thread place
+in_events file (replaying.Missing thread place) = at_event file thread place
+in_events file (replaying.Diverged thread place) = at_event file thread place
+in_events file fault = file
+
+abbrev pub in_log : List ℕ → WasmReplayFault → List ℕ
+in_log file (refusal.Replay fault) = in_events file fault
+in_log file fault = file
+
+-- where the cause of a refusal stands; of a file that is not read, or where memory is wanted, nothing is promised
+abbrev pub begins_with : Request → Fault → List ℕ → Type 0
+begins_with r (fault.Decode f) place = place ≡ in_module (module_path r) f
+begins_with r (fault.Valid f) place = place ≡ in_functions (module_path r) f
+begins_with r (fault.Plan f) place = place ≡ in_plan (plan_path r) f
+begins_with r (fault.Schedule f) place = place ≡ in_schedule (schedule_path r) f
+begins_with r (fault.Gather f) place = place ≡ in_lines (pieces_path r) f
+begins_with r (fault.Replay f) place = place ≡ in_log (pieces_path r) f
+begins_with r f place = Unit {0}
+
+-- the text begins with the place, and goes on after a colon
+abbrev pub IsExplanation : Request → Fault → List ℕ → Type 0
+IsExplanation r f text = (place words : List ℕ) × (text ≡ place ++ (codes ": " ++ words)) × begins_with r f place

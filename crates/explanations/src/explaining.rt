@@ -1,0 +1,152 @@
+//! Explanations of refusals.
+
+ghost use Rattle.std.specs.Prelude.{◌≡◌, IfOk, string_bytes};
+ghost use Rattle.explanations.specs.Places.{place_text};
+ghost use Rattle.explanations.specs.Explained.{IsExplanation, begins_with, in_module, in_functions, in_plan, in_schedule, in_lines, in_events, in_log};
+
+use crate::paths::{module_path, pieces_path, plan_path, schedule_path};
+use crate::place::Place;
+use crate::reasons::{blamed_file, reason_of};
+use byte_reader::DecodeFault;
+use command_words::Request;
+use commands::{Fault, Files};
+use log::Log;
+use pick_schedule::ScheduleFault;
+use replay_gate::ReplayFault;
+use replica::GatherFault;
+use std::alloc::Global;
+use thread_plan::PlanFault;
+use validator::ValidFault;
+use wasm_replay::WasmReplayFault;
+use wasm_types::NoMemory;
+
+fn in_module<'a>(file: &'a str, fault: &DecodeFault) -> Place<'a>
+    ensures { place_text result ≡ in_module file.now fault.now }
+{
+    match *fault {
+        DecodeFault::Refused { offset } => Place::Byte {
+            file,
+            offset: offset as u64,
+        },
+        _ => Place::Whole(file),
+    }
+}
+
+fn in_functions<'a>(file: &'a str, fault: &ValidFault) -> Place<'a>
+    ensures { place_text result ≡ in_functions file.now fault.now }
+{
+    match *fault {
+        ValidFault::Invalid {
+            function: Some(function),
+            instruction,
+        } => Place::Instruction {
+            file,
+            function,
+            instruction,
+        },
+        _ => Place::Whole(file),
+    }
+}
+
+fn in_plan<'a>(file: &'a str, fault: &PlanFault) -> Place<'a>
+    ensures { place_text result ≡ in_plan file.now fault.now }
+{
+    match *fault {
+        PlanFault::BadLine { line } => Place::Line { file, line },
+        PlanFault::NoExport { line } => Place::Line { file, line },
+        PlanFault::WrongArguments { line } => Place::Line { file, line },
+        _ => Place::Whole(file),
+    }
+}
+
+fn in_schedule<'a>(file: &'a str, fault: &ScheduleFault) -> Place<'a>
+    ensures { place_text result ≡ in_schedule file.now fault.now }
+{
+    match *fault {
+        ScheduleFault::BadLine { line } => Place::Line { file, line },
+        ScheduleFault::NoMemory => Place::Whole(file),
+    }
+}
+
+fn in_lines<'a>(file: &'a str, fault: &GatherFault) -> Place<'a>
+    ensures { place_text result ≡ in_lines file.now fault.now }
+{
+    match *fault {
+        GatherFault::OtherRun { line } => Place::Line { file, line },
+        GatherFault::BadLine { line, .. } => Place::Line { file, line },
+        _ => Place::Whole(file),
+    }
+}
+
+fn in_events<'a>(file: &'a str, fault: &ReplayFault) -> Place<'a>
+    ensures { place_text result ≡ in_events file.now fault.now }
+{
+    match *fault {
+        ReplayFault::Clash { thread, place } => Place::Event {
+            file,
+            thread,
+            place,
+        },
+        ReplayFault::Missing { thread, place } => Place::Event {
+            file,
+            thread,
+            place,
+        },
+        ReplayFault::Diverged { thread, place } => Place::Event {
+            file,
+            thread,
+            place,
+        },
+        _ => Place::Whole(file),
+    }
+}
+
+fn in_log<'a>(file: &'a str, fault: &WasmReplayFault) -> Place<'a>
+    ensures { place_text result ≡ in_log file.now fault.now }
+{
+    match fault {
+        WasmReplayFault::Replay(fault) => in_events(file, fault),
+        _ => Place::Whole(file),
+    }
+}
+
+/// Where the cause of a refusal stands.
+fn place_of<'a, F: Files>(
+    alloc: Global,
+    files: &mut F,
+    request: &Request<'a>,
+    fault: &Fault,
+) -> Place<'a>
+    ensures { begins_with request.now fault.now (place_text result) }
+{
+    match fault {
+        Fault::File(_) => Place::Whole(blamed_file(alloc, files, request)),
+        Fault::Decode(fault) => in_module(module_path(request), fault),
+        Fault::Valid(fault) => in_functions(module_path(request), fault),
+        Fault::Plan(fault) => in_plan(plan_path(request), fault),
+        Fault::Schedule(fault) => in_schedule(schedule_path(request), fault),
+        Fault::Pieces(_) => Place::Whole("--size"),
+        Fault::Gather(fault) => in_lines(pieces_path(request), fault),
+        Fault::Replay(fault) => in_log(pieces_path(request), fault),
+        Fault::View(_) => Place::Whole("--from and --len"),
+        Fault::NoMemory => Place::Whole("memory"),
+        Fault::SinkFailed => Place::Whole("standard output"),
+    }
+}
+
+/// Why a request is refused with this fault, in words, without a line end: the file, where in it, and the reason. The files are
+/// read again as far as the reason needs it; where they can't be, or have changed, the reason says less. It refuses for want
+/// of memory alone.
+pub fn explain<L: Log, F: Files>(
+    rt: &L,
+    alloc: Global,
+    files: &mut F,
+    request: &Request<'_>,
+    fault: &Fault,
+) -> Result<String, NoMemory>
+    ensures { IfOk result (λ text. IsExplanation request.now fault.now (string_bytes text)) }
+{
+    let place = place_of(alloc, files, request, fault);
+    let reason = reason_of(rt, alloc, files, request, fault)?;
+    Ok(format!(in alloc; "{place}: {reason}")?)
+}
