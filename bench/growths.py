@@ -21,9 +21,9 @@ import tempfile
 
 HERE = os.path.dirname(os.path.abspath(__file__))
 ROWS = os.path.join(HERE, "..", "crates", "worked_rows", "data")
-USUAL = ["first.", "five.", "--threads"]
 # Threads that share nothing, so that each recording of them is as the others.
 BY_THREADS = ["record alone.wasm alone2.plan --threads --report", "record alone.wasm alone2.plan --threads", "record far.wasm farf.plan --threads"]
+USUAL = ["first.", "five.", *BY_THREADS]
 
 LIBRARY = r"""
 #include <errno.h>

@@ -4,8 +4,8 @@
 usage: recordings.py PATH_OF_WREPLAY [TIMES]
 
 Two threads add to a counter TIMES times (1,000 without a number): those of `examples/lost`, which load, add and store, and those
-of the worked rows' counter, which add by one access. Each recording is replayed from its pieces by three orders, and the three reports
-must be one. It prints, for each module, how many
+of the worked rows' counter, which add by one access. Each recording is replayed from its pieces by three orders and by threads, and the
+four reports must be one. It prints, for each module, how many
 recordings were replayed, how often each report came, and how often an update was lost.
 """
 
@@ -18,7 +18,7 @@ import tempfile
 HERE = os.path.dirname(os.path.abspath(__file__))
 LOST = os.path.join(HERE, "..", "examples", "lost")
 COUNTER = os.path.join(HERE, "..", "crates", "worked_rows", "data", "counter")
-ORDERS = [[], ["--order", "1,0,1,0,1"], ["--order", "0,0,0,0,1"]]
+ORDERS = [[], ["--order", "1,0,1,0,1"], ["--order", "0,0,0,0,1"], ["--threads"]]
 
 
 def run(words):

@@ -8,7 +8,8 @@ do the same, and of four programs of one thread each that run side by side, the 
 times the steps a second of one thread the four make. The four programs share nothing, so they are what the machine has to give.
 Threads that share a counter: four of them make EVENTS accesses (10,000,000 by default) between them, and the greatest
 resident memory, less that of a recording of few events, is given for each event, once where the report is written and once
-where the pieces are. Seconds are those of the clock, so nothing else should run.
+where the pieces are. The log of a tenth of these events, and that of threads that compute alone, are replayed by threads, and the
+seconds are set beside those of the recording of the report. Seconds are those of the clock, so nothing else should run.
 """
 
 import os
@@ -39,6 +40,20 @@ def recorded(wreplay, folder, wasm, threads, *more):
     if os.waitstatus_to_exitcode(status) != 0:
         sys.exit(f"record --threads: status {os.waitstatus_to_exitcode(status)}")
     return seconds, used.ru_maxrss * 1024
+
+
+def replayed(wreplay, folder, wasm, threads):
+    """The least seconds of a recording by threads of the report, and of the replay by threads of a recording's pieces."""
+    pieces = os.path.join(folder, "pieces")
+    recorded(wreplay, folder, wasm, threads)
+    os.replace(os.path.join(folder, "out"), pieces)
+    record = replay = float("inf")
+    for _ in range(ROUNDS):
+        record = min(record, recorded(wreplay, folder, wasm, threads, "--report")[0])
+        start = time.monotonic()
+        subprocess.run([wreplay, "replay", wasm, plan_of(folder, threads), pieces, "--threads"], stdout=subprocess.DEVNULL, check=True)
+        replay = min(replay, time.monotonic() - start)
+    return record, replay
 
 
 def least(wreplay, folder, wasm, threads):
@@ -83,6 +98,13 @@ def main():
             _, least_memory = recorded(wreplay, folder, few, 4, *more)
             seconds, memory = recorded(wreplay, folder, many, 4, *more)
             print(f"| {events:,} | {name} | {seconds:.2f} | {(memory - least_memory) / events:.1f} |")
+        print()
+        tenth = written(folder, "tenth.wasm", module(events // 80, True))
+        print("| four threads | recording, s | replay by threads, s | times the recording's speed |")
+        print("|---|---:|---:|---:|")
+        for name, path in [("that compute alone", wasm), (f"of {events // 10:,} events on one counter", tenth)]:
+            record, replay = replayed(wreplay, folder, path, 4)
+            print(f"| {name} | {record:.2f} | {replay:.2f} | {record / replay:.2f} |")
 
 
 if __name__ == "__main__":

@@ -3,6 +3,7 @@
 
 mod cells;
 mod laws;
+mod naming;
 mod op;
 mod open;
 mod script;

@@ -1,9 +1,11 @@
-//! Tests of a shared memory by threads that really run at once. A crate with tests is proved twice, so they stand here, over what
+//! Tests of a shared memory, and of shared cells, by threads that really run at once. A crate with tests is proved twice, so they stand here, over what
 //! those crates offer.
 #![tactic(auto)]
 
 #[cfg(test)]
 mod calls;
+#[cfg(test)]
+mod cells;
 #[cfg(test)]
 mod growths;
 #[cfg(test)]

@@ -56,7 +56,7 @@ impl Plain {
     }
 
     /// Whether a touch of an object found what is kept of it, which is counted on.
-    fn meets(&mut self, found: Found, object: u32, mode: Mode) -> bool {
+    pub(crate) fn meets(&mut self, found: Found, object: u32, mode: Mode) -> bool {
         let Some(count) = self.counts.get_mut(object as usize) else {
             return false;
         };

@@ -12,13 +12,13 @@ use striped_memory::StripedMemory;
 
 /// The calls of one thread, and what those that were gone through answered.
 #[derive(Debug, Drop)]
-struct Line {
-    entries: Vec<Entry>,
-    answers: Answers,
+pub(crate) struct Line {
+    pub(crate) entries: Vec<Entry>,
+    pub(crate) answers: Answers,
 }
 
 /// The calls of each thread, of which none was gone through yet.
-fn lines(alloc: Global, all: &[PackedEntries]) -> Result<Vec<Line>, Fail> {
+pub(crate) fn lines(alloc: Global, all: &[PackedEntries]) -> Result<Vec<Line>, Fail> {
     let mut lines = Vec::new(alloc);
     for entries in all {
         lines.push(Line {

@@ -1,3 +1,4 @@
 pub mod Counted
 pub mod Rounds
 pub mod Alone
+pub mod OnePage

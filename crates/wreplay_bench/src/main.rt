@@ -1,5 +1,5 @@
-//! Work for measurements, which `make bench` runs: steps of scripts, accesses of a memory, decoding and validating of a
-//! module, and the run of one thread.
+//! Work for measurements, which `make bench` runs: steps of scripts, accesses of a memory, the same under locks by threads at
+//! once, decoding and validating of a module, and the run of one thread.
 #![tactic(auto)]
 
 mod accesses;
@@ -7,6 +7,7 @@ mod alone;
 mod decoding;
 mod ended;
 mod fault;
+mod locks;
 mod parts;
 mod plain;
 mod rounds;
@@ -20,15 +21,19 @@ mod whole;
 
 use crate::accesses::accesses_asked;
 use crate::decoding::rounds_asked;
+use crate::locks::locks_asked;
 use crate::stages::run_bytes;
 use crate::steps::steps_asked;
 use std::process::ExitCode;
+use std::sync::Wait;
+use std::thread::Threads;
 use std::{env, fs};
 
 /// How the words go.
 const USAGE: &str = "\
 usage: wreplay_bench steps parts|read|kept STEPS
        wreplay_bench accesses slice-load|slice-store|load|load-of-kind|store PAGES BLOCK COUNT
+       wreplay_bench locks mutex|apart|same THREADS COUNT
        wreplay_bench decode decode|validate FILE TIMES
        wreplay_bench machine MODULE PLAN";
 
@@ -72,8 +77,13 @@ fn run_thread(rt: &HostRuntime, module: &str, plan: &str) -> anyhow::Result<Exit
     }
 }
 
-/// Does what the words behind the command ask for.
-fn run(rt: &HostRuntime, command: &str, words: &[String]) -> anyhow::Result<ExitCode> {
+/// Does what the words behind the command ask for. `at_once` makes the threads of a measurement.
+fn run<T: Threads + Wait + Sync>(
+    rt: &HostRuntime,
+    at_once: &T,
+    command: &str,
+    words: &[String],
+) -> anyhow::Result<ExitCode> {
     match (command, words) {
         ("steps", [mode, steps]) => {
             let sum = steps_asked(rt.alloc(), mode.as_str(), steps.as_str())?;
@@ -89,6 +99,11 @@ fn run(rt: &HostRuntime, command: &str, words: &[String]) -> anyhow::Result<Exit
             let sum = accesses_asked(rt.alloc(), words)?;
             write_number(rt, sum)
         }
+        ("locks", [mode, threads, count]) => {
+            let words = [mode.as_str(), threads.as_str(), count.as_str()];
+            let made = locks_asked(at_once, rt.alloc(), words)?;
+            write_number(rt, made)
+        }
         ("decode", [mode, path, times]) => {
             decode(rt, mode.as_str(), path.as_str(), times.as_str())
         }
@@ -100,7 +115,7 @@ fn run(rt: &HostRuntime, command: &str, words: &[String]) -> anyhow::Result<Exit
 fn main(rt: HostRuntime) -> anyhow::Result<ExitCode> {
     let words: Vec<String> = env::args(&rt)?.collect(rt.alloc())?;
     match words.as_slice() {
-        [_, command, rest @ ..] => run(&rt, command.as_str(), rest),
+        [_, command, rest @ ..] => run(&rt, &rt, command.as_str(), rest),
         _ => refuse(&rt),
     }
 }
