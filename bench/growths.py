@@ -7,7 +7,7 @@ The commands are those of `crates/worked_rows/data/commands` that have one of th
 same each time; without a word those of the counter's first run, those of five waiting threads, and these recordings. A small library, made by the C compiler and loaded before the system's, answers
 one of the program's calls for memory with none: the first, then the second, and so on until a run asks for no more. Each time
 the program must do one of two things: exactly what it does with ample memory, or exit with 1, the output empty, and on
-standard error one line `refused N NoMemory`. Behind each such run the same command is run again with ample memory and must
+standard error one line `refused N NoMemory`, with `--why` and one more line. Behind each such run the same command is run again with ample memory and must
 write the same bytes as before. It prints, for each command, how many growths were refused and with which lines.
 """
 
@@ -23,6 +23,16 @@ HERE = os.path.dirname(os.path.abspath(__file__))
 ROWS = os.path.join(HERE, "..", "crates", "worked_rows", "data")
 # Threads that share nothing, so that each recording of them is as the others.
 BY_THREADS = ["record alone.wasm alone2.plan --threads --report", "record alone.wasm alone2.plan --threads", "record far.wasm farf.plan --threads"]
+# Commands that are to say why: what is refused has one more line.
+WITH_REASONS = [
+    "check counter.wasm --why",
+    "record counter.wasm counter.plan --schedule first.schedule --why",
+    "gather --why < first.pieces",
+    "replay counter.wasm counter.plan first.pieces --why",
+    "replay counter.wasm counter.plan object.pieces --why",
+    "replay counter.wasm counter.plan first.pieces --threads --why",
+    "view counter.wasm counter.plan first.pieces --place 1.1 --why",
+]
 USUAL = ["first.", "five.", *BY_THREADS]
 
 LIBRARY = r"""
@@ -62,6 +72,21 @@ def commands(words):
             yield line, command.split(), source, kept, any(word in line for word in words)
     for line in BY_THREADS:
         yield line, line.split(), "", "", any(word in line for word in words)
+    for line in WITH_REASONS:
+        command, _, source = line.partition(" < ")
+        yield line, command.split(), source, "", any(word in line for word in words)
+
+
+def is_refusal(words, usual, answer):
+    """Whether memory is wanted, with nothing on the output; or a command that is refused does not say its usual reason."""
+    status, output, errors = answer
+    if status != 1 or output != b"":
+        return False
+    if "--why" not in words:
+        return re.fullmatch(rb"refused \d+ NoMemory\n", errors) is not None
+    first, _, rest = errors.partition(b"\n")
+    known = re.fullmatch(rb"refused \d+ NoMemory", first) or (usual[0] == 1 and first == usual[2].partition(b"\n")[0])
+    return bool(known) and re.fullmatch(rb"[^\n]+: [^\n]+\n", rest) is not None
 
 
 def run(path, library, folder, words, source, growth):
@@ -89,8 +114,8 @@ def refuse_each(path, library, folder, line, words, source):
         status, output, errors = answer
         if answer == usual:
             answers["as with ample memory"] += 1
-        elif status == 1 and output == b"" and re.fullmatch(rb"refused \d+ NoMemory\n", errors):
-            answers[errors.decode().strip()] += 1
+        elif is_refusal(words, usual, answer):
+            answers[errors.decode().strip().replace("\n", " | ")] += 1
         else:
             sys.exit(f"{line}: growth {growth}: status {status}, errors {errors!r}")
         again, _ = run(path, library, folder, words, source, 0)
