@@ -282,6 +282,14 @@ check_of('many', bytes.fromhex('0061736d01000000050401008102ff'), '2 TooLarge')
 check_of('untyped', patched(37, 0x01, 0x01), '11 Invalid 0 3')
 check_of('aligned', patched(43, 0x01, 0x00), '11 Invalid 0 2')
 check_of('upside', patched(24, 0x00, 0x07), '11 Invalid module')
+# modules spelled by hand that are refused: a line of the file has the bytes, the refusal, and the reason, read by hand
+with open(os.path.join(os.path.dirname(os.path.abspath(__file__)), 'modules')) as file:
+    for number, line in enumerate(file, 1):
+        spelled, text, reason = line.rstrip('\n').split('\t')
+        name = keep('refused%d.wasm' % number, bytes.fromhex(spelled))
+        command('check %s --why' % name, '', 'refused %s\n%s: %s\n' % (text, name, reason), 1)
+# control characters of a path
+command('check a\x01\x7f\u00e9.wasm --why', '', 'refused 44 SourceFailed\na??\u00e9.wasm: there is no such file\n', 1)
 PATCHED = Module([('w', [], 'i32', add + ['end'])], data=((65535, b'ab'),))
 keep('outside.wasm', PATCHED.bytes)
 def plan_refused(name, content, text, module='counter'):

@@ -245,7 +245,7 @@ fn with_breaks<'a>(alloc: Global, command: Command<'a>) -> Result<Command<'a>, A
     let place = "Stop where thread T has made P accesses";
     let place = option(alloc, "place", "T.P", place);
     let step = option(alloc, "step", "T.N", "Stop where thread T has made N steps");
-    let write = "Stop behind a write of a block that holds one of LEN bytes from FROM on";
+    let write = "Stop behind a write of a block that has one of LEN bytes from FROM on";
     let write = option(alloc, "write", "FROM+LEN", write);
     let command = with_argument(command, place)?;
     let command = with_argument(command, step)?;

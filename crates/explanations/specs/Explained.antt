@@ -84,15 +84,15 @@ in_log file (refusal.Replay fault) = in_events file fault
 in_log file fault = file
 
 -- where the cause of a refusal stands; of a file that is not read, or where memory is wanted, nothing is promised
-abbrev pub begins_with : Request → Fault → List ℕ → Type 0
-begins_with r (fault.Decode f) place = place ≡ in_module (module_path r) f
-begins_with r (fault.Valid f) place = place ≡ in_functions (module_path r) f
-begins_with r (fault.Plan f) place = place ≡ in_plan (plan_path r) f
-begins_with r (fault.Schedule f) place = place ≡ in_schedule (schedule_path r) f
-begins_with r (fault.Gather f) place = place ≡ in_lines (pieces_path r) f
-begins_with r (fault.Replay f) place = place ≡ in_log (pieces_path r) f
-begins_with r f place = Unit {0}
+abbrev pub BeginsWith : Request → Fault → List ℕ → Type 0
+BeginsWith r (fault.Decode f) place = place ≡ in_module (module_path r) f
+BeginsWith r (fault.Valid f) place = place ≡ in_functions (module_path r) f
+BeginsWith r (fault.Plan f) place = place ≡ in_plan (plan_path r) f
+BeginsWith r (fault.Schedule f) place = place ≡ in_schedule (schedule_path r) f
+BeginsWith r (fault.Gather f) place = place ≡ in_lines (pieces_path r) f
+BeginsWith r (fault.Replay f) place = place ≡ in_log (pieces_path r) f
+BeginsWith r f place = Unit {0}
 
 -- the text begins with the place, and goes on after a colon
 abbrev pub IsExplanation : Request → Fault → List ℕ → Type 0
-IsExplanation r f text = (place words : List ℕ) × (text ≡ place ++ (codes ": " ++ words)) × begins_with r f place
+IsExplanation r f text = (place words : List ℕ) × (text ≡ place ++ (codes ": " ++ words)) × BeginsWith r f place

@@ -2,7 +2,7 @@
 
 ghost use Rattle.std.specs.Prelude.{◌≡◌, IfOk, string_bytes};
 ghost use Rattle.explanations.specs.Places.{place_text};
-ghost use Rattle.explanations.specs.Explained.{IsExplanation, begins_with, in_module, in_functions, in_plan, in_schedule, in_lines, in_events, in_log};
+ghost use Rattle.explanations.specs.Explained.{IsExplanation, BeginsWith, in_module, in_functions, in_plan, in_schedule, in_lines, in_events, in_log};
 
 use crate::paths::{module_path, pieces_path, plan_path, schedule_path};
 use crate::place::Place;
@@ -117,7 +117,7 @@ fn place_of<'a, F: Files>(
     request: &Request<'a>,
     fault: &Fault,
 ) -> Place<'a>
-    ensures { begins_with request.now fault.now (place_text result) }
+    ensures { BeginsWith request.now fault.now (place_text result) }
 {
     match fault {
         Fault::File(_) => Place::Whole(blamed_file(alloc, files, request)),

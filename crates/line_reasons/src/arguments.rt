@@ -4,7 +4,7 @@ ghost use Rattle.std.specs.Prelude.{ℕ, List, IfSome};
 ghost use Rattle.line_reasons.specs.Reasons.{PlanSays};
 
 use crate::plan_reasons::PlanReason;
-use crate::quoted::Quoted;
+use quoted_bytes::Quoted;
 use text_lines::{Parts, bits_32, bits_64, is_integer};
 use wasm_types::{Module, ValType};
 
@@ -18,7 +18,7 @@ pub(crate) fn no_integer<'a>(mut texts: Parts<'a>) -> Option<PlanReason<'a>>
         if !is_integer(text) {
             return Some(PlanReason::NoInteger {
                 argument,
-                found: Quoted::new(text),
+                found: Quoted { bytes: text },
             });
         }
     }
@@ -45,7 +45,7 @@ pub(crate) fn out_of_range<'a>(params: &[ValType], mut texts: Parts<'a>) -> Opti
         if !is_in_range(*param, text) {
             return Some(PlanReason::OutOfRange {
                 argument,
-                found: Quoted::new(text),
+                found: Quoted { bytes: text },
                 kind: *param,
             });
         }

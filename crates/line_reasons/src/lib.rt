@@ -5,13 +5,11 @@ mod arguments;
 mod lines;
 mod plan;
 mod plan_reasons;
-mod quoted;
 mod schedule;
 mod schedule_reasons;
 
 pub use plan::plan_reason;
 pub use plan_reasons::PlanReason;
-pub use quoted::Quoted;
 pub use schedule::schedule_reason;
 pub use schedule_reasons::ScheduleReason;
 

@@ -6,7 +6,7 @@ ghost use Rattle.line_reasons.specs.Reasons.{PlanSays, PlanTells, HasName, fault
 use crate::arguments::{count, no_integer, out_of_range, params_of};
 use crate::lines::{Spaces, ends_in_return, line_at, spaces_of};
 use crate::plan_reasons::PlanReason;
-use crate::quoted::Quoted;
+use quoted_bytes::Quoted;
 use text_lines::Parts;
 use thread_plan::PlanFault;
 use validator::Valid;
@@ -79,7 +79,7 @@ fn first_line(line: &[u8]) -> PlanReason<'_>
         return PlanReason::CarriageReturn;
     }
     PlanReason::FirstLine {
-        found: Quoted::new(line),
+        found: Quoted { bytes: line },
     }
 }
 
@@ -109,7 +109,7 @@ fn word_reason(line: &[u8]) -> Option<PlanReason<'_>>
     let first = words.take_part()?;
     if first != THREAD {
         return Some(PlanReason::FirstWord {
-            found: Quoted::new(first),
+            found: Quoted { bytes: first },
         });
     }
     match name_and_texts(line) {
@@ -125,7 +125,7 @@ fn name_reason<'a>(name: &'a [u8], texts: Parts<'a>) -> Option<PlanReason<'a>>
     match str::from_utf8(name) {
         Ok(_) => no_integer(texts),
         Err(_) => Some(PlanReason::NotUtf8 {
-            name: Quoted::new(name),
+            name: Quoted { bytes: name },
         }),
     }
 }
@@ -149,7 +149,7 @@ fn no_function(line: &[u8]) -> Option<PlanReason<'_>>
     }
     let (name, _) = name_and_texts(line)?;
     Some(PlanReason::NoFunction {
-        name: Quoted::new(name),
+        name: Quoted { bytes: name },
     })
 }
 

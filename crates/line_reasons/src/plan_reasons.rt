@@ -1,6 +1,6 @@
 //! Reasons of plans.
 
-use crate::quoted::Quoted;
+use quoted_bytes::Quoted;
 use std::error::Error;
 use std::fmt;
 use thread_plan::PlanFault;
@@ -62,7 +62,7 @@ pub enum PlanReason<'a> {
 }
 
 fn write_first_line<W: fmt::Write>(f: &mut fmt::Formatter<W>, found: &Quoted<'_>) -> fmt::Result {
-    if found.bytes().is_empty() {
+    if found.bytes.is_empty() {
         f.write_str("the first line is empty, and not `wreplay plan 1`")
     } else {
         write!(f, "the first line is `{found}`, and not `wreplay plan 1`")

@@ -4,9 +4,9 @@ ghost use Rattle.std.specs.Prelude.{IfSome};
 ghost use Rattle.line_reasons.specs.Reasons.{ScheduleSays, ScheduleTells, IsWordFault};
 
 use crate::lines::{Spaces, ends_in_return, line_at, spaces_of};
-use crate::quoted::Quoted;
 use crate::schedule_reasons::ScheduleReason;
 use pick_schedule::ScheduleFault;
+use quoted_bytes::Quoted;
 use text_lines::{Parts, bits_32, is_integer};
 use wasm_types::LAST_THREAD;
 
@@ -66,7 +66,7 @@ fn word_reason(line: &[u8]) -> Option<ScheduleReason<'_>>
         out_reason(words)
     } else {
         Some(ScheduleReason::FirstWord {
-            found: Quoted::new(first),
+            found: Quoted { bytes: first },
         })
     }
 }
@@ -84,12 +84,12 @@ fn go_reason<'a>(mut words: Parts<'a>) -> Option<ScheduleReason<'a>>
     };
     if !is_within(thread, 0, LAST_THREAD) {
         return Some(ScheduleReason::Thread {
-            found: Quoted::new(thread),
+            found: Quoted { bytes: thread },
         });
     }
     if !is_within(times, 1, MOST_PICKS) {
         return Some(ScheduleReason::Times {
-            found: Quoted::new(times),
+            found: Quoted { bytes: times },
         });
     }
     None
@@ -104,7 +104,7 @@ fn out_reason<'a>(mut words: Parts<'a>) -> Option<ScheduleReason<'a>>
     };
     if !is_within(thread, 0, LAST_THREAD) {
         return Some(ScheduleReason::Thread {
-            found: Quoted::new(thread),
+            found: Quoted { bytes: thread },
         });
     }
     None

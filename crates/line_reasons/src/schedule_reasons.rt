@@ -1,7 +1,7 @@
 //! Reasons of schedules.
 
-use crate::quoted::Quoted;
 use pick_schedule::ScheduleFault;
+use quoted_bytes::Quoted;
 use std::error::Error;
 use std::fmt;
 

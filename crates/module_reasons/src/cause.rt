@@ -2,8 +2,8 @@
 
 use crate::op_code::OpCode;
 use crate::place::section_name;
-use crate::shown_name::ShownName;
 use crate::type_fault::TypeFault;
+use quoted_bytes::Quoted;
 use std::fmt;
 
 /// Why bytes are not decoded.
@@ -170,36 +170,65 @@ impl fmt::Display for HeaderFault {
     }
 }
 
+// Writes why no section has that number.
+fn write_unknown<W: fmt::Write>(f: &mut fmt::Formatter<W>, id: u8) -> fmt::Result {
+    match id {
+        12 => f.write_str(
+            "a data count section is of bulk memory, outside the profile: compile with -mno-bulk-memory",
+        ),
+        13 => f.write_str(
+            "a tag section is of exceptions, outside the profile: compile with -fno-exceptions",
+        ),
+        _ => write!(f, "no section has the number {id}"),
+    }
+}
+
+// Writes behind which section one stands that may not.
+fn write_misplaced<W: fmt::Write>(
+    f: &mut fmt::Formatter<W>,
+    section: u8,
+    behind: u8,
+) -> fmt::Result {
+    let section = section_name(section);
+    let behind = section_name(behind);
+    write!(f, "the {section} stands behind the {behind}")
+}
+
+// Writes how far the length of a section goes.
+fn write_past_end<W: fmt::Write>(
+    f: &mut fmt::Formatter<W>,
+    length: u32,
+    left: usize,
+) -> fmt::Result {
+    write!(
+        f,
+        "its length of {length} bytes goes past the end of the file: {left} are left"
+    )
+}
+
+// Writes how many bodies there are, and how many there should be.
+fn write_bodies<W: fmt::Write>(
+    f: &mut fmt::Formatter<W>,
+    bodies: u32,
+    functions: u32,
+) -> fmt::Result {
+    write!(
+        f,
+        "{bodies} bodies stand in it, and the function section has {functions} functions"
+    )
+}
+
 impl fmt::Display for SectionFault {
     fn fmt<W: fmt::Write>(&self, f: &mut fmt::Formatter<W>) -> fmt::Result {
         match *self {
-            SectionFault::Unknown(12) => write!(
-                f,
-                "a data count section is of bulk memory, outside the profile: compile with -mno-bulk-memory"
-            ),
-            SectionFault::Unknown(13) => write!(
-                f,
-                "a tag section is of exceptions, outside the profile: compile with -fno-exceptions"
-            ),
-            SectionFault::Unknown(id) => write!(f, "no section has the number {id}"),
+            SectionFault::Unknown(id) => write_unknown(f, id),
             SectionFault::Repeated(id) => write!(f, "a second {}", section_name(id)),
-            SectionFault::Misplaced { section, behind } => write!(
-                f,
-                "the {} stands behind the {}",
-                section_name(section),
-                section_name(behind)
-            ),
-            SectionFault::PastEnd { length, left } => write!(
-                f,
-                "its length of {length} bytes goes past the end of the file: {left} are left"
-            ),
+            SectionFault::Misplaced { section, behind } => write_misplaced(f, section, behind),
+            SectionFault::PastEnd { length, left } => write_past_end(f, length, left),
             SectionFault::LeftOver(left) => {
                 write!(f, "{left} bytes are left behind what the section counts")
             }
-            SectionFault::Bodies { bodies, functions } => write!(
-                f,
-                "{bodies} bodies stand in it, and the function section has {functions} functions"
-            ),
+            SectionFault::Bodies { bodies, functions } => write_bodies(f, bodies, functions),
             SectionFault::NoCode(functions) => {
                 write!(f, "{functions} functions have no code section")
             }
@@ -214,11 +243,11 @@ impl fmt::Display for SpellingFault {
                 write!(f, "the {integer} goes past the last byte here")
             }
             SpellingFault::Number(integer) => write!(f, "no {integer} stands there in LEB128"),
-            SpellingFault::ByteMissing => write!(f, "a byte is missing"),
+            SpellingFault::ByteMissing => f.write_str("a byte is missing"),
             SpellingFault::TooLong { length, left } => {
                 write!(f, "a length of {length} bytes, and {left} are left")
             }
-            SpellingFault::NotText => write!(f, "a name that is not UTF-8"),
+            SpellingFault::NotText => f.write_str("a name that is not UTF-8"),
             SpellingFault::LeftOver(left) => write!(f, "{left} bytes are left over"),
         }
     }
@@ -241,8 +270,8 @@ impl<'a> fmt::Display for ItemFault<'a> {
         match *self {
             ItemFault::Import { kind, module, name } => {
                 let kind = kind_name(kind);
-                let module = ShownName(module);
-                let name = ShownName(name);
+                let module = Quoted { bytes: module };
+                let name = Quoted { bytes: name };
                 write!(
                     f,
                     "{module}.{name} is an imported {kind}: a memory alone may be imported"
@@ -264,34 +293,56 @@ impl<'a> fmt::Display for ItemFault<'a> {
     }
 }
 
+// Writes an instruction outside the profile, and of which family it is.
+fn write_outside<W: fmt::Write>(f: &mut fmt::Formatter<W>, code: OpCode) -> fmt::Result {
+    let family = code.family();
+    write!(f, "{code}: {family}")
+}
+
+// Writes an instruction, and words on it.
+fn write_code<W: fmt::Write>(
+    f: &mut fmt::Formatter<W>,
+    code: OpCode,
+    words: &'static str,
+) -> fmt::Result {
+    write!(f, "{code}: {words}")
+}
+
+// Writes a byte, and words on it behind it.
+fn write_byte<W: fmt::Write>(
+    f: &mut fmt::Formatter<W>,
+    byte: u8,
+    words: &'static str,
+) -> fmt::Result {
+    write!(f, "0x{byte:02x}{words}")
+}
+
 impl fmt::Display for CodeFault {
     fn fmt<W: fmt::Write>(&self, f: &mut fmt::Formatter<W>) -> fmt::Result {
         match *self {
-            CodeFault::Outside(code) => {
-                let family = code.family();
-                write!(f, "{code}: {family}")
-            }
+            CodeFault::Outside(code) => write_outside(f, code),
             CodeFault::NotConstant(code) => {
-                write!(f, "{code}: a value here is an i32.const or an i64.const")
+                write_code(f, code, "a value here is an i32.const or an i64.const")
             }
-            CodeFault::NoConstantEnd(code) => write!(
+            CodeFault::NoConstantEnd(code) => write_code(
                 f,
-                "{code}: a value here is one constant and end, with no extended constants"
+                code,
+                "a value here is one constant and end, with no extended constants",
             ),
-            CodeFault::TableNumber(byte) => write!(
+            CodeFault::TableNumber(byte) => write_byte(
                 f,
-                "0x{byte:02x} of call_indirect: its table is 0 in one byte; compile with -mno-reference-types (from clang 20 on with -mno-call-indirect-overlong too)"
+                byte,
+                " of call_indirect: its table is 0 in one byte; compile with -mno-reference-types (from clang 20 on with -mno-call-indirect-overlong too)",
             ),
             CodeFault::MemoryNumber(byte) => {
-                write!(f, "0x{byte:02x}: the one memory is 0 in one byte")
+                write_byte(f, byte, ": the one memory is 0 in one byte")
             }
             CodeFault::FenceByte(byte) => {
-                write!(f, "0x{byte:02x} behind atomic.fence, where 0x00 stands")
+                write_byte(f, byte, " behind atomic.fence, where 0x00 stands")
             }
-            CodeFault::Else => write!(f, "0x05 else: it stands outside the first arm of an if"),
-            CodeFault::NoEnd => write!(
-                f,
-                "the body is at its end, and the end of a block is missing"
+            CodeFault::Else => f.write_str("0x05 else: it stands outside the first arm of an if"),
+            CodeFault::NoEnd => f.write_str(
+                "the body is at its end, and the end of a block is missing",
             ),
         }
     }
@@ -335,7 +386,7 @@ impl<'a> fmt::Display for Cause<'a> {
             Cause::Item(fault) => write!(f, "{fault}"),
             Cause::Code(fault) => write!(f, "{fault}"),
             Cause::Limit(limit) => write!(f, "{limit}"),
-            Cause::Unknown => write!(f, "the bytes there spell nothing of the format"),
+            Cause::Unknown => f.write_str("the bytes there spell nothing of the format"),
         }
     }
 }

@@ -77,7 +77,7 @@ impl fmt::Display for LimitReason {
                 limit,
             } => write!(f, "{limit}"),
             LimitReason::Known { place, limit } => write!(f, "{place}: {limit}"),
-            LimitReason::Unknown => write!(f, "a limit of the profile is passed"),
+            LimitReason::Unknown => f.write_str("a limit of the profile is passed"),
         }
     }
 }

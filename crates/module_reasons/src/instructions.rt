@@ -153,19 +153,31 @@ fn instruction<'a>(reader: &mut Reader<'a>) -> Result<Nests, Stop<'a>> {
     Ok(nesting_of(code))
 }
 
-// Passes over an instruction: how many blocks are open behind it, of those that are open before it. An `else` is out of
-// place where the offset is that of the refusal.
+// How many blocks are open behind an instruction, of those that are open before it.
+fn open_behind(open: usize, nests: Nests) -> usize {
+    match nests {
+        Nests::Opens => open.saturating_add(1),
+        Nests::Closes => open.saturating_sub(1),
+        Nests::Turns | Nests::Stays => open,
+    }
+}
+
+// Whether an instruction is an `else` at the offset of the refusal, where it is out of place.
+fn is_misplaced(aim: usize, offset: usize, nests: Nests) -> bool {
+    offset == aim && matches!(nests, Nests::Turns)
+}
+
+// Passes over an instruction: how many blocks are open behind it, of those that are open before it.
 fn follow<'a>(aim: usize, open: usize, reader: &mut Reader<'a>) -> Result<usize, Stop<'a>> {
     let start = *reader;
     if start.left() == 0 {
         return Err(start.stop(Cause::Code(CodeFault::NoEnd)));
     }
-    match instruction(reader)? {
-        Nests::Opens => Ok(open.saturating_add(1)),
-        Nests::Closes => Ok(open.saturating_sub(1)),
-        Nests::Turns if start.offset() == aim => { Err(start.stop(Cause::Code(CodeFault::Else))) }
-        Nests::Turns | Nests::Stays => Ok(open),
+    let nests = instruction(reader)?;
+    if is_misplaced(aim, start.offset(), nests) {
+        return Err(start.stop(Cause::Code(CodeFault::Else)));
     }
+    Ok(open_behind(open, nests))
 }
 
 /// Passes over the instructions of a function, up to the end that closes its body.

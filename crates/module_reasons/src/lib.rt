@@ -17,7 +17,6 @@ mod opcode_names;
 mod place;
 mod reader;
 mod sections;
-mod shown_name;
 mod stack;
 mod step_fault;
 mod type_fault;
@@ -35,7 +34,5 @@ pub use step_fault::{InstructionFault, Named, Needs, Operand, Row, StepFault};
 pub use type_fault::TypeFault;
 pub use validation::{ValidCause, ValidReason, valid_reason};
 
-#[cfg(test)]
-mod test_rows;
 #[cfg(test)]
 mod tests;

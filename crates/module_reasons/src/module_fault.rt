@@ -326,38 +326,68 @@ fn kind_name(kind: ExportKind) -> &'static str {
     }
 }
 
+// Writes how many results a type has.
+fn write_results<W: fmt::Write>(
+    f: &mut fmt::Formatter<W>,
+    number: u32,
+    results: usize,
+) -> fmt::Result {
+    write!(
+        f,
+        "type {number} has {results} results, and may have one: compile with -mno-multivalue"
+    )
+}
+
+// Writes which type a function has.
+fn write_function_type<W: fmt::Write>(
+    f: &mut fmt::Formatter<W>,
+    function: u32,
+    number: u32,
+    count: usize,
+) -> fmt::Result {
+    write!(
+        f,
+        "function {function} has type {number}, and there are {count} types"
+    )
+}
+
+// Writes how many things a module has, of which it may have one.
+fn write_count<W: fmt::Write>(
+    f: &mut fmt::Formatter<W>,
+    count: usize,
+    things: &'static str,
+) -> fmt::Result {
+    write!(f, "it has {count} {things}, and may have one")
+}
+
+// Writes sizes that are in the wrong order.
+fn write_limits<W: fmt::Write>(
+    f: &mut fmt::Formatter<W>,
+    minimum: u32,
+    maximum: u32,
+) -> fmt::Result {
+    write!(
+        f,
+        "the least size {minimum} is above the greatest, {maximum}"
+    )
+}
+
 impl fmt::Display for ModuleFault {
     fn fmt<W: fmt::Write>(&self, f: &mut fmt::Formatter<W>) -> fmt::Result {
         match *self {
-            ModuleFault::Results { number, results } => write!(
-                f,
-                "type {number} has {results} results, and may have one: compile with -mno-multivalue"
-            ),
+            ModuleFault::Results { number, results } => write_results(f, number, results),
             ModuleFault::FunctionType {
                 function,
                 number,
                 count,
-            } => write!(
-                f,
-                "function {function} has type {number}, and there are {count} types"
-            ),
-            ModuleFault::Tables(count) => write!(f, "it has {count} tables, and may have one"),
-            ModuleFault::Limits { minimum, maximum } => {
-                write!(
-                    f,
-                    "the least size {minimum} is above the greatest, {maximum}"
-                )
-            }
-            ModuleFault::Memories(count) => {
-                write!(
-                    f,
-                    "it has {count} memories, imported and own, and may have one"
-                )
-            }
+            } => write_function_type(f, function, number, count),
+            ModuleFault::Tables(count) => write_count(f, count, "tables"),
+            ModuleFault::Limits { minimum, maximum } => write_limits(f, minimum, maximum),
+            ModuleFault::Memories(count) => write_count(f, count, "memories, imported and own"),
             ModuleFault::Pages(pages) => {
                 write!(f, "the memory has {pages} pages, and may have 65536")
             }
-            ModuleFault::Unbounded => write!(f, "the memory is shared and has no greatest size"),
+            ModuleFault::Unbounded => f.write_str("the memory is shared and has no greatest size"),
             fault => write!(f, "{}", LaterFault(fault)),
         }
     }
@@ -366,6 +396,29 @@ impl fmt::Display for ModuleFault {
 /// A rule of globals, exports, the start function or segments.
 #[derive(Clone, Copy)]
 struct LaterFault(ModuleFault);
+
+// Writes what an export names.
+fn write_export<W: fmt::Write>(
+    f: &mut fmt::Formatter<W>,
+    export: u32,
+    kind: ExportKind,
+    index: u32,
+) -> fmt::Result {
+    let kind = kind_name(kind);
+    write!(
+        f,
+        "export {export} names {kind} {index}, which is not there"
+    )
+}
+
+// Writes which exports have one name.
+fn write_same_name<W: fmt::Write>(
+    f: &mut fmt::Formatter<W>,
+    first: u32,
+    second: u32,
+) -> fmt::Result {
+    write!(f, "exports {first} and {second} have the same name")
+}
 
 impl fmt::Display for LaterFault {
     fn fmt<W: fmt::Write>(&self, f: &mut fmt::Formatter<W>) -> fmt::Result {
@@ -377,16 +430,8 @@ impl fmt::Display for LaterFault {
                 export,
                 kind,
                 index,
-            } => {
-                let kind = kind_name(kind);
-                write!(
-                    f,
-                    "export {export} names {kind} {index}, which is not there"
-                )
-            }
-            ModuleFault::SameName { first, second } => {
-                write!(f, "exports {first} and {second} have the same name")
-            }
+            } => write_export(f, export, kind, index),
+            ModuleFault::SameName { first, second } => write_same_name(f, first, second),
             ModuleFault::StartMissing(function) => {
                 write!(f, "the start function {function} is not there")
             }
@@ -403,36 +448,59 @@ impl fmt::Display for LaterFault {
 #[derive(Clone, Copy)]
 struct SegmentFault(ModuleFault);
 
+// Writes for what a segment is that is not there.
+fn write_missing<W: fmt::Write>(
+    f: &mut fmt::Formatter<W>,
+    kind: &'static str,
+    segment: u32,
+    wanted: &'static str,
+    index: u32,
+) -> fmt::Result {
+    write!(
+        f,
+        "{kind} segment {segment} is for {wanted} {index}, which is not there"
+    )
+}
+
+// Writes which segment has an offset of another type.
+fn write_offset<W: fmt::Write>(
+    f: &mut fmt::Formatter<W>,
+    kind: &'static str,
+    segment: u32,
+) -> fmt::Result {
+    write!(f, "the offset of {kind} segment {segment} is no i32")
+}
+
+// Writes which function a segment names.
+fn write_named<W: fmt::Write>(
+    f: &mut fmt::Formatter<W>,
+    segment: u32,
+    function: u32,
+    count: usize,
+) -> fmt::Result {
+    write!(
+        f,
+        "element segment {segment} names function {function}, and there are {count}"
+    )
+}
+
 impl fmt::Display for SegmentFault {
     fn fmt<W: fmt::Write>(&self, f: &mut fmt::Formatter<W>) -> fmt::Result {
         match self.0 {
             ModuleFault::ElementTable { segment, table } => {
-                write!(
-                    f,
-                    "element segment {segment} is for table {table}, which is not there"
-                )
+                write_missing(f, "element", segment, "table", table)
             }
-            ModuleFault::ElementOffset(segment) => {
-                write!(f, "the offset of element segment {segment} is no i32")
-            }
+            ModuleFault::ElementOffset(segment) => write_offset(f, "element", segment),
             ModuleFault::ElementFunction {
                 segment,
                 function,
                 count,
-            } => write!(
-                f,
-                "element segment {segment} names function {function}, and there are {count}"
-            ),
+            } => write_named(f, segment, function, count),
             ModuleFault::DataMemory { segment, memory } => {
-                write!(
-                    f,
-                    "data segment {segment} is for memory {memory}, which is not there"
-                )
+                write_missing(f, "data", segment, "memory", memory)
             }
-            ModuleFault::DataOffset(segment) => {
-                write!(f, "the offset of data segment {segment} is no i32")
-            }
-            _ => write!(f, "it breaks a rule of modules"),
+            ModuleFault::DataOffset(segment) => write_offset(f, "data", segment),
+            _ => f.write_str("it breaks a rule of modules"),
         }
     }
 }

@@ -22,22 +22,12 @@ impl OpCode {
     /// The name that the text format has for the instruction, if it is known here.
     pub fn name(self) -> Option<&'static str> {
         match self {
-            OpCode::Byte(code) => byte_name(code),
+            OpCode::Byte(code) => name_in(OF_BYTES, u32::from(code)),
             OpCode::Bulk(number) => name_in(OF_BULK, number),
             OpCode::Atomic(number) => name_in(OF_ATOMICS, number),
             OpCode::Collected(_) | OpCode::Vector(_) => None,
         }
     }
-}
-
-// The name of an instruction of one byte.
-fn byte_name(code: u8) -> Option<&'static str> {
-    for (other, name) in OF_BYTES {
-        if *other == code {
-            return Some(*name);
-        }
-    }
-    None
 }
 
 // The name of the instruction of that number.

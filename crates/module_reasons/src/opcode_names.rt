@@ -2,7 +2,7 @@
 //! wide arithmetic proposals).
 
 /// The instructions of one byte.
-pub(crate) static OF_BYTES: &[(u8, &str)] = &[
+pub(crate) static OF_BYTES: &[(u32, &str)] = &[
     (0x00, "unreachable"),
     (0x01, "nop"),
     (0x02, "block"),

@@ -61,7 +61,7 @@ fn item_name(section: u8) -> &'static str {
 impl fmt::Display for Place {
     fn fmt<W: fmt::Write>(&self, f: &mut fmt::Formatter<W>) -> fmt::Result {
         match *self {
-            Place::Header => write!(f, "header"),
+            Place::Header => f.write_str("header"),
             Place::Section(id) => write!(f, "{}", section_name(id)),
             Place::Item { section, number } => write!(f, "{} {number}", item_name(section)),
             Place::Function(function) => write!(f, "function {function}"),
@@ -69,8 +69,8 @@ impl fmt::Display for Place {
                 function,
                 instruction,
             } => write!(f, "function {function}, instruction {instruction}"),
-            Place::End => write!(f, "end of the sections"),
-            Place::Unknown => write!(f, "place unknown"),
+            Place::End => f.write_str("end of the sections"),
+            Place::Unknown => f.write_str("place unknown"),
         }
     }
 }

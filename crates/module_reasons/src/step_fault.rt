@@ -133,10 +133,10 @@ impl fmt::Display for Row {
     fn fmt<W: fmt::Write>(&self, f: &mut fmt::Formatter<W>) -> fmt::Result {
         let [_, _, _, top] = self.operands;
         if top.is_none() {
-            return write!(f, "nothing");
+            return f.write_str("nothing");
         }
         if self.more {
-            write!(f, "..")?;
+            f.write_str("..")?;
         }
         let mut before = self.more;
         for slot in &self.operands {
@@ -144,7 +144,7 @@ impl fmt::Display for Row {
                 continue;
             };
             if before {
-                write!(f, " ")?;
+                f.write_str(" ")?;
             }
             write!(f, "{operand}")?;
             before = true;
@@ -158,8 +158,8 @@ impl fmt::Display for Needs {
         match self {
             Needs::Upper(row) => write!(f, "{row} on the stack"),
             Needs::Alone(row) => write!(f, "{row} alone in its block"),
-            Needs::One => write!(f, "one operand"),
-            Needs::Alike => write!(f, "two operands of one type and an i32 on top"),
+            Needs::One => f.write_str("one operand"),
+            Needs::Alike => f.write_str("two operands of one type and an i32 on top"),
         }
     }
 }
@@ -175,39 +175,79 @@ impl fmt::Display for Named {
     }
 }
 
+// Writes a label that is out of range.
+fn write_label<W: fmt::Write>(f: &mut fmt::Formatter<W>, label: u32, open: usize) -> fmt::Result {
+    write!(
+        f,
+        "its label {label} is out of range: {open} blocks are open"
+    )
+}
+
+// Writes a label of a table that is of another type than the default one.
+fn write_table_label<W: fmt::Write>(
+    f: &mut fmt::Formatter<W>,
+    label: u32,
+    default: u32,
+) -> fmt::Result {
+    write!(
+        f,
+        "its label {label} takes other operands than its default label {default}, or is out of range"
+    )
+}
+
+// Writes what is out of range.
+fn write_missing<W: fmt::Write>(
+    f: &mut fmt::Formatter<W>,
+    what: Named,
+    index: u32,
+    count: usize,
+) -> fmt::Result {
+    write!(f, "its {what} {index} is out of range: there are {count}")
+}
+
+// Writes how an alignment differs from that of its width, both as exponents of two.
+fn write_alignment<W: fmt::Write>(
+    f: &mut fmt::Formatter<W>,
+    exponent: u32,
+    differs: &'static str,
+    width: u32,
+) -> fmt::Result {
+    write!(
+        f,
+        "its alignment 2^{exponent} is {differs} 2^{width}, the bytes of its access"
+    )
+}
+
+// Writes what is needed, and what is found.
+fn write_operands<W: fmt::Write>(
+    f: &mut fmt::Formatter<W>,
+    needs: &Needs,
+    finds: &Row,
+) -> fmt::Result {
+    write!(f, "needs {needs}, and finds {finds}")
+}
+
 impl fmt::Display for StepFault {
     fn fmt<W: fmt::Write>(&self, f: &mut fmt::Formatter<W>) -> fmt::Result {
         match self {
-            StepFault::Operands { needs, finds } => write!(f, "needs {needs}, and finds {finds}"),
-            StepFault::Label { label, open } => {
-                write!(
-                    f,
-                    "its label {label} is out of range: {open} blocks are open"
-                )
-            }
-            StepFault::TableLabel { label, default } => write!(
-                f,
-                "its label {label} takes other operands than its default label {default}, or is out of range"
-            ),
-            StepFault::Missing { what, index, count } => {
-                write!(f, "its {what} {index} is out of range: there are {count}")
-            }
+            StepFault::Operands { needs, finds } => write_operands(f, needs, finds),
+            StepFault::Label { label, open } => write_label(f, *label, *open),
+            StepFault::TableLabel { label, default } => write_table_label(f, *label, *default),
+            StepFault::Missing { what, index, count } => write_missing(f, *what, *index, *count),
             StepFault::Immutable(global) => write!(f, "its global {global} is not mutable"),
-            StepFault::Alignment { exponent, most } => write!(
-                f,
-                "its alignment 2^{exponent} is above 2^{most}, the bytes of its access"
-            ),
-            StepFault::AtomicAlignment { exponent, width } => write!(
-                f,
-                "its alignment 2^{exponent} is not 2^{width}, the bytes of its access"
-            ),
-            StepFault::NoMemory => write!(f, "the module has no memory"),
-            StepFault::NoTable => write!(f, "the module has no table"),
-            StepFault::Else => write!(f, "it stands outside the first arm of an if"),
+            StepFault::Alignment { exponent, most } => {
+                write_alignment(f, *exponent, "above", *most)
+            }
+            StepFault::AtomicAlignment { exponent, width } => {
+                write_alignment(f, *exponent, "not", *width)
+            }
+            StepFault::NoMemory => f.write_str("the module has no memory"),
+            StepFault::NoTable => f.write_str("the module has no table"),
+            StepFault::Else => f.write_str("it stands outside the first arm of an if"),
             StepFault::NoElse(result) => { write!(f, "an if that leaves {result} has no else") }
-            StepFault::BehindEnd => write!(f, "it stands behind the last end"),
-            StepFault::NoEnd => write!(f, "the end of a block is missing"),
-            StepFault::Unknown => write!(f, "it is not typed"),
+            StepFault::BehindEnd => f.write_str("it stands behind the last end"),
+            StepFault::NoEnd => f.write_str("the end of a block is missing"),
+            StepFault::Unknown => f.write_str("it is not typed"),
         }
     }
 }

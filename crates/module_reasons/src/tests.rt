@@ -1,43 +1,13 @@
-//! What is said of modules that are refused, in fixed words.
+//! What no command line shows of the reasons of modules.
 
-use crate::test_rows::{INVALID, REFUSED, TOO_LARGE};
-use crate::{Cause, LimitReason, decode_reason, limit_reason, valid_reason};
+use crate::{Cause, LimitReason, decode_reason, limit_reason};
 use binary_decoder::{DecodeFault, decode};
 use std::alloc::Global;
 use std::test::Fail;
-use validator::{ValidFault, validate};
-use wasm_types::Module;
 
-// The offset at which bytes are refused; none where they are not.
-fn refused_at(alloc: Global, bytes: &[u8]) -> Option<usize> {
-    match decode(alloc, bytes) {
-        Err(DecodeFault::Refused { offset }) => Some(offset),
-        _ => None,
-    }
-}
-
-// Whether bytes are too large.
-fn is_too_large(alloc: Global, bytes: &[u8]) -> bool {
-    match decode(alloc, bytes) {
-        Err(DecodeFault::TooLarge) => true,
-        _ => false,
-    }
-}
-
-// The fault of a module, if it has one.
-fn fault_of(alloc: Global, module: Module) -> Option<ValidFault> {
-    match validate(alloc, module) {
-        Ok(_) => None,
-        Err(fault) => Some(fault),
-    }
-}
-
-// What is said of the fault of a module.
-fn valid_text(alloc: Global, bytes: &[u8], fault: &ValidFault) -> Result<String, Fail> {
-    let module = decode(alloc, bytes)?;
-    let reason = valid_reason(alloc, &module, fault)?;
-    Ok(format!(in alloc; "{reason}")?)
-}
+/// A module with a section of each kind.
+const WHOLE: &[u8] =
+    b"\0asm\x01\0\0\0\x01\x04\x01`\0\0\x02\x08\x01\x01e\x01m\x02\0\x01\x03\x02\x01\0\x04\x04\x01p\0\x01\x05\x04\x01\x03\x01\x01\x06\x06\x01\x7f\0A\0\x0b\x07\x05\x01\x01f\0\0\x08\x01\0\x09\x07\x01\0A\0\x0b\x01\0\n\x15\x01\x13\x01\x01~A\0\x04@\x05\x0bA\0(\x02\0\x1a\xfe\x03\0\x0b\x0b\x09\x01\0A\0\x0b\x03abc\0\x03\x01nx";
 
 // Whether the bytes are a module, or it is known why they are none.
 fn is_known(alloc: Global, bytes: &[u8]) -> bool {
@@ -52,52 +22,6 @@ fn is_known(alloc: Global, bytes: &[u8]) -> bool {
         },
         _ => true,
     }
-}
-
-// Whether that is so of each beginning of the bytes.
-fn are_beginnings_known(alloc: Global, bytes: &[u8]) -> bool {
-    for length in 0..bytes.len() {
-        let (beginning, _) = bytes.split_at(length);
-        if !is_known(alloc, beginning) {
-            return false;
-        }
-    }
-    true
-}
-
-#[test]
-fn what_is_not_in_the_format_is_named(rt: HostRuntime) -> Result<(), Fail> {
-    for (bytes, offset, want) in REFUSED {
-        assert_eq!(rt; refused_at(rt.alloc(), bytes), Some(*offset), "{want}");
-        let text = format!(in rt.alloc(); "{}", decode_reason(bytes, *offset))?;
-        assert_eq!(rt; text.as_str(), *want);
-    }
-    Ok(())
-}
-
-#[test]
-fn what_passes_a_limit_is_named(rt: HostRuntime) -> Result<(), Fail> {
-    for (bytes, want) in TOO_LARGE {
-        assert!(rt; is_too_large(rt.alloc(), bytes), "{want}");
-        let text = format!(in rt.alloc(); "{}", limit_reason(bytes))?;
-        assert_eq!(rt; text.as_str(), *want);
-    }
-    Ok(())
-}
-
-#[test]
-fn what_is_not_valid_is_named(rt: HostRuntime) -> Result<(), Fail> {
-    for (bytes, function, instruction, want) in INVALID {
-        let fault = ValidFault::Invalid {
-            function: *function,
-            instruction: *instruction,
-        };
-        let module = decode(rt.alloc(), bytes)?;
-        assert_eq!(rt; fault_of(rt.alloc(), module), Some(fault), "{want}");
-        let text = valid_text(rt.alloc(), bytes, &fault)?;
-        assert_eq!(rt; text.as_str(), *want);
-    }
-    Ok(())
 }
 
 #[test]
@@ -123,12 +47,11 @@ fn another_offset_has_no_reason(rt: HostRuntime) -> Result<(), Fail> {
 }
 
 #[test]
-fn beginnings_of_modules_have_a_reason(rt: HostRuntime) -> Result<(), Fail> {
-    for (bytes, _, want) in REFUSED {
-        assert!(rt; are_beginnings_known(rt.alloc(), bytes), "{want}");
-    }
-    for (bytes, _, _, want) in INVALID {
-        assert!(rt; are_beginnings_known(rt.alloc(), bytes), "{want}");
+fn beginnings_of_a_module_have_a_reason(rt: HostRuntime) -> Result<(), Fail> {
+    assert!(rt; decode(rt.alloc(), WHOLE).is_ok());
+    for length in 0..WHOLE.len() {
+        let (beginning, _) = WHOLE.split_at(length);
+        assert!(rt; is_known(rt.alloc(), beginning), "{length}");
     }
     Ok(())
 }

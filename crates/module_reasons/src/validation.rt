@@ -39,7 +39,7 @@ impl fmt::Display for ValidReason {
     fn fmt<W: fmt::Write>(&self, f: &mut fmt::Formatter<W>) -> fmt::Result {
         match self.cause {
             ValidCause::Module(fault) => write!(f, "module: {fault}"),
-            ValidCause::NoMemory => write!(f, "memory ran out"),
+            ValidCause::NoMemory => f.write_str("memory ran out"),
             ValidCause::Instruction(fault) => {
                 let function = self.function.unwrap_or_default();
                 let instruction = self.instruction;

@@ -1,5 +1,5 @@
 -- What the program answers.
-use Rattle.std.specs.Prelude.{◌≡◌, ◌≤◌, ◌⊎◌, ℕ, List, [], ◌∷◌, ◌++◌, Bool, Option, true, false, codes, cond, map, nat_le}
+use Rattle.std.specs.Prelude.{◌≡◌, ◌≤◌, ◌⊎◌, ℕ, List, [], ◌∷◌, ◌++◌, ◌==◌, Bool, Option, true, false, codes, cond, map, nat_le}
 use Rattle.clap.specs.Words.{Text}
 use Rattle.log_pieces.specs.Piece.{PieceValue}
 use Rattle.replica.specs.Gathered.{IsText, IsListing, IsBadLine, IsOtherRun, IsCutText}
@@ -76,9 +76,9 @@ IsSkippingRefused broke _ = ⊥
 abbrev pub fault_line : Fault → List ℕ
 fault_line fault = fault_text fault ++ 10 ∷ []
 
--- a byte as a line shows it: control characters are `?`
+-- a byte as a line shows it: control characters, those below 32 and 127, are `?`
 abbrev pub shown : ℕ → ℕ
-shown byte = cond (nat_le 32 byte) byte 63
+shown byte = cond (nat_le 32 byte) (cond (byte == 127) 63 byte) 63
 
 -- the reason in words, or that there is no memory for it
 abbrev pub IsReason : Request → Fault → List ℕ → Type 0

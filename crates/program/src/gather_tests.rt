@@ -287,6 +287,26 @@ fn explains_itself(rt: HostRuntime) -> Result<(), Fail> {
 }
 
 #[test]
+fn explains_itself_in_short_lines(rt: HostRuntime) -> Result<(), Fail> {
+    let cases = [
+        ["wreplay", "--help"].as_slice(),
+        ["wreplay", "gather", "--help"].as_slice(),
+        ["wreplay", "check", "--help"].as_slice(),
+        ["wreplay", "record", "--help"].as_slice(),
+        ["wreplay", "replay", "--help"].as_slice(),
+        ["wreplay", "view", "--help"].as_slice(),
+    ];
+    for words in cases {
+        let shown = try_out(&rt, rt.alloc(), gathering(words, ""));
+        assert_eq!(rt; shown.status, 0);
+        for line in text(&shown.output).lines() {
+            assert!(rt; line.len() <= 80, "{line}");
+        }
+    }
+    Ok(())
+}
+
+#[test]
 fn refuses_words_that_it_does_not_know(rt: HostRuntime) -> Result<(), Fail> {
     let cases = [
         ["wreplay"].as_slice(),

@@ -16,6 +16,9 @@ use wasm_types::NoMemory;
 /// What is said where memory for the words of a reason could not be had.
 const NO_WORDS: &str = "memory: the words of the reason do not fit into it\n";
 
+/// The control character above the printable ones of ASCII.
+const DELETE: u8 = 127;
+
 /// The line of a fault.
 fn line_of(fault: &Fault) -> ArrayString<64>
     ensures text { result.bytes ≡ fault_line fault.now }
@@ -49,11 +52,15 @@ fn refuse_without_words<E: Sink>(errors: &mut E, fault: &Fault) -> u8
     1
 }
 
-/// A byte as a line shows it.
+/// A byte as a line shows it: `?` for a control character of ASCII.
 fn shown(byte: u8) -> u8
     ensures { result ≡ shown byte }
 {
-    if byte < b' ' { b'?' } else { byte }
+    if byte < b' ' || byte == DELETE {
+        b'?'
+    } else {
+        byte
+    }
 }
 
 /// Puts bytes behind a text, as a line shows them.

@@ -1,8 +1,11 @@
 //! What threads do next, in words.
 
+use event_core::World;
+use integer_machine::ThreadState;
 use rw_objects::{Mode, Next, ObjectSpace, Touch};
 use std::alloc::Global;
 use std::fmt::Write;
+use waiter_queues::SharedSpace;
 use wasm_types::NoMemory;
 
 /// Puts the objects of an operation behind a text: `r` and the number of one that it reads, `w` of one that it writes.
@@ -18,7 +21,7 @@ fn put_touches(text: &mut String, touches: &[Touch]) -> Result<(), NoMemory> {
 }
 
 /// Puts behind a text what a thread does next.
-pub(crate) fn put_next<S: ObjectSpace>(
+fn put_next<S: ObjectSpace>(
     alloc: Global,
     text: &mut String,
     next: Next<S::Op>,
@@ -36,4 +39,19 @@ pub(crate) fn put_next<S: ObjectSpace>(
         }
     }
     Ok(())
+}
+
+/// How far a thread came, and what it does next, to stand behind other words; nothing where the world has no such thread.
+pub(crate) fn doing(
+    alloc: Global,
+    world: &World<ThreadState<'_>, SharedSpace>,
+    thread: u32,
+) -> Result<String, NoMemory> {
+    let mut text = String::new(alloc);
+    let (Some(steps), Some(next)) = (world.steps(thread), world.next(thread)) else {
+        return Ok(text);
+    };
+    write!(text, ", but the thread, after {steps} steps, ")?;
+    put_next::<SharedSpace>(alloc, &mut text, next)?;
+    Ok(text)
 }

@@ -5,6 +5,7 @@ use integer_machine::ThreadState;
 use join_laws::Flat;
 use replica::Log;
 use rw_objects::{Entry, Found, Versions};
+use std::alloc::Global;
 use std::fmt::Write;
 use waiter_queues::SharedSpace;
 use wasm_types::{NoMemory, Outcome};
@@ -58,14 +59,15 @@ fn put_waiting(
     Ok(())
 }
 
-/// Puts behind a text what each thread of a world waits for.
-pub(crate) fn put_all_waiting(
-    text: &mut String,
+/// What each thread of a world waits for, to stand behind other words.
+pub(crate) fn waiting(
+    alloc: Global,
     world: &World<ThreadState<'_>, SharedSpace>,
     log: &Log,
-) -> Result<(), NoMemory> {
+) -> Result<String, NoMemory> {
+    let mut text = String::new(alloc);
     for thread in 0..world.count() {
-        put_waiting(text, world, log, thread as u32)?;
+        put_waiting(&mut text, world, log, thread as u32)?;
     }
-    Ok(())
+    Ok(text)
 }

@@ -1,0 +1,59 @@
+//! Quoted bytes.
+
+ghost use Rattle.std.specs.Prelude.{◌≡◌, take};
+ghost use Rattle.quoted_bytes.specs.Quotes.{shown, rest};
+
+use std::fmt;
+
+/// The most bytes that are shown.
+const MOST_SHOWN: usize = 40;
+
+/// Bytes, perhaps of no text. They are shown by the first 40, in which `?` stands for each byte that is no visible character of
+/// ASCII and no space, and `..` where there are more.
+#[derive(Clone, Copy, Debug)]
+pub struct Quoted<'a> {
+    pub bytes: &'a [u8],
+}
+
+/// The character that stands for a byte.
+fn shown(byte: u8) -> char
+    ensures { result ≡ shown byte }
+{
+    match byte {
+        0x20..=0x7E => char::from(byte),
+        _ => '?',
+    }
+}
+
+/// The bytes that are shown.
+fn first(bytes: &[u8]) -> &[u8]
+    ensures { result.now ≡ take MOST_SHOWN bytes.now }
+{
+    if bytes.len() > MOST_SHOWN {
+        &bytes[..MOST_SHOWN]
+    } else {
+        bytes
+    }
+}
+
+/// What stands for the bytes that are not shown.
+fn rest(bytes: &[u8]) -> &'static str
+    ensures { result.now ≡ rest bytes.now }
+{
+    if bytes.len() > MOST_SHOWN { ".." } else { "" }
+}
+
+impl<'a> fmt::Display for Quoted<'a> {
+    ghost use Rattle.std.specs.Prelude.{Some};
+    ghost use Rattle.quoted_bytes.specs.Quotes.{quoted};
+
+    ghost output = { λ q. Some (quoted q.bytes.now) };
+
+    /// The first 40 bytes, and `..` where there are more.
+    fn fmt<W: fmt::Write>(&self, f: &mut fmt::Formatter<W>) -> fmt::Result {
+        for byte in first(self.bytes) {
+            write!(f, "{}", shown(*byte))?;
+        }
+        f.write_str(rest(self.bytes))
+    }
+}
