@@ -8,3 +8,4 @@ mod Safety
 mod Reaching
 pub mod Beginning
 pub mod Threads
+pub mod Few

@@ -1,7 +1,7 @@
 //! Laws of the thread step.
 
 ghost use Rattle.thread_step.specs.Fits.{StepsAreSafe, NeverStuck};
-ghost use Rattle.thread_step.specs.ThreadFits.{ThreadsAreSafe, ThreadsGoOn};
+ghost use Rattle.thread_step.specs.ThreadFits.{OperandsAreFew, ThreadsAreSafe, ThreadsGoOn};
 
 /// An activation that fits a checked function has a step, which leads to activations that fit.
 pub fn steps_are_safe()
@@ -12,6 +12,12 @@ pub fn steps_are_safe()
 /// missing.
 pub fn well_typed_is_never_stuck()
     ensures { NeverStuck }
+{}
+
+/// An activation that fits a function of a well typed module has at most as many operands as there are instructions before
+/// its place.
+pub fn operands_are_few()
+    ensures { OperandsAreFew }
 {}
 
 /// A thread that fits a well typed module has a step, which leads to threads that fit, whatever the memory replies.

@@ -3,4 +3,6 @@
 
 mod laws;
 
-pub use laws::{steps_are_safe, threads_are_safe, threads_go_on, well_typed_is_never_stuck};
+pub use laws::{
+    operands_are_few, steps_are_safe, threads_are_safe, threads_go_on, well_typed_is_never_stuck,
+};

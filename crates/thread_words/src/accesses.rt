@@ -11,18 +11,18 @@ ghost use Rattle.thread_step.specs.Effect.{within_capacity, atomically, atomic_l
 ghost use Rattle.thread_words.specs.Words.{instance_at};
 ghost use Rattle.thread_words.specs.Accesses.{takes_of, IsAccess, HasOperands, Tests, AsksBy, CanMove, Asks};
 
+use crate::instance::Instance;
 use crate::operands::{one_operand, three_operands, two_i32_operands, two_operands};
-use crate::stacks::{Instance, Stacks, Stage};
+use crate::stacks::{Stacks, Stage};
 use wasm_types::{
-    Access, Action, AtomicOp, Extension, Instr, Load, MOST_PAGES, MemArg, MemoryOp, Outcome,
-    PAGE_SIZE, PagesOp, RmwOp, Trap, ValType, Width,
+    Access, Action, AtomicOp, Extension, Instr, Load, MemArg, MemoryOp, Outcome, PAGE_SIZE,
+    PagesOp, RmwOp, Trap, ValType, Width,
 };
 
 /// The effective address of an access of that width, without wrapping. An access that ends past the greatest
 /// length of the memory is a trap.
 #[inline(always)]
 fn address_within(instance: &Instance, base: u32, offset: u32, width: Width) -> Result<u32, Trap>
-    requires { instance.now.capacity ≤ MOST_PAGES }
     ensures { Tests (within_capacity (instance_at instance.now) (base + offset) (2 ^ exponent_of (width_of width))) (base + offset) result }
 {
     let address = u64::from(base) + u64::from(offset);
@@ -34,7 +34,6 @@ fn address_within(instance: &Instance, base: u32, offset: u32, width: Width) -> 
 
 /// The same of an atomic access. An address that is no multiple of the size is a trap, whatever its bounds.
 fn aligned_address(instance: &Instance, base: u32, offset: u32, width: Width) -> Result<u32, Trap>
-    requires { instance.now.capacity ≤ MOST_PAGES }
     ensures { Tests (atomically (instance_at instance.now) (base + offset) (exponent_of (width_of width))) (base + offset) result }
 {
     let address = u64::from(base) + u64::from(offset);
@@ -52,8 +51,7 @@ fn memory_access(
     op: MemoryOp,
     argument: MemArg,
 ) -> Result<Action, Trap>
-    requires operands { HasOperands (takes_of (Memory op argument)) m.now }
-    requires capacity { instance.now.capacity ≤ MOST_PAGES }
+    requires { HasOperands (takes_of (Memory op argument)) m.now }
     ensures { AsksBy (instance_at instance.now) (Memory op argument) result m.now }
 {
     match op {
@@ -94,8 +92,7 @@ fn wait_access(
     t: ValType,
     argument: MemArg,
 ) -> Result<Action, Trap>
-    requires operands { HasOperands (takes_of (Atomic (Wait t) argument)) m.now }
-    requires capacity { instance.now.capacity ≤ MOST_PAGES }
+    requires { HasOperands (takes_of (Atomic (Wait t) argument)) m.now }
     ensures { AsksBy (instance_at instance.now) (Atomic (Wait t) argument) result m.now }
 {
     if !instance.shared {
@@ -113,8 +110,7 @@ fn wait_access(
 
 /// What `memory.atomic.notify` asks for, or its trap. It has the address of four bytes.
 fn notify_access(m: &Stacks, instance: &Instance, argument: MemArg) -> Result<Action, Trap>
-    requires operands { HasOperands (takes_of (Atomic Notify argument)) m.now }
-    requires capacity { instance.now.capacity ≤ MOST_PAGES }
+    requires { HasOperands (takes_of (Atomic Notify argument)) m.now }
     ensures { AsksBy (instance_at instance.now) (Atomic Notify argument) result m.now }
 {
     let (base, count) = two_i32_operands(m);
@@ -139,8 +135,7 @@ fn load_access(
     access: Access,
     argument: MemArg,
 ) -> Result<Action, Trap>
-    requires operands { HasOperands (takes_of (Atomic (AtomicLoad access) argument)) m.now }
-    requires capacity { instance.now.capacity ≤ MOST_PAGES }
+    requires { HasOperands (takes_of (Atomic (AtomicLoad access) argument)) m.now }
     ensures { AsksBy (instance_at instance.now) (Atomic (AtomicLoad access) argument) result m.now }
 {
     let base = one_operand(m);
@@ -158,8 +153,7 @@ fn store_access(
     access: Access,
     argument: MemArg,
 ) -> Result<Action, Trap>
-    requires operands { HasOperands (takes_of (Atomic (AtomicStore access) argument)) m.now }
-    requires capacity { instance.now.capacity ≤ MOST_PAGES }
+    requires { HasOperands (takes_of (Atomic (AtomicStore access) argument)) m.now }
     ensures { AsksBy (instance_at instance.now) (Atomic (AtomicStore access) argument) result m.now }
 {
     let (base, operand) = two_operands(m);
@@ -179,8 +173,7 @@ fn rmw_access(
     access: Access,
     argument: MemArg,
 ) -> Result<Action, Trap>
-    requires operands { HasOperands (takes_of (Atomic (Rmw op access) argument)) m.now }
-    requires capacity { instance.now.capacity ≤ MOST_PAGES }
+    requires { HasOperands (takes_of (Atomic (Rmw op access) argument)) m.now }
     ensures { AsksBy (instance_at instance.now) (Atomic (Rmw op access) argument) result m.now }
 {
     let (base, operand) = two_operands(m);
@@ -200,8 +193,7 @@ fn exchange_access(
     access: Access,
     argument: MemArg,
 ) -> Result<Action, Trap>
-    requires operands { HasOperands (takes_of (Atomic (CompareExchange access) argument)) m.now }
-    requires capacity { instance.now.capacity ≤ MOST_PAGES }
+    requires { HasOperands (takes_of (Atomic (CompareExchange access) argument)) m.now }
     ensures { AsksBy (instance_at instance.now) (Atomic (CompareExchange access) argument) result m.now }
 {
     let (base, expected, replacement) = three_operands(m);
@@ -221,8 +213,7 @@ fn atomic_access(
     op: AtomicOp,
     argument: MemArg,
 ) -> Result<Action, Trap>
-    requires operands { HasOperands (takes_of (Atomic op argument)) m.now }
-    requires capacity { instance.now.capacity ≤ MOST_PAGES }
+    requires { HasOperands (takes_of (Atomic op argument)) m.now }
     ensures { AsksBy (instance_at instance.now) (Atomic op argument) result m.now }
 {
     match op {
@@ -241,7 +232,6 @@ fn atomic_access(
 pub fn access_of(m: &Stacks, instance: &Instance, instr: Instr) -> Result<Action, Trap>
     requires access { IsAccess instr }
     requires can { CanMove (instance_at instance.now) instr m.now }
-    requires capacity { instance.now.capacity ≤ MOST_PAGES }
     ensures { Asks (instance_at instance.now) instr result m.now }
 {
     match instr {

@@ -27,7 +27,7 @@ fn enter(m: &mut Stacks, taken: usize, place: u32) -> Result<(), NoMemory>
     let height = m.words.len() - taken;
     m.labels.push(Label {
         opener: m.here.place,
-        height,
+        height: (height % 0x1_0000_0000) as u32,
     })?;
     m.words.truncate(height);
     m.here.place = place + 1;

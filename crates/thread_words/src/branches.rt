@@ -6,7 +6,7 @@ ghost use Rattle.wasm_types.specs.declared.instruction.IndexOp.TheVariants.{Bran
 ghost use Rattle.validator.specs.Context.{labels_in};
 ghost use Rattle.thread_step.specs.Step.{chosen_label};
 ghost use Rattle.thread_step.specs.Thread.{Function, function_at};
-ghost use Rattle.thread_words.specs.Fields.{Keeps};
+ghost use Rattle.thread_words.specs.Fields.{Keeps, IsHeight};
 ghost use Rattle.thread_words.specs.Leaving.{CanBranch, Branches, CanLand, Lands, CanLandAt, LandsAt, HasTable};
 ghost use Rattle.thread_words.specs.Moves.{CanStepIn, StepsIn};
 
@@ -55,6 +55,16 @@ fn landing_at(valid: &Valid, function: u32, opener: u32) -> Landing
     }
 }
 
+/// The height whose low 32 bits these are, and which is less than 2^32 below so many words.
+#[inline(always)]
+fn height_below(words: usize, low: u32) -> usize
+    requires { (height : ℕ) × IsHeight low words height }
+    ensures { (height : ℕ) → IsHeight low words height → result ≡ height }
+{
+    let above = ((words % 0x1_0000_0000) as u32).wrapping_sub(low);
+    words - above as usize
+}
+
 /// A branch to the label at a depth, the outermost of which is the function's. Answers whether the same function is
 /// known to go on.
 #[inline(always)]
@@ -70,7 +80,8 @@ fn branch_to(m: &mut Stacks, valid: &Valid, depth: u32) -> bool
     let at = m.labels.len() - 1 - depth as usize;
     let label = m.labels[at];
     let landing = landing_at(valid, m.here.function, label.opener);
-    cut(&mut m.words, label.height, landing.keep);
+    let height = height_below(m.words.len(), label.height);
+    cut(&mut m.words, height, landing.keep);
     m.labels.truncate(at + landing.labels);
     m.here.place = landing.place;
     true

@@ -10,8 +10,9 @@ ghost use Rattle.thread_words.specs.Calling.{HasTypes, HasRoomThrough};
 ghost use Rattle.thread_words.specs.Moves.{CanStep, Steps, Unchanged};
 
 use crate::calls::call_function;
+use crate::instance::Instance;
 use crate::operands::i32_operand;
-use crate::stacks::{Instance, Stacks, Stage};
+use crate::stacks::{Stacks, Stage};
 use validator::Valid;
 use wasm_types::{NoMemory, Outcome, Trap, ValType};
 

@@ -1,3 +1,4 @@
+pub mod Acts
 pub mod Kept
 pub mod Shared
 pub mod Made

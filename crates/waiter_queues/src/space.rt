@@ -18,6 +18,7 @@ ghost use Rattle.block_objects.specs.Memory.{IsSound, access_answer, after_acces
 ghost use Rattle.block_objects.specs.SharedMemory.{shared_memory};
 ghost use Rattle.block_objects.proofs.Laws.{memory_laws};
 ghost use Rattle.waiter_queues.specs.Shared.{queue_at, shared_values, opening_values};
+ghost use Rattle.waiter_queues.specs.Acts.{CanAct, Acts};
 
 use crate::queues::Queues;
 use block_objects::{Blocks, MemoryLimits, ObjectValue, block_number, ends_within, lone_block};
@@ -193,17 +194,10 @@ impl SharedSpace {
     /// the short ways can be compiled into the caller.
     #[inline(never)]
     fn act_by_touches(&mut self, versions: &mut Versions, op: &Op) -> (Reply, Entry)
-        requires fits { Fits shared_memory self.old.blocks.limits op.now }
-        requires ready { is_ready shared_memory self.old.blocks.limits (shared_values self.old.blocks self.old.queues) op.now ≡ true }
-        requires rising { RisesFrom 0 (op_touches op.now) }
-        requires below { AllBelow (length versions.old) (op_touches op.now) }
-        requires room { CanCountAll (op_touches op.now) versions.old }
+        requires { CanAct self.old.blocks self.old.queues versions.old op.now }
         ensures reply { result.0 ≡ reply_of shared_memory self.old.blocks.limits (shared_values self.old.blocks self.old.queues) op.now }
         ensures entry { result.1 ≡ record { kind = op_kind op.now; found = all_found (op_touches op.now) (count_at versions.old) } }
-        ensures values { shared_values self.new.blocks self.new.queues ≡ values_after shared_memory self.old.blocks.limits (shared_values self.old.blocks self.old.queues) op.now }
-        ensures limits { self.new.blocks.limits ≡ self.old.blocks.limits }
-        ensures counts { count_at versions.new ≡ counts_after (op_touches op.now) (count_at versions.old) }
-        ensures len { length versions.new ≡ length versions.old }
+        ensures after { Acts self.old.blocks self.old.queues versions.old op.now self.new.blocks self.new.queues versions.new }
     {
         let kind = block_objects::kind(op);
         let touches = block_objects::touches(versions.allocator(), op);
@@ -216,17 +210,10 @@ impl SharedSpace {
     /// `act_by_touches` reaches by their addresses, are made here, so the short ways do not pay for them.
     #[inline(always)]
     fn act_the_long_way(&mut self, versions: &mut Versions, op: &Op) -> (Reply, Entry)
-        requires fits { Fits shared_memory self.old.blocks.limits op.now }
-        requires ready { is_ready shared_memory self.old.blocks.limits (shared_values self.old.blocks self.old.queues) op.now ≡ true }
-        requires rising { RisesFrom 0 (op_touches op.now) }
-        requires below { AllBelow (length versions.old) (op_touches op.now) }
-        requires room { CanCountAll (op_touches op.now) versions.old }
+        requires { CanAct self.old.blocks self.old.queues versions.old op.now }
         ensures reply { result.0 ≡ reply_of shared_memory self.old.blocks.limits (shared_values self.old.blocks self.old.queues) op.now }
         ensures entry { result.1 ≡ record { kind = op_kind op.now; found = all_found (op_touches op.now) (count_at versions.old) } }
-        ensures values { shared_values self.new.blocks self.new.queues ≡ values_after shared_memory self.old.blocks.limits (shared_values self.old.blocks self.old.queues) op.now }
-        ensures limits { self.new.blocks.limits ≡ self.old.blocks.limits }
-        ensures counts { count_at versions.new ≡ counts_after (op_touches op.now) (count_at versions.old) }
-        ensures len { length versions.new ≡ length versions.old }
+        ensures after { Acts self.old.blocks self.old.queues versions.old op.now self.new.blocks self.new.queues versions.new }
     {
         let other = *op;
         let (reply, entry) = self.act_by_touches(versions, &other);

@@ -15,7 +15,7 @@ answer-requires-clause-access c =
 pub answer-requires-clause-can : goal.answer-requires-clause-can
 answer-requires-clause-can c =
     let a = ask_at c.args.valid.now c.args.instance.now c.args.m.now c.requires.sound c.instruction-instr.result.now c.in-Running.is c.requires.next c.instruction-instr.ensures in
-    (c.args.valid.now, instance_at c.args.instance.now, a.stack, a.action, a.after, a.at, c.requires.sound.capacity)
+    (c.args.valid.now, instance_at c.args.instance.now, a.stack, a.action, a.after, a.at, c.args.instance.now.limit)
 
 pub returns-in-Running-clause-ok : goal.returns-in-Running-clause-ok
 returns-in-Running-clause-ok c =

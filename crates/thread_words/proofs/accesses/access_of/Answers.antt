@@ -4,16 +4,16 @@ use Rattle.thread_words.specs.Accesses.{takes_of, HasOperands, AsksBy}
 use Rattle.thread_words.proofs.Asking.{has_operands, asks}
 use Rattle.thread_words.proofs.accesses.access_of.Goals as goal
 
-pub memory_access-requires-clause-operands : goal.memory_access-requires-clause-operands
-memory_access-requires-clause-operands c =
+pub memory_access-requires : goal.memory_access-requires
+memory_access-requires c =
     subst (λ i. HasOperands (takes_of i) c.args.m.now) c.in-Memory.is (has_operands (instance_at c.args.instance.now) c.args.instr c.args.m.now c.requires.can c.requires.access)
 
 pub pages_access-requires : goal.pages_access-requires
 pages_access-requires c =
     subst (λ i. HasOperands (takes_of i) c.args.m.now) c.in-Pages.is (has_operands (instance_at c.args.instance.now) c.args.instr c.args.m.now c.requires.can c.requires.access)
 
-pub atomic_access-requires-clause-operands : goal.atomic_access-requires-clause-operands
-atomic_access-requires-clause-operands c =
+pub atomic_access-requires : goal.atomic_access-requires
+atomic_access-requires c =
     subst (λ i. HasOperands (takes_of i) c.args.m.now) c.in-Atomic.is (has_operands (instance_at c.args.instance.now) c.args.instr c.args.m.now c.requires.can c.requires.access)
 
 pub returns-in-Memory : goal.returns-in-Memory
