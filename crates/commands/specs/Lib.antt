@@ -5,3 +5,4 @@ pub mod Inputs
 pub mod Records
 pub mod Replays
 pub mod Views
+pub mod Answered

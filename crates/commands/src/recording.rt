@@ -1,7 +1,6 @@
 //! Recordings, by the schedules in files or by threads.
 
-ghost use Rattle.std.specs.Prelude.{◌≡◌, ◌⊎◌, ◌<◌, ◌≤◌, ◌++◌, List, OnOk, IfOk, IfErr, false};
-ghost use Rattle.log_pieces.specs.Line.{line_of};
+ghost use Rattle.std.specs.Prelude.{◌≡◌, ◌⊎◌, ◌<◌, ◌≤◌, List, OnOk, IfOk, IfErr};
 ghost use Rattle.run_pieces.specs.Cut.{IsPiecesFault};
 ghost use Rattle.thread_plan.specs.Plans.{IsPlanOf};
 ghost use Rattle.event_core.specs.declared.pick.Pick.{Pick};
@@ -12,10 +11,11 @@ ghost use Rattle.commands.specs.Records.{IsScheduleFile, IsScheduleRefused, IsOr
 use crate::fault::Fault;
 use crate::files::Files;
 use crate::program::{Program, read_program};
+use crate::record_answer::RecordAnswer;
 use crate::schedule_file::read_schedule;
 use command_words::{RecordOrder, RecordRequest};
 use log::Log;
-use log_pieces::{MOST_ENTRIES, Piece, line};
+use log_pieces::MOST_ENTRIES;
 use run_pieces::PiecesFault;
 use run_report::report;
 use schedules::Schedule;
@@ -42,31 +42,6 @@ fn check_size(entries: u32) -> Result<(), PiecesFault>
     Ok(())
 }
 
-/// The lines of a recording's pieces of so many entries.
-fn piece_lines(alloc: Global, recording: &Recording, entries: u32) -> Result<Vec<u8>, Fault>
-    ensures text { IfOk result (λ text. text.items ≡ recorded_text false entries recording.now) }
-    ensures refused { IfErr result (IsRecordRefusal entries) }
-{
-    let pieces = match recording.pieces(alloc, entries) {
-        Ok(pieces) => pieces,
-        Err(fault) => return Err(Fault::Pieces(fault)),
-    };
-    let mut text = Vec::new(alloc);
-    for piece in &pieces {
-        put_line(alloc, &mut text, piece)?;
-    }
-    Ok(text)
-}
-
-/// Puts the line of a piece behind a text.
-fn put_line(alloc: Global, text: &mut Vec<u8>, piece: &Piece) -> Result<(), NoMemory>
-    ensures { OnOk result (text.new.items ≡ text.old.items ++ line_of piece.now) }
-{
-    let line = line(alloc, piece)?;
-    text.extend_from_slice(&line)?;
-    Ok(())
-}
-
 /// What a run by the schedule in a file came to. The schedule is judged before the size of the pieces.
 fn record_by_schedule<L: Log, F: Files>(
     rt: &L,
@@ -75,9 +50,9 @@ fn record_by_schedule<L: Log, F: Files>(
     program: &Program,
     path: &str,
     request: &RecordRequest<'_>,
-) -> Result<Vec<u8>, Fault>
+) -> Result<RecordAnswer, Fault>
     requires { IsPlanOf program.now.valid program.now.plan }
-    ensures recorded { IfOk result (λ text. (picks : List Pick) × IsScheduleFile (F.holds files.old path.now) picks × IsWritten program.now.valid program.now.plan request.now (IsRunOf program.now.valid program.now.plan request.now picks) text.items) }
+    ensures recorded { IfOk result (λ text. (picks : List Pick) × IsScheduleFile (F.holds files.old path.now) picks × IsWritten program.now.valid program.now.plan request.now (IsRunOf program.now.valid program.now.plan request.now picks) text) }
     ensures refused { IfErr result (λ fault. IsScheduleRefused (F.holds files.old path.now) (F.fails files.old path.now) fault
         ⊎ ((picks : List Pick) × IsScheduleFile (F.holds files.old path.now) picks × IsRecordRefusal request.now.size fault)) }
 {
@@ -94,9 +69,9 @@ fn record_picks(
     program: &Program,
     picks: &Schedule,
     request: &RecordRequest<'_>,
-) -> Result<Vec<u8>, Fault>
+) -> Result<RecordAnswer, Fault>
     requires { IsPlanOf program.now.valid program.now.plan }
-    ensures recorded { IfOk result (λ text. IsWritten program.now.valid program.now.plan request.now (IsRunOf program.now.valid program.now.plan request.now picks.now) text.items) }
+    ensures recorded { IfOk result (λ text. IsWritten program.now.valid program.now.plan request.now (IsRunOf program.now.valid program.now.plan request.now picks.now) text) }
     ensures refused { IfErr result (IsRecordRefusal request.now.size) }
 {
     if let Err(fault) = check_size(request.size) {
@@ -106,7 +81,7 @@ fn record_picks(
     let block = request.block;
     let steps = request.steps;
     match record_schedule(alloc, valid, plan, request.run, block, picks, steps) {
-        Ok(recording) => written(alloc, &recording, request),
+        Ok(recording) => written(alloc, recording, request),
         Err(NoMemory) => Err(Fault::NoMemory),
     }
 }
@@ -148,16 +123,16 @@ fn record_by_threads<T: Threads + Wait + Sync>(
     program: &Program,
     times_out: bool,
     request: &RecordRequest<'_>,
-) -> Result<Vec<u8>, Fault>
+) -> Result<RecordAnswer, Fault>
     requires { IsPlanOf program.now.valid program.now.plan }
-    ensures recorded { IfOk result (λ text. IsWritten program.now.valid program.now.plan request.now (IsRunOfThreads program.now.valid program.now.plan request.now times_out) text.items) }
+    ensures recorded { IfOk result (λ text. IsWritten program.now.valid program.now.plan request.now (IsRunOfThreads program.now.valid program.now.plan request.now times_out) text) }
     ensures refused { IfErr result (IsRecordRefusal request.now.size) }
 {
     if let Err(fault) = check_size(request.size) {
         return Err(Fault::Pieces(fault));
     }
     match recording_by_threads(threads, alloc, program, times_out, request) {
-        Ok(recording) => written(alloc, &recording, request),
+        Ok(recording) => written(alloc, recording, request),
         Err(NoMemory) => Err(Fault::NoMemory),
     }
 }
@@ -170,9 +145,9 @@ fn recorded_by<L: Log, T: Threads + Wait + Sync, F: Files>(
     files: &mut F,
     program: &Program,
     request: &RecordRequest<'_>,
-) -> Result<Vec<u8>, Fault>
+) -> Result<RecordAnswer, Fault>
     requires { IsPlanOf program.now.valid program.now.plan }
-    ensures recorded { IfOk result (λ text. IsRecordedBy (F.holds files.old) program.now.valid program.now.plan request.now request.now.order text.items) }
+    ensures recorded { IfOk result (λ text. IsRecordedBy (F.holds files.old) program.now.valid program.now.plan request.now request.now.order text) }
     ensures refused { IfErr result (λ fault. IsOrderRefused (F.holds files.old) (F.fails files.old) request.now request.now.order fault) }
 {
     match request.order {
@@ -193,8 +168,8 @@ pub fn record<L: Log, T: Threads + Wait + Sync, F: Files>(
     alloc: Global,
     files: &mut F,
     request: &RecordRequest<'_>,
-) -> Result<Vec<u8>, Fault>
-    ensures recorded { IfOk result (λ text. IsRecordedText (F.holds files.old) request.now text.items) }
+) -> Result<RecordAnswer, Fault>
+    ensures recorded { IfOk result (λ text. IsRecordedText (F.holds files.old) request.now text) }
     ensures refused { IfErr result (λ fault. IsRecordRefused (F.holds files.old) (F.fails files.old) request.now fault) }
 {
     let program = match read_program(rt, alloc, files, request.module, request.plan) {
@@ -204,20 +179,25 @@ pub fn record<L: Log, T: Threads + Wait + Sync, F: Files>(
     recorded_by(rt, threads, alloc, files, &program, request)
 }
 
-/// The report of a recording, or the lines of its pieces.
+/// The report of a recording, or the lines of its pieces, for which room is taken.
 fn written(
     alloc: Global,
-    recording: &Recording,
+    recording: Recording,
     request: &RecordRequest<'_>,
-) -> Result<Vec<u8>, Fault>
-    ensures text { IfOk result (λ text. text.items ≡ recorded_text request.now.report request.now.size recording.now) }
+) -> Result<RecordAnswer, Fault>
+    requires some { 0 < request.now.size }
+    requires few { request.now.size ≤ 4096 }
+    ensures text { IfOk result (λ text. text ≡ recorded_text request.now.report request.now.size recording) }
     ensures refused { IfErr result (IsRecordRefusal request.now.size) }
 {
     if !request.report {
-        return piece_lines(alloc, recording, request.size);
+        return match RecordAnswer::of_lines(alloc, recording, request.size) {
+            Ok(answer) => Ok(answer),
+            Err(NoMemory) => Err(Fault::NoMemory),
+        };
     }
     match report(alloc, recording.recorded().end()) {
-        Ok(text) => Ok(text.into_bytes()),
+        Ok(text) => Ok(RecordAnswer::of_text(text.into_bytes())),
         Err(NoMemory) => Err(Fault::NoMemory),
     }
 }

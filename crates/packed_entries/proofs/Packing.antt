@@ -1,11 +1,13 @@
 -- Packed entries, and what is read of them.
 use Rattle.std.proofs.Common.{◌≡◌, ℕ, zero, suc, ◌+◌, ◌-◌, ◌*◌, ◌<◌, ◌≤◌, List, [], ◌∷◌, ◌++◌, length, take, drop, min, length-drop, inl, inr, Some, None, refl, sym, ap, ◌∙◌, subst, arith, append_assoc, length-append, add-one}
 use Rattle.std.specs.List.{All, flat_map}
+use Rattle.std.proofs.Math.Seq.{take-append_seam}
 use Rattle.std.proofs.lemmas.Bool.{cases_lt}
 use Rattle.std.proofs.lemmas.List.{append-nil, take_all, drop_all}
 use Rattle.std.proofs.lemmas.Grind.{flat_map-append}
 use Rattle.std.proofs.lemmas.List.Elements.{All-cons, All-nil, All-append, All-drop, All-head, All-tail}
 use Rattle.rw_objects.specs.declared.entry.Entry.{Entry}
+use Rattle.log_pieces.specs.Packed.{behind_read}
 use Rattle.log_pieces.specs.Reading.{read_entry}
 use Rattle.log_pieces.specs.Spelling.{entry_bytes}
 use Rattle.log_pieces.specs.Widths.{FitsEntry}
@@ -111,6 +113,21 @@ module _ (count n : ℕ) (bytes rest : List ℕ) (packed : ArePacked count bytes
   one_more_read entry behind old news e so_far put =
       rw add-one (put ∙ ap (λ l. l ++ entry ∷ []) so_far ∙ ap (λ x. take n (entries_in count bytes) ++ x ∷ []) (same_read (entry, behind) pair (e ∙ next_of.read)).0 ∙ sym next_of.more)
 
+  -- the entry is there to be passed
+  pub is_passed : None ≡ behind_read (read_entry rest) → ⊥
+  is_passed none = let some = ap behind_read next_of.read in let e : None ≡ Some pair.1 = none ∙ some in cc
+
+  pub passed_behind : (behind : List ℕ) → Some behind ≡ behind_read (read_entry rest) → behind ≡ flat_map entry_bytes (drop (n + 1) (entries_in count bytes))
+  passed_behind behind e = rw add-one (let some = ap behind_read next_of.read in let f : Some behind ≡ Some pair.1 = e ∙ some in cc)
+
+-- what stands behind is a part of the bytes
+pub behind_within : (count n : ℕ) (bytes rest : List ℕ) → ArePacked count bytes → rest ≡ flat_map entry_bytes (drop n (entries_in count bytes)) → length rest ≤ length bytes
+behind_within count n bytes rest packed is =
+    let front = flat_map entry_bytes (take n (entries_in count bytes)) in
+    let all = ap length (front_bytes count n bytes rest packed is) in
+    let parts = length-append front rest in
+    omega (arith, all, parts)
+
 -- at the end of a list nothing more is taken or dropped
 take_least : (es : List Entry) (most n : ℕ) → n ≡ min most (length es) → take n es ≡ take most es
 take_least es most n least =
@@ -137,3 +154,14 @@ left_behind count most n bytes rest packed least is =
 
 pub taken : (count most n : ℕ) (bytes : List ℕ) → ArePacked count bytes → n ≡ min most count → take n (entries_in count bytes) ≡ take most (entries_in count bytes)
 taken count most n bytes packed least = take_least (entries_in count bytes) most n (least ∙ ap (min most) (sym packed.many))
+
+-- the bytes in front of those that are left are those of the entries that were passed
+pub passed_bytes : (count most n : ℕ) (bytes rest : List ℕ) → ArePacked count bytes → n ≡ min most count → rest ≡ flat_map entry_bytes (drop n (entries_in count bytes))
+    → take (length bytes - length rest) bytes ≡ flat_map entry_bytes (take most (entries_in count bytes))
+passed_bytes count most n bytes rest packed least is =
+    let front = flat_map entry_bytes (take n (entries_in count bytes)) in
+    let whole = front_bytes count n bytes rest packed is in
+    let all = ap length whole in
+    let parts = length-append front rest in
+    let long : length bytes - length rest ≡ length front = omega (arith, all, parts) in
+    ap (λ k. take k bytes) long ∙ ap (take (length front)) whole ∙ take-append_seam front rest ∙ ap (flat_map entry_bytes) (taken count most n bytes packed least)

@@ -1,6 +1,6 @@
 //! Packed entries, read one behind the other.
 
-ghost use Rattle.std.specs.Prelude.{◌≡◌, ◌≤◌, take, drop, IfOk, OnOk, OnErr};
+ghost use Rattle.std.specs.Prelude.{◌≡◌, ◌≤◌, length, take, drop, IfOk, OnOk, OnErr};
 ghost use Rattle.std.specs.List.{flat_map};
 ghost use Rattle.log_pieces.specs.Spelling.{entry_bytes};
 ghost use Rattle.packed_entries.specs.EntriesIn.{entries_in, ArePacked};
@@ -51,6 +51,21 @@ impl<'a> EntriesReader<'a> {
         self.left -= count;
         Ok(entries)
     }
+
+    /// The bytes of the next entries, as many as are left but no more than `most`, and how many entries these are. It
+    /// takes no memory.
+    pub fn next_bytes(&mut self, most: usize) -> (&'a [u8], usize)
+        ensures bytes { result.0.now ≡ flat_map entry_bytes (take most self.old) }
+        ensures count { result.1 ≡ length (take most self.old) }
+        ensures left { self.new ≡ drop most self.old }
+    {
+        let count = most.min(self.left);
+        let behind = pass_entries(self.bytes, self.left, count);
+        let (front, _) = self.bytes.split_at(self.bytes.len() - behind.len());
+        self.bytes = behind;
+        self.left -= count;
+        (front, count)
+    }
 }
 
 /// So many of the entries that bytes spell, and the bytes behind them.
@@ -75,4 +90,21 @@ fn read_entries(
         rest = behind;
     }
     Ok((entries, rest))
+}
+
+/// The bytes behind so many of the entries that bytes spell.
+fn pass_entries(bytes: &[u8], left: usize, count: usize) -> &[u8]
+    requires packed { ArePacked left bytes.now }
+    requires within { count ≤ left }
+    ensures behind { result.now ≡ flat_map entry_bytes (drop count (entries_in left bytes.now)) }
+    ensures within { length result.now ≤ length bytes.now }
+{
+    let mut rest = bytes;
+    for _ in 0..count {
+        match Entry::skip(rest) {
+            Some(behind) => rest = behind,
+            None => unreachable!(),
+        }
+    }
+    rest
 }

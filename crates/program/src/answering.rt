@@ -11,8 +11,9 @@ ghost use Rattle.program.specs.Answers.{WritesSome, IsShown, IsCut, IsListedSkip
 use crate::refusing::{refuse, refuse_request};
 use arrayvec::ArrayString;
 use command_words::{Asked, Request, requested};
-use commands::{Fault, Files, check, record, replay, skipped_text, view};
+use commands::{Fault, Files, RecordAnswer, check, record, replay, skipped_text, view};
 use log::Log;
+use quoted_bytes::Quoted;
 use replica::{
     Failed, GatherFault, ListingForm, Sink, Skipped, Source, gather, gather_skipping, write_all,
 };
@@ -39,6 +40,21 @@ fn show<W: Sink>(output: &mut W, text: &[u8]) -> Result<(), Fault>
     match write_all(output, text) {
         Ok(()) => Ok(()),
         Err(Failed) => Err(Fault::SinkFailed),
+    }
+}
+
+/// Writes what a recording answers to the output: a text, or lines that are made as they are written.
+fn show_recorded<W: Sink>(output: &mut W, answer: RecordAnswer) -> Result<(), Fault>
+    requires { W.failed output.old < 2 ^ 64 - 1 }
+    ensures shown { OnOk result (W.takes output.old answer output.new) }
+    ensures begun { OnErr result (WritesSome (W.takes output.old) answer output.new) }
+    ensures none_failed { OnOk result (W.failed output.new ≡ W.failed output.old) }
+    ensures one_failed { OnErr result (W.failed output.new ≡ W.failed output.old + 1) }
+    ensures error { IfErr result (λ fault. fault ≡ faults.SinkFailed) }
+{
+    match answer.write(output) {
+        Ok(()) => Ok(()),
+        Err(_) => Err(Fault::SinkFailed),
     }
 }
 
@@ -151,7 +167,7 @@ fn perform<L: Log, T: Threads + Wait + Sync, F: Files, R: Source, W: Sink, E: Si
             Err(fault) => Err(fault),
         },
         Request::Record(request) => match record(rt, threads, alloc, files, request) {
-            Ok(text) => show(output, &text),
+            Ok(answer) => show_recorded(output, answer),
             Err(fault) => Err(fault),
         },
         Request::Replay {
@@ -175,19 +191,15 @@ pub struct OddWord<'a> {
     pub bytes: &'a [u8],
 }
 
-/// What is said of a word that is not UTF-8: its number and its first bytes, with `?` for what is no printable ASCII.
+/// What is said of a word that is not UTF-8: its number and its bytes, as they are quoted.
 fn not_text(word: &OddWord<'_>) -> ArrayString<128> {
     let number = word.number;
+    let bytes = Quoted { bytes: word.bytes };
     let mut text = ArrayString::<128>::new();
     let _ = write!(
         text,
-        "error: word {number} of the command line is not UTF-8: "
+        "error: word {number} of the command line is not UTF-8: {bytes}\n"
     );
-    for byte in word.bytes.iter().take(40) {
-        let shown = if byte.is_ascii_graphic() { *byte } else { b'?' };
-        let _ = text.write_char(char::from(shown));
-    }
-    let _ = text.write_str("\n");
     text
 }
 

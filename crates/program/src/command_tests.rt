@@ -136,6 +136,19 @@ fn running<T: Threads + Wait + Sync>(
     schedule: &str,
     lines: &str,
 ) -> Done {
+    let output = MemorySink::new(alloc, 65536, None);
+    writing_to(threads, alloc, words, schedule, lines, output)
+}
+
+/// The same, with an output that may fail.
+fn writing_to<T: Threads + Wait + Sync>(
+    threads: &T,
+    alloc: Global,
+    words: &[&str],
+    schedule: &str,
+    lines: &str,
+    mut output: MemorySink,
+) -> Done {
     let notes = Memory::new(alloc);
     let mut files = MemoryFiles {
         module: &COUNTER,
@@ -144,7 +157,6 @@ fn running<T: Threads + Wait + Sync>(
         lines,
     };
     let mut source = MemorySource::new(b"".as_slice(), 1, None);
-    let mut output = MemorySink::new(alloc, 65536, None);
     let mut errors = MemorySink::new(alloc, 65536, None);
     let status = run(
         &notes,
@@ -181,6 +193,36 @@ fn records_by_a_schedule(rt: HostRuntime) -> Result<(), Fail> {
         "pages 1\n00000000 04000000000000000000000000000000\nthread 0 i32 3\nthread 1 i32 2\n"
     );
     assert_eq!(rt; done.noted.as_slice(), b"mps".as_slice());
+    Ok(())
+}
+
+/// Two threads in turn, in pieces of one entry: an output that takes 100 bytes at a call, and fails at one of five.
+#[test]
+fn writes_a_beginning_of_the_pieces_where_writing_fails(rt: HostRuntime) -> Result<(), Fail> {
+    let words = [
+        "wreplay",
+        "record",
+        "m",
+        "p",
+        "--schedule",
+        "s",
+        "--size",
+        "1",
+    ];
+    let picks = "go 0 3\ngo 1 8\ngo 0 5\n";
+    let whole = running(&rt, rt.alloc(), words.as_slice(), picks, "");
+    assert_eq!(rt; text(&whole.errors), "");
+    assert_eq!(rt; whole.status, 0);
+    // In each thread a piece of 76 bytes and one of 89, which has the end: two digits a byte, and the line ends.
+    assert_eq!(rt; whole.output.taken().len(), 664);
+    for call in 0..5 {
+        let output = MemorySink::new(rt.alloc(), 100, Some(call + 1));
+        let cut = writing_to(&rt, rt.alloc(), words.as_slice(), picks, "", output);
+        assert_eq!(rt; text(&cut.errors), "refused 45 SinkFailed\n");
+        assert_eq!(rt; cut.status, 1);
+        assert_eq!(rt; cut.output.taken().len() as u64, 100 * call);
+        assert!(rt; text(&whole.output).starts_with(text(&cut.output)));
+    }
     Ok(())
 }
 
@@ -239,6 +281,18 @@ fn says_why_it_refuses_a_recording(rt: HostRuntime) -> Result<(), Fail> {
         assert_eq!(rt; refused.status, 1);
         assert_eq!(rt; refused.noted.as_slice(), noted.as_bytes());
     }
+    Ok(())
+}
+
+#[test]
+fn shows_control_characters_as_question_marks(rt: HostRuntime) -> Result<(), Fail> {
+    let words = ["wreplay", "check", "é\x1f \x7f~", "--why"];
+    let refused = running(&rt, rt.alloc(), words.as_slice(), "", "");
+    assert_eq!(rt;
+        text(&refused.errors),
+        "refused 44 SourceFailed\né? ?~: there is no such file\n"
+    );
+    assert_eq!(rt; refused.status, 1);
     Ok(())
 }
 

@@ -21,7 +21,3 @@ starts size p = div-mul-le_self p size
 -- it stands below the size there
 pub within : (size p : ℕ) → 0 < size → p - p / size * size < size
 within size p some = omega (arith, div-add-mod' p size, mod-lt p some)
-
--- the last part goes to the end
-pub last_ends : (size n : ℕ) → 0 < size → n ≤ ((n - 1) / size) * size + size
-last_ends size n some = omega (arith, div-add-mod' (n - 1) size, mod-lt (n - 1) some)

@@ -4,4 +4,5 @@ pub mod Joining
 pub mod Cuts
 pub mod Rules
 pub mod Loops
+pub mod LineText
 pub mod Keeping

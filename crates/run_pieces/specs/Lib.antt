@@ -3,3 +3,4 @@ pub mod PieceOf
 pub mod Cut
 pub mod Keeps
 pub mod Laws
+pub mod Lines

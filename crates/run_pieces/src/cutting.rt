@@ -14,7 +14,7 @@ use std::alloc::Global;
 use wasm_types::{NoMemory, RunKey};
 
 /// How many pieces a thread of so many entries gives.
-fn piece_count(size: usize, entries: usize) -> usize
+pub(crate) fn piece_count(size: usize, entries: usize) -> usize
     requires { 0 < size }
     ensures { result ≡ piece_count size entries }
 {
@@ -22,7 +22,7 @@ fn piece_count(size: usize, entries: usize) -> usize
 }
 
 /// The thread's end, with its last piece.
-fn end_at(log: &ThreadLog, size: usize, index: usize) -> Option<End>
+pub(crate) fn end_at(log: &ThreadLog, size: usize, index: usize) -> Option<End>
     requires some { 0 < size }
     requires index { index < piece_count size (length log.now.entries) }
     ensures { result ≡ end_at log.now size index }
@@ -37,11 +37,11 @@ fn end_at(log: &ThreadLog, size: usize, index: usize) -> Option<End>
 
 /// A thread of a recorded run, which is cut into pieces of `size` entries.
 #[derive(Clone, Copy)]
-struct ThreadCut<'a> {
-    key: &'a RunKey,
-    thread: u32,
-    log: &'a ThreadLog,
-    size: usize,
+pub(crate) struct ThreadCut<'a> {
+    pub(crate) key: &'a RunKey,
+    pub(crate) thread: u32,
+    pub(crate) log: &'a ThreadLog,
+    pub(crate) size: usize,
 }
 
 /// The next piece of a thread, whose entries are read up to it.

@@ -1,12 +1,17 @@
-//! The pieces of a recorded run, and the log that pieces of one run make.
+//! The pieces of a recorded run, their lines, and the log that pieces of one run make.
 #![tactic(auto)]
 
 mod cutting;
 mod fault;
+mod fields;
 mod laws;
+mod line_room;
+mod line_writing;
 
 pub use cutting::pieces;
 pub use fault::PiecesFault;
 pub use laws::{
     covering_pieces_make_the_log, cuts_are_pieces, joined_logs_are_below, recorded_runs_keep_rules,
 };
+pub use line_room::LineRoom;
+pub use line_writing::write_lines;

@@ -1,6 +1,8 @@
 //! Recordings.
 
-ghost use Rattle.std.specs.Prelude.{◌≡◌, ◌<◌, ◌≤◌, IfOk, IfErr};
+ghost use Rattle.std.specs.Prelude.{◌≡◌, ◌+◌, ◌-◌, ◌^◌, ◌<◌, ◌≤◌, ℕ, List, ◌++◌, IfOk, IfErr, OnOk, OnErr};
+ghost use Rattle.std.specs.List.{flat_map};
+ghost use Rattle.log_pieces.specs.Line.{line_of};
 ghost use Rattle.thread_plan.specs.Plans.{IsPlanOf};
 ghost use Rattle.wasm_types.specs.declared.key.Profile.TheVariants.{Two};
 ghost use Rattle.run_pieces.specs.Cut.{IsPiecesFault, pieces_of};
@@ -8,7 +10,8 @@ ghost use Rattle.wasm_record.specs.Recordings.{ArePiecesOfRun, IsKeyOf, RecordsR
 
 use log_pieces::Piece;
 use recorder::{Recorded, record};
-use run_pieces::{PiecesFault, pieces};
+use replica::{Failed, Sink};
+use run_pieces::{LineRoom, PiecesFault, pieces, write_lines};
 use schedules::Schedule;
 use std::alloc::Global;
 use std::marker::Model;
@@ -60,6 +63,26 @@ impl Recording {
         ensures refused { IfErr result (IsPiecesFault size) }
     {
         pieces(alloc, &self.key, &self.recorded, size)
+    }
+
+    /// Writes the lines of the pieces of `size` entries each, in the order of `pieces`, as they are made. No memory is
+    /// wanted but the room.
+    pub fn write_lines<W: Sink>(
+        &self,
+        room: &mut LineRoom,
+        sink: &mut W,
+        size: u32,
+    ) -> Result<(), Failed>
+        requires sink { W.failed sink.old < 2 ^ 64 - 1 }
+        requires some { 0 < size }
+        requires few { size ≤ 4096 }
+        ensures taken { OnOk result (W.takes sink.old (flat_map line_of (pieces_of self.now.key self.now.recorded.threads size)) sink.new) }
+        ensures none_failed { OnOk result (W.failed sink.new ≡ W.failed sink.old) }
+        // After a failure a beginning of the lines was taken.
+        ensures begun { OnErr result ((part rest : List ℕ) × (flat_map line_of (pieces_of self.now.key self.now.recorded.threads size) ≡ part ++ rest) × W.takes sink.old part sink.new) }
+        ensures one_failed { OnErr result (W.failed sink.new ≡ W.failed sink.old + 1) }
+    {
+        write_lines(room, sink, &self.key, &self.recorded, size)
     }
 }
 

@@ -8,7 +8,7 @@ returns-clause-recorded g c = IfOk-weaker c.recorded_by.result _ _ (λ text h. r
   m = c.in-Ok.program.valid;
   plan = c.in-Ok.program.plan;
   has_program = c.in-Ok.ensures.found;
-  is_recorded = recorded_earlier c.in-Ok.ensures.still_holds c.in-Ok.program.valid c.in-Ok.program.plan c.args.request.now c.args.request.now.order text.items h;
+  is_recorded = recorded_earlier c.in-Ok.ensures.still_holds c.in-Ok.program.valid c.in-Ok.program.plan c.args.request.now c.args.request.now.order text h;
 }) c.recorded_by.ensures.recorded
 
 pub returns-clause-refused : goal.returns-clause-refused

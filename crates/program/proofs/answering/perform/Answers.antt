@@ -29,7 +29,7 @@ returns-in-Ok-check-clause-stopped g c =
 
 pub returns-in-Ok-record-clause-stopped : goal.returns-in-Ok-record-clause-stopped
 returns-in-Ok-record-clause-stopped g c =
-    shown_stops _ _ _ _ _ _ _ _ c.args.request.now _ c.deref-in-Ok-record.result.now c.in-Ok-record.text.items c.show-in-Ok-record.result c.in-Record.is c.deref-in-Ok-record.ensures.value c.in-Ok-record.ensures.recorded c.show-in-Ok-record.ensures.error c.show-in-Ok-record.ensures.one_failed c.show-in-Ok-record.ensures.begun
+    shown_stops _ _ _ _ _ _ _ _ c.args.request.now _ c.in-Ok-record.answer c.in-Ok-record.answer c.show_recorded.result c.in-Record.is refl c.in-Ok-record.ensures.recorded c.show_recorded.ensures.error c.show_recorded.ensures.one_failed c.show_recorded.ensures.begun
 
 pub returns-in-Ok-replay-clause-stopped : goal.returns-in-Ok-replay-clause-stopped
 returns-in-Ok-replay-clause-stopped g c =

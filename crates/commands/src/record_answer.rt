@@ -1,0 +1,122 @@
+//! What a recording answers, to be written.
+
+ghost use Rattle.std.specs.Prelude.{◌≡◌, ◌+◌, ◌-◌, ◌^◌, ◌<◌, ◌≤◌, ℕ, List, ◌++◌, IfOk, OnOk, OnErr, false};
+ghost use Rattle.commands.specs.Records.{recorded_text};
+
+use replica::{Failed, Sink, write_all};
+use run_pieces::LineRoom;
+use std::alloc::Global;
+use std::marker::Model;
+use wasm_record::Recording;
+use wasm_types::NoMemory;
+
+/// A recording whose lines are made as they are written, and the room for it. Contracts see the lines.
+#[derive(Drop)]
+pub struct RecordedLines {
+    recording: Recording,
+    size: u32,
+    room: LineRoom,
+}
+
+impl Model for RecordedLines {
+    ghost use Rattle.std.specs.Prelude.{ℕ, List, ◌<◌, ◌≤◌, false};
+    ghost use Rattle.commands.specs.Records.{recorded_text};
+
+    ghost Value = { List ℕ };
+
+    ghost view = { λ l. recorded_text false l.size l.recording };
+
+    ghost invariant = { λ l. (0 < l.size) × (l.size ≤ 4096) };
+}
+
+impl RecordedLines {
+    /// The lines of a recording's pieces of so many entries, and the room for them.
+    fn new(alloc: Global, recording: Recording, size: u32) -> Result<RecordedLines, NoMemory>
+        requires some { 0 < size }
+        requires few { size ≤ 4096 }
+        ensures { IfOk result (λ lines. lines ≡ recorded_text false size recording) }
+    {
+        let room = LineRoom::new(alloc)?;
+        Ok(RecordedLines {
+            recording,
+            size,
+            room,
+        })
+    }
+
+    /// Writes the lines, or up to the first call that fails.
+    fn write<W: Sink>(&mut self, output: &mut W) -> Result<(), Failed>
+        requires { W.failed output.old < 2 ^ 64 - 1 }
+        ensures taken { OnOk result (W.takes output.old self.old output.new) }
+        ensures none_failed { OnOk result (W.failed output.new ≡ W.failed output.old) }
+        ensures begun { OnErr result ((part rest : List ℕ) × (self.old ≡ part ++ rest) × W.takes output.old part output.new) }
+        ensures one_failed { OnErr result (W.failed output.new ≡ W.failed output.old + 1) }
+    {
+        self.recording
+            .write_lines(&mut self.room, output, self.size)
+    }
+}
+
+/// A text that is made, or lines that are made as they are written.
+#[derive(Drop)]
+pub enum AnswerForm {
+    Text(Vec<u8>),
+    Lines(RecordedLines),
+}
+
+/// What a recording answers: the report of the run's end, or the lines of its pieces. Contracts see the text.
+#[derive(Drop)]
+pub struct RecordAnswer {
+    form: AnswerForm,
+}
+
+impl Model for RecordAnswer {
+    ghost use Rattle.std.specs.Prelude.{ℕ, List};
+    ghost use Rattle.commands.specs.Answered.{form_text};
+
+    ghost Value = { List ℕ };
+
+    ghost view = { λ a. form_text a.form };
+}
+
+impl RecordAnswer {
+    /// A text that is made.
+    pub(crate) fn of_text(text: Vec<u8>) -> RecordAnswer
+        ensures { result ≡ text.items }
+    {
+        RecordAnswer {
+            form: AnswerForm::Text(text),
+        }
+    }
+
+    /// The lines of a recording's pieces of so many entries. Room for them is taken.
+    pub(crate) fn of_lines(
+        alloc: Global,
+        recording: Recording,
+        size: u32,
+    ) -> Result<RecordAnswer, NoMemory>
+        requires some { 0 < size }
+        requires few { size ≤ 4096 }
+        ensures { IfOk result (λ answer. answer ≡ recorded_text false size recording) }
+    {
+        let lines = RecordedLines::new(alloc, recording, size)?;
+        Ok(RecordAnswer {
+            form: AnswerForm::Lines(lines),
+        })
+    }
+
+    /// Writes the text, or up to the first call that fails. No memory is wanted for it.
+    pub fn write<W: Sink>(self, output: &mut W) -> Result<(), Failed>
+        requires { W.failed output.old < 2 ^ 64 - 1 }
+        ensures taken { OnOk result (W.takes output.old self output.new) }
+        ensures none_failed { OnOk result (W.failed output.new ≡ W.failed output.old) }
+        // After a failure a beginning of the text was taken.
+        ensures begun { OnErr result ((part rest : List ℕ) × (self ≡ part ++ rest) × W.takes output.old part output.new) }
+        ensures one_failed { OnErr result (W.failed output.new ≡ W.failed output.old + 1) }
+    {
+        match self.form {
+            AnswerForm::Text(text) => write_all(output, &text),
+            AnswerForm::Lines(mut lines) => lines.write(output),
+        }
+    }
+}
