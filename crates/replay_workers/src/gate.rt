@@ -18,8 +18,9 @@ use std::sync::Wait;
 use striped_objects::Striped;
 use wasm_types::NoMemory;
 
-/// Rests before the gate of an event until it is open, and enters the event. Answers whether it did: it stops once no seat can go
-/// on. The number of calls is read before each try, so that no call that opens the gate is missed.
+/// Rests before the gate of an event, which was found shut, until it can be open, and enters the event. Answers whether it did: it
+/// stops where the gate can not open any more, and once no seat can go on. The number of calls is read before each try, so that no
+/// call that opens the gate is missed.
 fn wait_to_enter<M: Machine<S>, S: Striped, J: Opening<S, S::Value, S::Fixed>, R: Wait, H: Hold>(
     rt: &R,
     alloc: Global,
@@ -38,18 +39,17 @@ fn wait_to_enter<M: Machine<S>, S: Striped, J: Opening<S, S::Value, S::Fixed>, R
     ensures entered { went_on result ≡ true → IsEnteredAt M.code op item.now (driven M.state thread.old seat.old) (driven M.state thread.new seat.new) }
     ensures kept { went_on result ≡ false → driven M.state thread.new seat.new ≡ driven M.state thread.old seat.old }
 {
-    let mut seen = shared.length(rt);
+    let mut seen = 0;
     for _ in rt.forever() {
+        if !shared.rest_before(rt, seat, item, seen) {
+            return Ok(false);
+        }
+        seen = shared.length(rt);
         match enter_at(rt, alloc, shared, thread, seat, op, item, hold) {
             Ok(true) => return Ok(true),
             Ok(false) => {}
             Err(fault) => return Err(fault),
         }
-        let entered = shared.rest(rt, seen);
-        if entered == seen {
-            return Ok(false);
-        }
-        seen = entered;
     }
     unreachable!()
 }

@@ -1,6 +1,6 @@
 //! What stands under the journal's lock.
 
-ghost use Rattle.std.specs.Prelude.{◌≡◌, ◌&&◌, nat_le, not, length};
+ghost use Rattle.std.specs.Prelude.{◌≡◌, ◌&&◌, nat_lt, not, length};
 
 use crate::resting::Resting;
 use shared_journal::Held;
@@ -22,10 +22,10 @@ impl<S: Striped, J: Opening<S, S::Value, S::Fixed>> Journal<S, J> {
         self.held.length() as u64
     }
 
-    /// Whether a seat that has seen so many calls goes on resting: no more were entered, and some seat can go on.
-    pub(crate) fn is_still(&self, seen: u64) -> bool
-        ensures { result ≡ (nat_le (length self.now.held) seen && not self.now.resting.stopped) }
+    /// Whether a seat that rests until so many calls goes on resting: fewer were entered, and some seat can go on.
+    pub(crate) fn is_still(&self, until: u64) -> bool
+        ensures { result ≡ (nat_lt (length self.now.held) until && not self.now.resting.stopped) }
     {
-        self.length() <= seen && !self.resting.stopped
+        self.length() < until && !self.resting.stopped
     }
 }

@@ -4,6 +4,7 @@
 mod close;
 mod hold;
 mod journal;
+mod missing;
 mod opened;
 mod parts;
 mod resting;

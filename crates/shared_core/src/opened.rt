@@ -187,7 +187,7 @@ impl<S: Striped + Drop, J: Opening<S, S::Value, S::Fixed>> Shared<S, J> {
             book,
             rest,
         };
-        let resting = Resting::new(threads);
+        let resting = Resting::new(alloc, threads)?;
         let shared = Shared {
             parts,
             journal: Mutex::new(Journal { held, resting }),

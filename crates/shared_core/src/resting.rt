@@ -1,71 +1,130 @@
 //! Which seats can go on.
 
-ghost use Rattle.std.specs.Prelude.{◌≡◌, nat_lt};
-ghost use Rattle.shared_core.specs.Resting.{no_rest, after_entered, after_rest, after_leave, stopped_if};
+ghost use Rattle.std.specs.Prelude.{◌≡◌, ◌||◌, IfOk, false, replicate, slice_set};
+ghost use Rattle.std.specs.List.{list_all, list_any};
+ghost use Rattle.shared_core.specs.declared.resting.Standing.TheVariants.{Goes, RestsUntil, Left};
+ghost use Rattle.shared_core.specs.Resting.{is_awaited, is_still};
 
-/// How many seats there are, how many of them rest since the last call was entered, how many have left, and whether at some
-/// time each seat rested or had left.
+use std::alloc::Global;
+use wasm_types::NoMemory;
+
+/// What a seat does.
+#[derive(Clone, Copy, Debug, PartialEq, Eq)]
+pub(crate) enum Standing {
+    /// It can enter a call.
+    Goes,
+    /// It enters none before so many calls were entered.
+    RestsUntil(u64),
+    /// It enters none any more.
+    Left,
+}
+
+impl Standing {
+    /// Whether the seat rests until just so many calls were entered.
+    fn is_awaited(self, length: u64) -> bool
+        ensures { result ≡ is_awaited length self }
+    {
+        match self {
+            Standing::Goes => false,
+            Standing::RestsUntil(until) => until == length,
+            Standing::Left => false,
+        }
+    }
+
+    /// Whether the seat enters no call while so many were entered: it rests until there are more, or has left.
+    fn is_still(self, length: u64) -> bool
+        ensures { result ≡ is_still length self }
+    {
+        match self {
+            Standing::Goes => false,
+            Standing::RestsUntil(until) => length < until,
+            Standing::Left => true,
+        }
+    }
+}
+
+/// What each seat does, by its number, and whether at some time no seat could go on.
 #[derive(Debug, Drop)]
 pub(crate) struct Resting {
-    pub(crate) seats: u8,
-    pub(crate) resting: u8,
-    pub(crate) left: u8,
+    pub(crate) seats: Vec<Standing>,
     pub(crate) stopped: bool,
 }
 
 impl Resting {
-    /// Nobody rests, and nobody has left.
-    pub(crate) fn new(seats: u8) -> Resting
-        ensures { result ≡ no_rest seats }
+    /// Of so many seats each can go on.
+    pub(crate) fn new(alloc: Global, seats: u8) -> Result<Resting, NoMemory>
+        ensures seats { IfOk result (λ r. r.seats.items ≡ replicate seats Goes) }
+        ensures stopped { IfOk result (λ r. r.stopped ≡ false) }
     {
-        Resting {
+        let seats = vec![in alloc; Standing::Goes; seats as usize]?;
+        Ok(Resting {
             seats,
-            resting: 0,
-            left: 0,
             stopped: false,
-        }
+        })
     }
 
-    /// A call was entered, so the seats that rest go on. Answers whether there are any to be woken.
-    pub(crate) fn entered(&mut self) -> bool
-        ensures wakes { result ≡ nat_lt 0 self.old.resting }
-        ensures resting { self.new ≡ after_entered self.old }
+    /// Whether a seat rests until just so many calls were entered, as now they are, so that it is to be woken. Each call is
+    /// told, so a seat is woken once.
+    pub(crate) fn entered(&self, length: u64) -> bool
+        ensures { result ≡ list_any (λ s. is_awaited length s) self.now.seats.items }
     {
-        let wakes = self.resting > 0;
-        self.resting = 0;
-        wakes
+        self.seats.iter().any(|seat| seat.is_awaited(length))
     }
 
-    /// One seat more rests. Answers whether no seat can go on.
-    pub(crate) fn rest(&mut self) -> bool
-        ensures stopped { result ≡ self.new.stopped }
-        ensures resting { self.new ≡ after_rest self.old }
+    /// A seat rests until `until` calls were entered; `length` are. Answers whether no seat can go on.
+    pub(crate) fn rest(&mut self, seat: u32, until: u64, length: u64) -> bool
+        ensures seats { self.new.seats.items ≡ slice_set self.old.seats.items seat (RestsUntil until) }
+        ensures stopped { self.new.stopped ≡ (self.old.stopped || list_all (λ s. is_still length s) self.new.seats.items) }
+        ensures answer { result ≡ self.new.stopped }
     {
-        if self.resting < self.seats {
-            self.resting += 1;
-        }
-        self.stop()
+        self.put(seat, Standing::RestsUntil(until));
+        self.stop(length)
     }
 
-    /// One seat more has left. Answers whether no seat can go on.
-    pub(crate) fn leave(&mut self) -> bool
-        ensures stopped { result ≡ self.new.stopped }
-        ensures resting { self.new ≡ after_leave self.old }
+    /// A seat that rested can go on.
+    pub(crate) fn goes_on(&mut self, seat: u32)
+        ensures seats { self.new.seats.items ≡ slice_set self.old.seats.items seat Goes }
+        ensures stopped { self.new.stopped ≡ self.old.stopped }
     {
-        if self.left < self.seats {
-            self.left += 1;
+        self.put(seat, Standing::Goes);
+    }
+
+    /// A seat has left; `length` calls are entered. Answers whether no seat can go on.
+    pub(crate) fn leave(&mut self, seat: u32, length: u64) -> bool
+        ensures seats { self.new.seats.items ≡ slice_set self.old.seats.items seat Left }
+        ensures stopped { self.new.stopped ≡ (self.old.stopped || list_all (λ s. is_still length s) self.new.seats.items) }
+        ensures answer { result ≡ self.new.stopped }
+    {
+        self.put(seat, Standing::Left);
+        self.stop(length)
+    }
+
+    /// Notes what a seat does.
+    fn put(&mut self, seat: u32, standing: Standing)
+        ensures seats { self.new.seats.items ≡ slice_set self.old.seats.items seat standing }
+        ensures stopped { self.new.stopped ≡ self.old.stopped }
+    {
+        if let Some(place) = self.seats.get_mut(seat as usize) {
+            *place = standing;
         }
-        self.stop()
     }
 
     /// Notes for good where no seat can go on, and answers it.
-    fn stop(&mut self) -> bool
-        ensures stopped { result ≡ self.new.stopped }
-        ensures resting { self.new ≡ stopped_if self.old }
+    fn stop(&mut self, length: u64) -> bool
+        ensures seats { self.new.seats.items ≡ self.old.seats.items }
+        ensures stopped { self.new.stopped ≡ (self.old.stopped || list_all (λ s. is_still length s) self.old.seats.items) }
+        ensures answer { result ≡ self.new.stopped }
     {
-        if u16::from(self.resting) + u16::from(self.left) >= u16::from(self.seats) {
-            self.stopped = true;
+        if !self.stopped {
+            self.stopped = self.none_goes(length);
         }
         self.stopped
+    }
+
+    /// Whether no seat enters a call while so many were entered.
+    fn none_goes(&self, length: u64) -> bool
+        ensures { result ≡ list_all (λ s. is_still length s) self.now.seats.items }
+    {
+        self.seats.iter().all(|seat| seat.is_still(length))
     }
 }

@@ -7,14 +7,19 @@ ghost use Rattle.shared_journal.specs.Tries.{IfDone, IfShut, IsDone};
 
 use crate::hold::Hold;
 use crate::journal::Journal;
+use crate::missing::opens_at;
 use crate::parts::Parts;
 use rw_objects::Entry;
 use shared_journal::{Seat, Tried};
 use shared_parts::Opening;
 use std::alloc::Global;
-use std::sync::{Condvar, Mutex, Wait};
+use std::hint::spin_loop;
+use std::sync::{Condvar, Mutex, MutexGuard, Wait};
 use striped_objects::Striped;
 use wasm_types::NoMemory;
+
+/// How often the journal's lock is asked for before a thread sleeps until it is free.
+const MOST_TRIES: u32 = 1_000;
 
 /// A space shared by threads, each of which has a seat: its parts, the journal of all calls, and what wakes those that rest.
 #[derive(Drop)]
@@ -25,8 +30,20 @@ pub struct Shared<S: Striped, J: Opening<S, S::Value, S::Fixed>> {
 }
 
 impl<S: Striped, J: Opening<S, S::Value, S::Fixed>> Shared<S, J> {
+    /// The journal's lock. It is held for less time than it takes to sleep and be woken, so it is asked for often before the
+    /// thread sleeps.
+    fn lock_journal<R: Wait>(&self, rt: &R) -> MutexGuard<'_, Journal<S, J>> {
+        for _ in 0..MOST_TRIES {
+            if let Some(journal) = self.journal.try_lock() {
+                return journal;
+            }
+            spin_loop();
+        }
+        self.journal.lock(rt)
+    }
+
     /// Tries a call once. The locks of the touched parts are asked for in rising order, then the journal's, which is given
-    /// back first. Seats that rest are woken where there are any.
+    /// back first. Seats that rest are woken where one of them rests until just so many calls.
     fn try_call<R: Wait, H: Hold>(
         &self,
         rt: &R,
@@ -47,14 +64,14 @@ impl<S: Striped, J: Opening<S, S::Value, S::Fixed>> Shared<S, J> {
         hold.before(thread, place);
         let touches = S::touches(alloc, &op);
         let kept = self.parts.keep(rt, &touches);
-        let mut journal = self.journal.lock(rt);
+        let mut journal = self.lock_journal(rt);
         let mut lents = kept.lend(rt, &touches);
         let answer = journal
             .held
             .enter(alloc, seat, op, expected, &touches, &mut lents);
         drop(lents);
         let is_entered = matches!(&answer, Ok(Tried::Done(..)));
-        let wakes = is_entered && journal.resting.entered();
+        let wakes = is_entered && journal.resting.entered(journal.length());
         drop(journal);
         if is_entered {
             hold.inside(thread, place);
@@ -110,32 +127,53 @@ impl<S: Striped, J: Opening<S, S::Value, S::Fixed>> Shared<S, J> {
         self.journal.lock(rt).length()
     }
 
-    /// Waits until more than `seen` calls were entered, or no seat can go on. Answers how many were entered: `seen` where no
-    /// seat can go on, since each rests with that number or has left.
-    pub fn rest<R: Wait>(&self, rt: &R, seen: u64) -> u64 {
+    /// Waits until so many calls were entered, or no seat can go on. Answers whether so many were entered.
+    pub fn rest<R: Wait>(&self, rt: &R, seat: &Seat<S, J>, until: u64) -> bool {
+        let number = seat.thread();
         let mut journal = self.journal.lock(rt);
-        if !journal.is_still(seen) {
-            return journal.length();
+        let length = journal.length();
+        if length >= until {
+            return true;
         }
-        if journal.resting.rest() {
-            let length = journal.length();
+        if journal.resting.rest(number, until, length) {
             drop(journal);
             self.changed.notify_all();
-            return length;
+            return false;
         }
-        let journal = self
+        let mut journal = self
             .changed
-            .wait_while(rt, journal, |journal| journal.is_still(seen));
-        journal.length()
+            .wait_while(rt, journal, |journal| journal.is_still(until));
+        journal.resting.goes_on(number);
+        journal.length() >= until
+    }
+
+    /// Waits before the gate of a call whose entry is to be this one, and which could not be entered when `seen` calls were.
+    /// Answers whether it is to be tried again: it is not where an object has passed what the entry met, where nothing is
+    /// missing and no call was entered since, or where no seat can go on.
+    pub fn rest_before<R: Wait>(
+        &self,
+        rt: &R,
+        seat: &Seat<S, J>,
+        expected: &Entry,
+        seen: u64,
+    ) -> bool {
+        let journal = self.journal.lock(rt);
+        let opens_at = opens_at(&journal.held.versions, journal.length(), expected, seen);
+        drop(journal);
+        match opens_at {
+            Some(until) => self.rest(rt, seat, until),
+            None => false,
+        }
     }
 
     /// The seat enters no more calls, so nobody waits for it. To be called once for a seat.
     pub fn leave<R: Wait>(&self, rt: &R, seat: &mut Seat<S, J>)
         ensures { seat.new ≡ seat.old }
     {
-        let _thread = seat.thread();
+        let number = seat.thread();
         let mut journal = self.journal.lock(rt);
-        let is_over = journal.resting.leave();
+        let length = journal.length();
+        let is_over = journal.resting.leave(number, length);
         drop(journal);
         if is_over {
             self.changed.notify_all();

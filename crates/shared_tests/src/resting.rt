@@ -1,9 +1,9 @@
-//! Threads that rest until another makes a call, or none can.
+//! Threads that rest until another makes calls, or none can.
 
 ghost use Rattle.std.specs.Prelude.{◌≡◌};
 ghost use Rattle.shared_tests.specs.Limits.{test_limits};
 
-use crate::calls::{action, enter};
+use crate::calls::{action, enter, load};
 use crate::meeting::Meeting;
 use crate::memory::run;
 use block_objects::{MemoryLimits, ObjectValue};
@@ -31,10 +31,11 @@ struct Resters {
 fn rest<J: Opening<StripedMemory, ObjectValue, MemoryLimits>, R: Wait>(
     rt: &R,
     shared: &Shared<StripedMemory, J>,
+    seat: &Seat<StripedMemory, J>,
 ) -> u64 {
     for _ in rt.forever() {
         let seen = shared.length(rt);
-        if shared.rest(rt, seen) == seen {
+        if !shared.rest(rt, seat, seen.saturating_add(1)) {
             return seen;
         }
     }
@@ -71,7 +72,7 @@ impl Work<StripedMemory> for Resters {
         if thread == 0 && !self.first_rests {
             return None;
         }
-        Some(rest(rt, shared))
+        Some(rest(rt, shared, seat))
     }
 }
 
@@ -106,5 +107,80 @@ fn rests_end_when_all_rest(rt: HostRuntime) -> Result<(), Fail> {
         return Ok(());
     }
     assert_eq!(rt; seen.as_slice(), [Some(200), Some(200)].as_slice());
+    Ok(())
+}
+
+/// Where the first thread rests until two calls were entered, and then until two more; the other makes two.
+#[derive(Drop)]
+struct Pair {
+    begun: Meeting,
+}
+
+/// How a rest for two calls ended, with how many calls that were, and how the next one did.
+#[derive(Clone, Copy, Debug, PartialEq, Eq, Drop)]
+struct Rests {
+    are_two: bool,
+    seen: u64,
+    are_four: bool,
+}
+
+impl Work<StripedMemory> for Pair {
+    /// How the first thread rested.
+    type State = Option<Rests>;
+
+    ghost begins = { λ fixed _. fixed ≡ test_limits };
+
+    ghost leads = { λ _ _ _ _. Unit {0} };
+
+    fn work<J: Opening<StripedMemory, ObjectValue, MemoryLimits>, R: Wait>(
+        &self,
+        rt: &R,
+        alloc: Global,
+        shared: &Shared<StripedMemory, J>,
+        seat: &mut Seat<StripedMemory, J>,
+        _state: Option<Rests>,
+    ) -> Option<Rests> {
+        if !self.begun.meet() {
+            return None;
+        }
+        if seat.thread() == 0 {
+            let are_two = shared.rest(rt, seat, 2);
+            let seen = shared.length(rt);
+            let are_four = shared.rest(rt, seat, 4);
+            return Some(Rests {
+                are_two,
+                seen,
+                are_four,
+            });
+        }
+        for _ in 0..2 {
+            let Ok(Tried::Done(..)) = enter(rt, alloc, shared, seat, load(0), &Unkept) else {
+                return None;
+            };
+            thread::yield_now();
+        }
+        None
+    }
+}
+
+/// A thread that rests until two calls were entered has seen both when it goes on. Its rest for two more ends too, without them,
+/// once the other has left.
+#[test]
+fn a_rest_goes_on_with_the_last_call_awaited(rt: HostRuntime) -> Result<(), Fail> {
+    let alloc = rt.alloc();
+    let pair = Pair {
+        begun: Meeting::new(),
+    };
+    let (_, rests) = run(&rt, alloc, vec![in alloc; None; 2]?, &pair)?;
+    if !pair.begun.is_met() {
+        eprintln!(rt; "no two threads ran at once, so resting was not tested")?;
+        return Ok(());
+    }
+    let expected = Rests {
+        are_two: true,
+        seen: 2,
+        are_four: false,
+    };
+    assert_eq!(rt; rests.as_slice(), [Some(expected), None].as_slice());
     Ok(())
 }
