@@ -225,9 +225,6 @@ Tables limited = AllByRecursion (λ (l : Limits). Keeps limited 4096 0 l.minimum
 abbrev Imports : Bool → List Import → Type 0
 Imports limited = AllByRecursion (λ (i : Import). Keeps limited 256 0 i.memory.limits.minimum)
 
-abbrev others6 : Bool → List FuncType → List ℕ → List MemoryType → List ℕ → Result AfterMemories Fault
-others6 limited types functions _ = after_memories_at limited types functions
-
 abbrev Part5 : List ℕ → List MemoryType × AfterMemories → Language
 Part5 functions p = customs ⨾ (section 5 [] (vector memory_type) p.0 ⨾ Part6 functions p.1)
 

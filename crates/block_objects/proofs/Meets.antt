@@ -1,5 +1,5 @@
 -- What operations do to a memory's bytes is their effect on its objects.
-use Rattle.std.proofs.Common.{◌≡◌, ℕ, ◌+◌, ◌-◌, ◌*◌, ◌<◌, ◌≤◌, inl, inr, Bool, true, false, cond, ◌==◌, List, Option, Some, None, refl, sym, ap, ◌∙◌, arith}
+use Rattle.std.proofs.Common.{◌≡◌, ℕ, ◌+◌, ◌-◌, ◌*◌, ◌<◌, ◌≤◌, Bool, true, false, cond, ◌==◌, List, Option, None, refl, sym, ap, arith}
 use Rattle.std.specs.Int.{Width, byte_len}
 use Rattle.std.proofs.lemmas.Bool.Decides.{Decides-eqb}
 use Rattle.rw_objects.specs.declared.touch.Mode.{Mode}
@@ -15,14 +15,13 @@ use Rattle.wasm_types.specs.declared.instruction.Narrow.{Narrow}
 use Rattle.wasm_types.specs.declared.instruction.Narrow.TheVariants.{I32Of8, I32Of16, I64Of8, I64Of16, I64Of32}
 use Rattle.wasm_types.specs.declared.value.ValType.{ValType}
 use Rattle.wasm_types.specs.declared.value.ValType.TheVariants as types
-use Rattle.block_objects.specs.Objects.{ObjectAt, Length, QueueAt, block_of, block_object, blocks_in, objects_in, object_value}
+use Rattle.block_objects.specs.Objects.{ObjectAt, QueueAt, block_of, blocks_in, objects_in, object_value}
 use Rattle.wasm_types.specs.Accesses.{access_width, load_width, narrow_width, type_width}
 use Rattle.block_objects.specs.Access.{is_within}
 use Rattle.block_objects.specs.Touches.{access_touches}
 use Rattle.block_objects.specs.Effects.{access_effect}
 use Rattle.block_objects.specs.Memory.{MemoryAt, IsSound, access_answer, after_access}
-use Rattle.block_objects.proofs.Values.{value_block, value_queue, kinds_of, differ_no}
-use Rattle.block_objects.proofs.Modes.{ranged, load_writes_none, read_or_none}
+use Rattle.block_objects.proofs.Modes.{ranged, load_writes_none}
 use Rattle.block_objects.proofs.Accesses.{answer_found, object_after}
 
 type_small : (t : ValType) → byte_len (type_width t) ≤ 8
@@ -80,20 +79,3 @@ module _ (m : MemoryAt) (queues : ℕ → QueueAt) (sound : IsSound m) (address 
   stays reply o =
       ap (λ b. cond b ((access_effect here address w reply (λ n. None) (reached Read)).written o) (values o))
       (sym (load_writes_none (is_within m.limits.initial address (byte_len w)) (block_of m.limits.block address == block_of m.limits.block (address + byte_len w - 1)) _ _ o))
-
--- the length alone is read, or written
-pub length_read : (x y : ObjectAt) (o : ℕ) → y ≡ cond (is_written (cond (0 == o) (Some Read) None)) x y
-length_read x y o = ap (λ b. cond b x y) (sym (read_or_none (0 == o)))
-
-pub length_written : (p pages new : ℕ) (bytes : List ℕ) (queues : ℕ → QueueAt) (o : ℕ)
-    → object_value p new bytes queues o ≡ cond (is_written (cond (0 == o) (Some Write) None)) (Length new) (object_value p pages bytes queues o)
-length_written p pages new bytes queues o = elim (kinds_of o) [ inl is ↦ rw is refl | inr (inl (b, is)) ↦ block b is | inr (inr (b, is)) ↦ queue b is ] where
-  block : (b : ℕ) → o ≡ block_object b → object_value p new bytes queues o ≡ cond (is_written (cond (0 == o) (Some Write) None)) (Length new) (object_value p pages bytes queues o)
-  block b is =
-      let no_o : (0 == o) ≡ false = differ_no 0 o (λ e. absurd (omega (arith, is, e))) in
-      rw (no_o, is) (value_block p new bytes queues b ∙ sym (value_block p pages bytes queues b))
-
-  queue : (b : ℕ) → o ≡ 2 + 2 * b → object_value p new bytes queues o ≡ cond (is_written (cond (0 == o) (Some Write) None)) (Length new) (object_value p pages bytes queues o)
-  queue b is =
-      let no_o : (0 == o) ≡ false = differ_no 0 o (λ e. absurd (omega (arith, is, e))) in
-      rw (no_o, is) (value_queue p new bytes queues b ∙ sym (value_queue p pages bytes queues b))

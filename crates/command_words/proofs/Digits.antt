@@ -22,9 +22,6 @@ some_digit text h = ltb-true 0 (length text) (first_so _ _ h)
 pub digits_are_utf8 : (text : List ℕ) → has_digits_alone text ≡ true → IsUtf8 text
 digits_are_utf8 text h = IsUtf8-from_ascii text (IsAscii-from_digits text (model.to text (all_digits text h)))
 
-pub none_else : (most : ℕ) (text : List ℕ) → has_digits_alone text ≡ false → number_up_to most text ≡ None
-none_else most text h = rw h refl
-
 number_is : (most : ℕ) (text : List ℕ) → has_digits_alone text ≡ true → number_up_to most text ≡ (if nat_le (digits_value 10 text) most then Some (digits_value 10 text) else None)
 number_is most text h = rw h refl
 

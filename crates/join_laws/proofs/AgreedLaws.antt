@@ -41,10 +41,3 @@ agreed_joined eq d C D (Some (Known x)) (Some (Known y)) h g = elim (one_or_two 
 ]
 agreed_joined eq d C D (Some (Known x)) (Some Clash) h g = (g.0, g.1, inr g.2, inr g.3, g.4)
 agreed_joined eq d C D (Some Clash) (Some b) h g = (h.0, h.1, inl h.2, inl h.3, h.4)
-
--- no claim, and one claim alone
-pub agreed_nothing : {T : Type 0} → IsAgreed (λ (x : T). ⊥) None
-agreed_nothing = λ x h. h
-
-pub agreed_single : {T : Type 0} (x : T) → IsAgreed (λ y. y ≡ x) (Some (Known x))
-agreed_single x = (refl, λ y h. h)

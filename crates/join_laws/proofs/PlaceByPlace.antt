@@ -1,5 +1,5 @@
 -- A page read from one place on.
-use Rattle.std.proofs.Common.{◌≡◌, ℕ, zero, suc, ◌+◌, ◌-◌, ◌%◌, ◌<◌, ◌≤◌, List, [], ◌∷◌, Some, None, refl, sym, ap, subst, ◌∙◌, arith}
+use Rattle.std.proofs.Common.{◌≡◌, ℕ, zero, suc, ◌+◌, ◌-◌, ◌<◌, ◌≤◌, List, [], ◌∷◌, Some, None, refl, sym, ap, subst, ◌∙◌, arith}
 use Rattle.std.specs.Ordering.{nat_cmp}
 use Rattle.join_laws.specs.declared.flat.Flat.{Flat}
 use Rattle.join_laws.specs.declared.page.Page.{Page}
@@ -14,10 +14,6 @@ use Rattle.join_laws.proofs.Locations.{claims_at}
 pub read_next : {T : Type 0} (read : Reads T) (left : ℕ) (rest : List ℕ) (pair : ℕ × Flat T) (behind : List ℕ) → 0 < left → read_pair read rest ≡ Some (pair, behind) → read_pairs read left rest ≡ pair ∷ read_pairs read (left - 1) behind
 read_next read zero rest pair behind some e = absurd (omega (arith, some))
 read_next read (suc left) rest pair behind some e = let one : suc left - 1 ≡ left = omega arith in rw (e, one) refl
-
-pub read_stuck : {T : Type 0} (read : Reads T) (left : ℕ) (rest : List ℕ) → read_pair read rest ≡ None → read_pairs read left rest ≡ []
-read_stuck read zero rest e = refl
-read_stuck read (suc left) rest e = rw e refl
 
 -- of `all` those from `low` on are left, and the place is not passed
 pub record StillAhead {T : Type 0} (all now : List (ℕ × Flat T)) (first low at : ℕ) : Type 0 where
@@ -58,9 +54,6 @@ module _ {T : Type 0} {all now : List (ℕ × Flat T)} {first low at : ℕ} (s :
     pub still_ahead : pair.0 < at → StillAhead all more first (pair.0 + 1) at
     still_ahead lt = record { rising = rising_more; later = later_more; not_past = omega arith; same = same_more }
 
-pub ahead_start : {T : Type 0} (all : List (ℕ × Flat T)) (low at : ℕ) → Rising low all 128 → low ≤ at → StillAhead all all low low at
-ahead_start all low at rising le = record { rising = rising; later = omega arith; not_past = le; same = λ q l. refl }
-
 -- what a page has from its first place on
 module _ {T : Type 0} {spelled : T → List ℕ} {read : Reads T} {Fits : T → Type 0} (pages : List (ℕ × Page)) (a : ArePages spelled read Fits pages) (number : ℕ) where
   pub page_from : (page : Page) → value_at nat_cmp pages number ≡ Some page → IsAhead (claims read pages) number 0 (pairs_of read page)
@@ -74,11 +67,3 @@ module _ {T : Type 0} {spelled : T → List ℕ} {read : Reads T} {Fits : T → 
     rising = omega arith;
     ahead = λ place is le. claims_at pages a place ∙ rw (is, absent) refl;
   }
-
--- what was read on
-pub ahead_on : {T : Type 0} {claimed ps now : List (ℕ × Flat T)} {number low next : ℕ} → IsAhead claimed number low ps → low ≤ next → Rising next now 128
-    → ((q : ℕ) → next ≤ q → value_at nat_cmp now q ≡ value_at nat_cmp ps q) → IsAhead claimed number next now
-ahead_on a le rising same = record {
-  rising = rising;
-  ahead = λ place is from. a.ahead place is (omega arith) ∙ sym (same (place % 128) from);
-}

@@ -1,17 +1,14 @@
 -- Lines of a schedule, one after another.
-use Rattle.std.proofs.Common.{◌≡◌, ℕ, zero, suc, ◌+◌, ◌-◌, ◌^◌, ◌<◌, ◌≤◌, ◌⊎◌, inl, inr, Bool, true, false, List, [], ◌∷◌, ◌++◌, length, refl, sym, ap, ◌∙◌, arith, append_assoc, subst}
-use Rattle.std.specs.Prelude.{Option, Some, None, Result, Ok, Err, ℤ, pos, negsuc, nat_le, nat_lt, ◌&&◌}
-use Rattle.std.specs.Str.Parse.{signed_digits_value}
+use Rattle.std.proofs.Common.{◌≡◌, ℕ, ◌+◌, ◌-◌, ◌<◌, ◌≤◌, Bool, true, List, [], ◌∷◌, ◌++◌, length, refl, sym, ap, ◌∙◌, arith, append_assoc}
+use Rattle.std.specs.Prelude.{Option, Some, Result, Ok, Err, ◌&&◌}
 use Rattle.std.proofs.lemmas.List.{append-nil}
 use Rattle.std.proofs.Math.ListN.{length-append}
-use Rattle.std.proofs.lemmas.Bool.{cond-true, cond-false, le-leb, lt-leb, ltb-true, lt-ltb, cases_lt}
-use Rattle.std.proofs.lemmas.Option.{cond_some}
+use Rattle.std.proofs.lemmas.Bool.{cond-true, cond-false, le-leb, lt-leb}
 use Rattle.text_lines.specs.Parts.{words, lines}
-use Rattle.text_lines.specs.Integers.{bits_of}
 use Rattle.event_core.specs.declared.pick.Pick.{Pick}
 use Rattle.pick_schedule.specs.declared.fault.ScheduleFault.{ScheduleFault}
 use Rattle.pick_schedule.specs.declared.fault.ScheduleFault.TheVariants.{BadLine}
-use Rattle.pick_schedule.specs.Schedule.{in_range, picks_of, behind, line_by, picks_from, lines_in, schedule_of}
+use Rattle.pick_schedule.specs.Schedule.{picks_of, behind, line_by, picks_from, lines_in, schedule_of}
 
 -- the picks so far, the number of the next line, and the lines that are left
 pub record IsReadUpTo (text : List ℕ) (picks : List Pick) (number : ℕ) (rest : List (List ℕ)) : Type 0 where
@@ -54,11 +51,6 @@ one_more text picks more number line rest read e some room =
           ∙ ap (λ k. behind (picks ++ more) (picks_from (number + 1) k rest)) (omega (arith, n));
     }
 
-pub no_schedule_line : (text : List ℕ) (picks : List Pick) (number : ℕ) (line : List ℕ) (rest : List (List ℕ)) → IsReadUpTo text picks number (line ∷ rest)
-    → picks_of (words line) ≡ None → schedule_of text ≡ Err (BadLine number)
-no_schedule_line text picks number line rest read e =
-    read.same ∙ ap (λ (o : Option (List Pick)). behind picks (line_by number (1000000 - length picks) o (λ left. picks_from (number + 1) left rest))) e
-
 pub too_many : (text : List ℕ) (picks more : List Pick) (number : ℕ) (line : List ℕ) (rest : List (List ℕ)) → IsReadUpTo text picks number (line ∷ rest)
     → picks_of (words line) ≡ Some more → 1000000 - length picks < length more → schedule_of text ≡ Err (BadLine number)
 too_many text picks more number line rest read e many =
@@ -74,40 +66,3 @@ all_read text picks number read = read.same ∙ ap (λ (ps : List Pick). Ok ps) 
 
 both_true : (a b : Bool) → a ≡ true → b ≡ true → (a && b) ≡ true
 both_true a b e f = ap (λ x. x && b) e ∙ f
-
-left_false : (a b : Bool) → a ≡ false → (a && b) ≡ false
-left_false a b e = ap (λ x. x && b) e
-
-right_false : (a b : Bool) → b ≡ false → (a && b) ≡ false
-right_false true b e = e
-right_false false b e = refl
-
-pub bits_inside : (least most : ℕ) (z : ℤ) (bits : ℕ) → most < 2 ^ 31 → bits_of 32 z ≡ Some bits → least ≤ bits → bits ≤ most → in_range least most z ≡ Some bits
-bits_inside least most (pos n) bits small e low high =
-    let p = cond_some (nat_lt n (2 ^ 32)) n bits e in
-    let same : n ≡ bits = p.1 in
-    cond-true _ _ _ (both_true _ _ (le-leb least n (omega arith)) (le-leb n most (omega arith))) ∙ ap (λ (k : ℕ). Some k) same
-bits_inside least most (negsuc n) bits small e low high =
-    let p = cond_some (nat_lt n (2 ^ 31)) (2 ^ 32 - suc n) bits e in
-    let below : n < 2 ^ 31 = ltb-true _ _ p.0 in
-    let same : 2 ^ 32 - suc n ≡ bits = p.1 in
-    absurd (omega arith)
-
-pub bits_outside : (least most : ℕ) (z : ℤ) (bits : ℕ) → bits_of 32 z ≡ Some bits → (bits < least) ⊎ (most < bits) → in_range least most z ≡ None
-bits_outside least most (pos n) bits e (inl low) =
-    let p = cond_some (nat_lt n (2 ^ 32)) n bits e in
-    let same : n ≡ bits = p.1 in
-    cond-false _ _ _ (left_false _ _ (lt-leb least n (omega arith)))
-bits_outside least most (pos n) bits e (inr high) =
-    let p = cond_some (nat_lt n (2 ^ 32)) n bits e in
-    let same : n ≡ bits = p.1 in
-    cond-false _ _ _ (right_false _ _ (lt-leb n most (omega arith)))
-bits_outside least most (negsuc n) bits e out = refl
-
-pub no_bits : (least most : ℕ) (z : ℤ) → most < 2 ^ 31 → bits_of 32 z ≡ None → in_range least most z ≡ None
-no_bits least most (pos n) small e = cond-false _ _ _ (right_false _ _ (lt-leb n most (let big : 2 ^ 32 ≤ n = past (cases_lt n (2 ^ 32)) in omega arith)))
-  where
-    past : (n < 2 ^ 32) ⊎ (2 ^ 32 ≤ n) → 2 ^ 32 ≤ n
-    past (inl lt) = absurd (let there : bits_of 32 (pos n) ≡ Some n = cond-true _ _ _ (lt-ltb _ _ lt) in cc)
-    past (inr ge) = ge
-no_bits least most (negsuc n) small e = refl

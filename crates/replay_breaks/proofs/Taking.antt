@@ -40,22 +40,6 @@ step_taken turn.Local h = refl
 step_taken (turn.Event input) h = refl
 step_taken (turn.Refused r) h = absurd cc
 
-pub step_goes_on : (x : Turn) → makes_step x ≡ true → GoesOn x
-step_goes_on turn.Done h = absurd cc
-step_goes_on turn.Local h = tt
-step_goes_on (turn.Event input) h = tt
-step_goes_on (turn.Refused r) h = absurd cc
-
-pub done_is : (x : Turn) (d : Turned) → answer_of_turn x ≡ Some d → is_done d ≡ true → x ≡ turn.Done
-done_is turn.Done d is h = refl
-done_is turn.Local turned.Done is h = absurd cc
-done_is turn.Local turned.Local is h = absurd cc
-done_is turn.Local turned.Event is h = absurd cc
-done_is (turn.Event input) turned.Done is h = absurd cc
-done_is (turn.Event input) turned.Local is h = absurd cc
-done_is (turn.Event input) turned.Event is h = absurd cc
-done_is (turn.Refused r) d is h = absurd cc
-
 passed_by : (r : Refusal) (t place : ℕ) → is_passed_over (fault_of r t place) ≡ true → GoesOn (turn.Refused r)
 passed_by Missing t place h = tt
 passed_by Clash t place h = tt

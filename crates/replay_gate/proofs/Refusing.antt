@@ -1,5 +1,5 @@
 -- What refusals of turns tell of the log, and where turns lead.
-use Rattle.std.proofs.Common.{◌≡◌, ℕ, ◌⊎◌, true, false, List, [], ◌∷◌, Option, Some, None, slice_get, inl, inr, refl, sym, ap, ◌∙◌, subst}
+use Rattle.std.proofs.Common.{◌≡◌, ℕ, ◌⊎◌, true, List, [], ◌∷◌, Option, Some, None, slice_get, inl, inr, refl, sym, ap, ◌∙◌, subst}
 use Rattle.std.specs.Prelude.{Result, Ok, Err, OnOk, OnErr}
 use Rattle.std.proofs.Math.Logic.{∥∥₁_elim, ∥∥₁_map, ∥∥₁_prop}
 use Rattle.rw_objects.specs.Space.{Space, SpaceLaws}
@@ -25,7 +25,6 @@ use Rattle.replay_laws.proofs.Replays.{replays_are_right, complete_logs_are_run_
 use Rattle.replay_laws.proofs.Freedom.{complete_replays_are_free}
 use Rattle.replay_gate.specs.declared.answers.ReplayFault.{ReplayFault}
 use Rattle.replay_gate.specs.declared.answers.ReplayFault.TheVariants as fault
-use Rattle.replay_gate.specs.declared.answers.Turned.{Turned}
 use Rattle.replay_gate.specs.declared.answers.Turned.TheVariants as turned
 use Rattle.replay_gate.specs.Answers.{fault_of, makes_step, IsThreadsFault, TurnStops}
 use Rattle.replay_gate.specs.Leads.{Leads}
@@ -40,30 +39,11 @@ either_way (Err e) p q f g = g q
 
 -- ---- answers
 
--- a turn that is answered passes on, and makes a step unless its thread is done
-pub answered_passes : (o : Turn) (d : Turned) → answer_of_turn o ≡ Some d → PassesOn o
-answered_passes turn.Done d h = tt
-answered_passes turn.Local d h = tt
-answered_passes (turn.Event input) d h = tt
-answered_passes (turn.Refused r) d h = absurd cc
-
-pub done_rests : (o : Turn) → answer_of_turn o ≡ Some turned.Done → makes_step o ≡ false
-done_rests turn.Done h = refl
-done_rests turn.Local h = absurd cc
-done_rests (turn.Event input) h = absurd cc
-done_rests (turn.Refused r) h = absurd cc
-
 pub local_steps : (o : Turn) → answer_of_turn o ≡ Some turned.Local → makes_step o ≡ true
 local_steps turn.Done h = absurd cc
 local_steps turn.Local h = refl
 local_steps (turn.Event input) h = refl
 local_steps (turn.Refused r) h = absurd cc
-
-pub event_steps : (o : Turn) → answer_of_turn o ≡ Some turned.Event → makes_step o ≡ true
-event_steps turn.Done h = absurd cc
-event_steps turn.Local h = refl
-event_steps (turn.Event input) h = refl
-event_steps (turn.Refused r) h = absurd cc
 
 shut_of : (r : Refusal) (t place : ℕ) → fault.Shut ≡ fault_of r t place → r ≡ Shut
 shut_of Missing t place h = absurd cc

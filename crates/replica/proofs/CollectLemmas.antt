@@ -14,7 +14,7 @@ use Rattle.replica.specs.LogOf.{IsLogOf, Among}
 use Rattle.replica.specs.Lines.{HasNoEnd}
 use Rattle.replica.specs.Gathered.{IsText, AreOfRun, BeginsWith, HasNoLine, IsBadLine, IsOtherRun, IsCutText, IsGathered, Collects, Refuses, Lists, found_listing, found_ordered}
 use Rattle.replica.specs.Rest.{RestGathered, RestBad, RestOther, RestCut}
-use Rattle.replica.proofs.RestLemmas.{lines_none, begins_none, begins_first, text_first, text_last}
+use Rattle.replica.proofs.RestLemmas.{lines_none, begins_none, begins_first, text_first}
 
 any_key : RunKey
 any_key = record { digest = []; run = 0; profile = One }
@@ -37,9 +37,6 @@ first_cut held got none cut = record {
   begins = begins_none any_key got;
   cut = subst (λ l. HasNoEnd (l ++ got)) none cut;
 }
-
-pub first_last : (held got : List ℕ) (piece : PieceValue) → held ≡ [] → IsLineOf (held ++ got ++ 10 ∷ []) piece → IsText got (piece ∷ [])
-first_last held got piece none is = text_last piece.key got got [] piece (begins_none piece.key got) (subst (λ l. IsLineOf (l ++ got ++ 10 ∷ []) piece) none is)
 
 module _ {Source : Type 0} (brings : List ℕ → Source → Type 0) (step : Source → List ℕ → Source → Type 0) (more_brought : (s t : Source) (got more : List ℕ) → brings got s → step s more t → brings (got ++ more) t) where
   module _ (held got line chunk : List ℕ) (first : PieceValue) (source next : Source) (none : held ≡ []) (came : brings got source) (is_line : IsLineOf line first) (parts : held ++ got ≡ line ++ chunk) where

@@ -35,10 +35,6 @@ few_those key (piece ∷ pieces) kept h = elim h [
   | inr w ↦ let few = few_those key pieces kept w.1 in omega arith
 ]
 
-few_kept : (pieces kept : List PieceValue) → AreKept pieces kept → length kept ≤ length pieces
-few_kept [] kept h = let none = ap length h in omega arith
-few_kept (first ∷ pieces) kept h = few_those first.key (first ∷ pieces) kept h
-
 those_push : (key : RunKey) (pieces kept : List PieceValue) (piece : PieceValue) → piece.key ≡ key → AreThoseOf key pieces kept → AreThoseOf key (pieces ++ piece ∷ []) (kept ++ piece ∷ [])
 those_push key [] kept piece is h = inl (is, [], ap (λ (ps : List PieceValue). ps ++ piece ∷ []) h, refl)
 those_push key (first ∷ pieces) kept piece is h = elim h [
@@ -90,9 +86,6 @@ gathered_push kept piece old new h is same joined = record {
 
 abbrev Counts : List (Option PieceValue) → List PieceValue → Skipped → Type 0
 Counts lines kept skipped = (skipped.bad ≡ in_u64 (length lines - length (good lines))) × (skipped.foreign ≡ in_u64 (length (good lines) - length kept))
-
-pub found_none : (skipped : Skipped) → skipped.bad ≡ 0 → skipped.foreign ≡ 0 → HasFound [] None skipped
-found_none skipped bad foreign = record { kept = []; is_skipped = record { are_kept = refl; bad = omega arith; foreign = omega arith }; is_found = refl }
 
 module _ (lines : List (Option PieceValue)) (found : Option Replica) (old : Skipped) (h : HasFound lines found old) (new : Skipped) where
   -- a bad line

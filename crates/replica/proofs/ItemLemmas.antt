@@ -1,5 +1,5 @@
 -- Entries of a piece, joined one after the other.
-use Rattle.std.proofs.Common.{◌≡◌, ℕ, suc, ◌+◌, ◌<◌, ◌≤◌, Bool, true, false, cond, List, [], ◌∷◌, ◌++◌, length, Option, Some, None, refl, sym, ap, ◌∙◌, arith}
+use Rattle.std.proofs.Common.{◌≡◌, ℕ, suc, ◌+◌, ◌<◌, ◌≤◌, true, false, List, [], ◌∷◌, ◌++◌, length, Option, Some, None, refl, ap, ◌∙◌, arith}
 use Rattle.std.specs.BTreeMap.{is_at}
 use Rattle.std.specs.Ordering.{nat_cmp}
 use Rattle.rw_objects.specs.declared.entry.Entry.{Entry}
@@ -10,8 +10,7 @@ use Rattle.join_laws.specs.Flat.{flat_joined}
 use Rattle.join_laws.specs.FlatLaws.{flat_laws}
 use Rattle.join_laws.specs.Join.{IsJoin}
 use Rattle.join_laws.specs.Keyed.{value_at, option_joined, option_same, keyed_same, keyed_joined, keyed_partly}
-use Rattle.join_laws.specs.KeyedLaws.{value_at-front, value_at-rest, value_at-keyed_joined}
-use Rattle.join_laws.specs.OptionLaws.{option_associative}
+use Rattle.join_laws.specs.KeyedLaws.{value_at-keyed_joined}
 use Rattle.std.proofs.lemmas.Map.Lookups.{CmpEqualImpliesEq}
 use Rattle.join_laws.proofs.Entries.{one_unchanged}
 use Rattle.replica.specs.Items.{entry_eq, placed, EntriesJoined}
@@ -58,31 +57,6 @@ one_joined old new e h q = same_is _ _ (h q) ∙ value_at-keyed_joined nat_cmp n
 joined_nothing : (a : Option (Flat Entry)) → option_joined (flat_joined entry_eq) a None ≡ a
 joined_nothing None = refl
 joined_nothing (Some x) = refl
-
-pub entries_none : (old : List (ℕ × Flat Entry)) (first : ℕ) → EntriesJoined old first [] old
-entries_none old first q = sym (joined_nothing (value_at nat_cmp old q))
-
--- one more entry, behind those joined so far
-pub entries_more : (old cur new : List (ℕ × Flat Entry)) (first place : ℕ) (es : List Entry) (e : Entry) → place ≡ first + length es → EntriesJoined old first es cur
-    → keyed_same nat_cmp (λ x y. x ≡ y) new (keyed_joined nat_cmp (flat_joined entry_eq) cur ((place, Known e) ∷ [])) → EntriesJoined old first (es ++ e ∷ []) new
-entries_more old cur new first place es e is so_far one q =
-    let front = placed first es in
-    let last : List (ℕ × Flat Entry) = (place, Known e) ∷ [] in
-    let parts : placed first (es ++ e ∷ []) ≡ front ++ last = placed-append first es (e ∷ []) ∙ rw (← is) refl in
-    let all : option_joined (flat_joined entry_eq) (value_at nat_cmp front q) (value_at nat_cmp last q) ≡ value_at nat_cmp (front ++ last) q = both (value_at nat_cmp front q) refl (is_at (nat_cmp q) place) refl in
-    one_joined cur new (place, Known e) one q
-    ∙ ap (λ (o : Option (Flat Entry)). option_joined (flat_joined entry_eq) o (value_at nat_cmp last q)) (so_far q)
-    ∙ same_is _ _ (option_associative Known_laws (value_at nat_cmp old q) (value_at nat_cmp front q) (value_at nat_cmp last q))
-    ∙ ap (λ (o : Option (Flat Entry)). option_joined (flat_joined entry_eq) (value_at nat_cmp old q) o) (all ∙ ap (λ (l : List (ℕ × Flat Entry)). value_at nat_cmp l q) (sym parts))
-  where
-    both : (o : Option (Flat Entry)) → value_at nat_cmp (placed first es) q ≡ o → (t : Bool) → is_at (nat_cmp q) place ≡ t
-        → option_joined (flat_joined entry_eq) (value_at nat_cmp (placed first es) q) (cond (is_at (nat_cmp q) place) (Some (Known e)) None) ≡ value_at nat_cmp (placed first es ++ (place, Known e) ∷ []) q
-    both None h t i = rw (h, value_at-rest nat_cmp (placed first es) ((place, Known e) ∷ []) q h) refl
-    both (Some y) h false i = rw (h, value_at-front nat_cmp (placed first es) ((place, Known e) ∷ []) q y h, i) refl
-    both (Some y) h true i =
-        let here : q ≡ place = at_place q place i in
-        let past : value_at nat_cmp (placed first es) q ≡ None = placed_past first q es (omega arith) in
-        absurd (let bad : Some y ≡ None = sym h ∙ past in cc)
 
 -- a refused growth leaves the entries as they were
 pub entries_left : (old cur new : List (ℕ × Flat Entry)) (first place : ℕ) (es : List Entry) (e : Entry) → EntriesJoined old first es cur

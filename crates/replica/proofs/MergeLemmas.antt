@@ -11,7 +11,6 @@ use Rattle.log_pieces.specs.declared.end.End.{End}
 use Rattle.log_pieces.specs.Decides.{end_decides}
 use Rattle.log_pieces.specs.Piece.{PieceValue}
 use Rattle.join_laws.specs.declared.flat.Flat.{Flat}
-use Rattle.join_laws.specs.declared.flat.Flat.TheVariants.{Known, Clash}
 use Rattle.join_laws.specs.Flat.{flat_joined}
 use Rattle.join_laws.specs.Keyed.{value_at, option_joined}
 use Rattle.join_laws.specs.Pages.{AreJoined}
@@ -83,12 +82,6 @@ end_merged log old new owner end had entries joined = record {
   ];
 }
 
--- a clash joined to anything is a clash
-pub clash_joined : {T : Type 0} (eq : T → T → Bool) (o : Option (Flat T)) → Some Clash ≡ option_joined (flat_joined eq) o (Some Clash)
-clash_joined eq None = refl
-clash_joined eq (Some (Known x)) = refl
-clash_joined eq (Some Clash) = refl
-
 -- ---- one more thread of those before
 module _ {T : Type 0} (eq : T → T → Bool) (old cur new other : ℕ → Option (Flat T)) (i : ℕ) (x : Option (Flat T))
     (so_far : (t : ℕ) → cur t ≡ option_joined (flat_joined eq) (old t) (if nat_lt t i then other t else None))
@@ -154,16 +147,6 @@ pub record EndsSoFar (old other : Log) (count : ℕ) (cur : Log) : Type 0 where
   pub key : key_of cur ≡ key_of old
   pub entries : (thread place : ℕ) → entry_at cur thread place ≡ entry_at old thread place
   pub ends : (thread : ℕ) → end_at cur thread ≡ option_joined (flat_joined end_eq) (end_at old thread) (if nat_lt thread count then end_at other thread else None)
-
-pub entries_start : (old other : Log) → EntriesSoFar old other 0 old
-entries_start old other = record {
-  key = refl;
-  entries = λ place. step_none entry_eq (λ t. entry_at old t place) (λ t. entry_at old t place) (λ t. entry_at other t place) (λ t. refl);
-  ends = λ thread. refl;
-}
-
-pub ends_start : (old other : Log) → EndsSoFar old other 0 old
-ends_start old other = record { key = refl; entries = λ thread place. refl; ends = step_none end_eq (end_at old) (end_at old) (end_at other) (λ t. refl) }
 
 theirs_at : (other : Log) (i : ℕ) (theirs : ThreadLog) → slice_get other.threads i ≡ Some theirs → (place : ℕ) → value_at nat_cmp theirs.entries place ≡ entry_at other i place
 theirs_at other i theirs is place = rw is refl

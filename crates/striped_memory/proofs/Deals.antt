@@ -1,7 +1,7 @@
 -- Blocks and queues that are dealt out, and put together again.
-use Rattle.std.proofs.Common.{◌≡◌, ◌≢◌, ℕ, zero, suc, ◌+◌, ◌-◌, ◌*◌, ◌/◌, ◌%◌, ◌^◌, ◌<◌, ◌≤◌, inl, inr, Bool, true, false, cond, ◌==◌, List, [], ◌++◌, length, get_or, slice_set, take, drop, refl, sym, ap, subst, ◌∙◌, arith}
-use Rattle.std.proofs.lemmas.List.{same_lists, places, length-append, get_or_past, get_or-set_same, get_or-set_other}
-use Rattle.std.proofs.lemmas.Bool.{cases_lt, cases_eq}
+use Rattle.std.proofs.Common.{◌≡◌, ℕ, zero, suc, ◌+◌, ◌-◌, ◌*◌, ◌/◌, ◌%◌, ◌^◌, ◌<◌, ◌≤◌, inl, inr, Bool, true, false, cond, ◌==◌, List, [], ◌++◌, length, get_or, take, drop, refl, sym, ap, subst, ◌∙◌, arith}
+use Rattle.std.proofs.lemmas.List.{same_lists, places, length-append, get_or_past}
+use Rattle.std.proofs.lemmas.Bool.{cases_lt}
 use Rattle.std.proofs.Math.ListN.{drop_of_length-le}
 use Rattle.std.proofs.Math.Nat.{mul-le-mul_right}
 use Rattle.block_objects.specs.declared.limits.MemoryLimits.{MemoryLimits}
@@ -50,13 +50,6 @@ module _ (p m : ℕ) (xs b : List ℕ) (f : ℕ → List ℕ) (len : length xs �
 
   pub more_blocks : (k : ℕ) → k < m + 1 → block_bytes p (xs ++ b) k ≡ f k
   more_blocks k low = elim (cases_lt k m) [ inl less ↦ inside k less | inr more ↦ at_end k (omega (arith, low, more)) ]
-
--- and a queue more
-pub more_queues : (m : ℕ) (xs : List QueueAt) (q : QueueAt) (f : ℕ → QueueAt) → m < length xs → q ≡ f m → ((k : ℕ) → k < m → queue_at xs k ≡ f k) → (k : ℕ) → k < m + 1 → queue_at (slice_set xs m q) k ≡ f k
-more_queues m xs q f within is before k low = elim (cases_eq k m) [
-  | inl same ↦ ap (queue_at (slice_set xs m q)) same ∙ (get_or-set_same xs m q no_waiters within ∙ (is ∙ ap f (sym same)))
-  | inr ne ↦ get_or-set_other xs m k q no_waiters ne ∙ before k (omega (arith, low, ne))
-]
 
 -- each of a quarter's blocks, and nothing behind them
 pub all_blocks : (p n m row : ℕ) (xs all : List ℕ) → length xs ≡ m * 2 ^ p → length all ≡ 4 * n * 2 ^ p → n ≤ m → ((k : ℕ) → k < m → block_bytes p xs k ≡ block_bytes p all (4 * k + row))

@@ -4,32 +4,9 @@ use Rattle.std.proofs.lemmas.List.{same_lists, places, append-nil, take-replicat
 use Rattle.std.proofs.Math.Seq.{take-append-add, drop-cons, get_or-append_right}
 use Rattle.std.proofs.lemmas.Bool.{cases_lt}
 use Rattle.memory_parts.specs.declared.seen.Seen.{Seen}
-use Rattle.wasm_types.specs.declared.operation.Extent.{Extent}
-use Rattle.wasm_types.specs.declared.operation.Action.{Action}
 use Rattle.wasm_types.specs.declared.operation.Action.TheVariants as act
-use Rattle.block_objects.specs.Objects.{Length}
 use Rattle.memory_parts.specs.declared.seen.Seen.TheVariants as see
-use Rattle.memory_parts.specs.SharedCut.{action_sight, bytes_in}
-
--- of the length every operation sees the same
-pub length_seen : (c : ℕ) (e : Extent) (a : Action) (o pages : ℕ) → see.Pages pages c ≡ action_sight c e a o (Length pages)
-length_seen c e (act.Load l address) o pages = refl
-length_seen c e (act.Store a address operand) o pages = refl
-length_seen c e (act.Rmw op a address operand) o pages = refl
-length_seen c e (act.CompareExchange a address expected replacement) o pages = refl
-length_seen c e act.Size o pages = refl
-length_seen c e (act.Grow by) o pages = refl
-length_seen c e (act.Wait width thread address expected) o pages = refl
-length_seen c e (act.Notify address count) o pages = refl
-length_seen c e (act.Resume thread address) o pages = refl
-length_seen c e (act.TimeOut thread address) o pages = refl
-
--- a part of a list, where its ends may lie past that of the list
-pub window_is : (from count : ℕ) (xs : List ℕ) → take (min (from + count) (length xs) - min from (length xs)) (drop (min from (length xs)) xs) ≡ take count (drop from xs)
-window_is from count xs = same_lists _ _ (grind (arith, places)) pointwise where
-  pointwise : (i d : ℕ) → i < length (take (min (from + count) (length xs) - min from (length xs)) (drop (min from (length xs)) xs))
-      → get_or (take (min (from + count) (length xs) - min from (length xs)) (drop (min from (length xs)) xs)) i d ≡ get_or (take count (drop from xs)) i d
-  pointwise i d h = grind (arith, places)
+use Rattle.memory_parts.specs.SharedCut.{bytes_in}
 
 -- bytes that are put over eight zeros
 pub padded : (n : ℕ) (part : List ℕ) → length part ≤ n → part ++ drop (length part) (replicate n 0) ≡ take n (part ++ replicate n 0)

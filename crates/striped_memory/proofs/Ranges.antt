@@ -1,7 +1,6 @@
 -- Where the objects of a memory stand in its parts.
-use Rattle.std.proofs.Common.{◌≡◌, ◌≢◌, ℕ, ◌+◌, ◌-◌, ◌*◌, ◌/◌, ◌%◌, ◌^◌, ◌<◌, ◌≤◌, Bool, true, false, cond, ◌==◌, List, [], ◌∷◌, Option, Some, None, refl, sym, ap, subst, ◌∙◌, inl, inr, arith}
+use Rattle.std.proofs.Common.{◌≡◌, ◌≢◌, ℕ, ◌+◌, ◌-◌, ◌*◌, ◌/◌, ◌%◌, ◌^◌, ◌<◌, ◌≤◌, Bool, true, false, cond, ◌==◌, List, [], ◌∷◌, Some, None, refl, sym, ap, subst, ◌∙◌, inl, inr, arith}
 use Rattle.std.proofs.lemmas.Nat.{pow-add, shl-shr}
-use Rattle.std.proofs.Math.Nat.{mul_assoc}
 use Rattle.std.proofs.Math.Path.{fun_ext}
 use Rattle.std.proofs.lemmas.Bool.Decides.{Decides-eqb}
 use Rattle.std.proofs.lemmas.Bool.{cases_eq}
@@ -75,6 +74,3 @@ set_is {V} old new k v here others = fun_ext one where
     | inl is ↦ ap new is ∙ (here ∙ sym (ap (λ b. cond b v (old j)) (equal_yes j k is)))
     | inr ne ↦ others j ne ∙ sym (ap (λ b. cond b v (old j)) (differ_no j k ne))
   ]
-
-pub set_same : {V : Type 0} (old : ℕ → V) (k : ℕ) → old ≡ set_at old k (old k)
-set_same old k = set_is old old k (old k) refl (λ j ne. refl)

@@ -1,14 +1,11 @@
 -- Thread lines one after another.
 use Rattle.std.proofs.Common.{◌≡◌, ℕ, zero, suc, ◌+◌, ◌-◌, ◌<◌, ◌≤◌, List, [], ◌∷◌, ◌++◌, length, take, refl, sym, ap, ◌∙◌, arith, append_assoc, subst, inl, inr}
 use Rattle.std.specs.Prelude.{Result, Ok, Err}
-use Rattle.std.proofs.lemmas.List.{append-nil}
 use Rattle.std.proofs.Math.ListN.{length-append}
-use Rattle.std.proofs.Math.Seq.{take-nil}
-use Rattle.std.proofs.lemmas.Bool.{cond-true, cond-false, lt-ltb, le-ltb}
+use Rattle.std.proofs.lemmas.Bool.{cond-false, le-ltb}
 use Rattle.wasm_types.specs.declared.modules.Module.{Module}
 use Rattle.thread_plan.specs.declared.planned_thread.PlannedThread.{PlannedThread}
 use Rattle.thread_plan.specs.declared.fault.PlanFault.{PlanFault}
-use Rattle.thread_plan.specs.declared.fault.PlanFault.TheVariants.{BadLine}
 use Rattle.thread_plan.specs.Threads.{thread_at}
 use Rattle.thread_plan.specs.Plans.{and_then, threads_from, at_most_16, threads_of, IsFaultOf}
 
@@ -43,9 +40,6 @@ take_first : (room : ℕ) (line : List ℕ) (rest : List (List ℕ)) → 0 < roo
 take_first zero line rest h = absurd (omega arith)
 take_first (suc k) line rest h = ap (λ n. line ∷ take n rest) (omega arith)
 
-pub read_none : (m : Module) (all : List (List ℕ)) → IsReadUpTo m all [] all
-read_none m all = record { at_most = omega arith; counted = omega arith; same = sym (behind_nil _) }
-
 pub read_more : (m : Module) (all rest : List (List ℕ)) (threads : List PlannedThread) (thread : PlannedThread) (line : List ℕ)
     → IsReadUpTo m all threads (line ∷ rest) → length threads < 16 → thread_at m (length threads + 2) line ≡ Ok thread → IsReadUpTo m all (threads ++ thread ∷ []) rest
 read_more m all rest threads thread line read room e =
@@ -72,34 +66,8 @@ read_fails m all rest threads line fault read room e =
     by_first m all (Err fault) (omega (arith, read.counted))
     (read.same ∙ ap (behind threads) (ap (threads_from m (length threads + 2)) (take_first (16 - length threads) line rest (omega arith)) ∙ line_err m (length threads + 2) line (take (16 - length threads - 1) rest) fault e))
 
-more_than_16 : (n : ℕ) (threads : List PlannedThread) → 16 < n → at_most_16 n threads ≡ Err (BadLine 18)
-more_than_16 n threads h = cond-true _ _ _ (lt-ltb 16 n h)
-
 not_more : (n : ℕ) (threads : List PlannedThread) → n ≤ 16 → at_most_16 n threads ≡ Ok threads
 not_more n threads h = cond-false _ _ _ (le-ltb 16 n h)
-
-whole_behind : (threads : List PlannedThread) → behind threads (Ok []) ≡ Ok threads
-whole_behind threads = ap (λ (ts : List PlannedThread). Ok ts) (append-nil threads)
-
-pub read_too_many : (m : Module) (all rest : List (List ℕ)) (threads : List PlannedThread) (line : List ℕ)
-    → IsReadUpTo m all threads (line ∷ rest) → length threads ≡ 16 → threads_of m all ≡ Err (BadLine (length threads + 2))
-read_too_many m all rest threads line read full =
-    by_first m all (Ok threads) (omega (arith, read.counted))
-    (read.same ∙ ap (λ k. behind threads (threads_from m (length threads + 2) (take (16 - k) (line ∷ rest)))) full ∙ whole_behind threads)
-    ∙ more_than_16 (length all) threads (omega (arith, read.counted))
-    ∙ ap (λ k. Err (BadLine (k + 2))) (sym full)
-
-pub read_all : (m : Module) (all : List (List ℕ)) (threads : List PlannedThread)
-    → IsReadUpTo m all threads [] → 0 < length threads → threads_of m all ≡ Ok threads
-read_all m all threads read some =
-    by_first m all (Ok threads) (omega (arith, read.counted))
-    (read.same ∙ ap (λ l. behind threads (threads_from m (length threads + 2) l)) (take-nil (16 - length threads)) ∙ whole_behind threads)
-    ∙ not_more (length all) threads (omega (arith, read.counted))
-
-pub nothing_read : (m : Module) (all : List (List ℕ)) (threads : List PlannedThread)
-    → IsReadUpTo m all threads [] → length threads ≡ 0 → threads_of m all ≡ Err (BadLine 2)
-nothing_read m [] threads read none = refl
-nothing_read m (line ∷ lines) threads read none = absurd (omega (arith, read.counted))
 
 pub left_is : (m : Module) (all left rest : List (List ℕ)) (threads : List PlannedThread) (line : List ℕ) → left ≡ line ∷ rest → IsReadUpTo m all threads left → IsReadUpTo m all threads (line ∷ rest)
 left_is m all left rest threads line e read = subst (λ (l : List (List ℕ)). IsReadUpTo m all threads l) e read

@@ -93,9 +93,6 @@ globals_rule m h =
     let a3 = both (first3 m) (exports_fit m) (both (first4 m) (start_fits m) a5.0).0 in
     (both (first2 m) (globals_fit m) a3.0).1
 
-pub few_functions : (m : Module) → rules m ≡ true → length m.functions < 2 ^ 32
-few_functions m h = (of_functions m h).few
-
 pub as_many_bodies : (m : Module) → rules m ≡ true → length m.functions ≡ length m.bodies
 as_many_bodies m h = (of_functions m h).as_many
 

@@ -1,5 +1,5 @@
 -- The check as far as a place.
-use Rattle.std.proofs.Common.{◌≡◌, ℕ, zero, suc, ◌+◌, ◌<◌, ◌≤◌, Bool, true, false, List, [], ◌∷◌, ◌++◌, Option, Some, None, refl, sym, ◌∙◌, ap, subst, take, drop, length, get_or, arith}
+use Rattle.std.proofs.Common.{◌≡◌, ℕ, zero, suc, ◌+◌, ◌<◌, ◌≤◌, Bool, false, List, [], ◌∷◌, ◌++◌, Option, Some, None, refl, sym, ◌∙◌, ap, subst, take, drop, length, get_or, arith}
 use Rattle.std.specs.Prelude.{slice_get}
 use Rattle.std.proofs.lemmas.List.{take-append-drop}
 use Rattle.std.proofs.lemmas.Option.{slice_get_past, slice_get-get_or}
@@ -54,31 +54,6 @@ fault_here c code at d s l r open_blocks g = by r.0 r.1 r.2
     by [] h st = let q = open_blocks [] st in cc
     by (f ∷ fs) h st = (f ∷ fs, h, subst (λ o. CannotGoOn c o (f ∷ fs)) (sym (slice_get-get_or code at d l)) (g f fs st))
 
-pub fault_behind_end : (c : Context) (code : List Instr) (at : ℕ) (s : Stacks) → at < length code → Reached c code at s → ((fs : List Frame) → Stand fs s → true ≡ no_frame fs) → FirstFault c code at
-fault_behind_end c code at s l r none = by r.0 r.1 r.2
-  where
-    by_next : (rest : List Instr) → drop at code ≡ rest → walk c (take at code) (start c) ≡ Some [] → FirstFault c code at
-    by_next [] e h = absurd (some_left code at l e)
-      where
-        some_left : (xs : List Instr) (n : ℕ) → n < length xs → drop n xs ≡ [] → ⊥
-        some_left [] n l e = absurd (omega arith)
-        some_left (x ∷ xs) zero l e = cc
-        some_left (x ∷ xs) (suc n) l e = some_left xs n (omega arith) e
-    by_next (i ∷ rest) e h = ([], h, subst (λ o. CannotGoOn c o []) (sym (slice_get-get_or code at i l)) refl)
-
-    by : (fs : List Frame) → walk c (take at code) (start c) ≡ Some fs → Stand fs s → FirstFault c code at
-    by [] h st = by_next (drop at code) refl h
-    by (f ∷ fs) h st = let q = none (f ∷ fs) st in cc
-
-whole_by : (c : Context) (code : List Instr) (at : ℕ) (fs : List Frame) → length code ≤ at → walk c (take at code) (start c) ≡ Some fs → walk c code (start c) ≡ Some fs
-whole_by c code at fs l h = ap (λ x. walk c x (start c)) (sym (all_taken code at l)) ∙ h
-  where
-    all_taken : (xs : List Instr) (n : ℕ) → length xs ≤ n → take n xs ≡ xs
-    all_taken [] zero l = refl
-    all_taken [] (suc n) l = refl
-    all_taken (x ∷ xs) zero l = absurd (omega arith)
-    all_taken (x ∷ xs) (suc n) l = ap (λ y. x ∷ y) (all_taken xs n (omega arith))
-
 pub fault_at_end : (c : Context) (code : List Instr) (at place : ℕ) (s : Stacks) → length code ≤ at → at ≤ length code → place ≡ length code → Reached c code at s → ((fs : List Frame) → Stand fs s → false ≡ no_frame fs) → FirstFault c code place
 fault_at_end c code at place s l m p r open_blocks =
     let e : at ≡ place = omega arith in
@@ -87,13 +62,6 @@ fault_at_end c code at place s l m p r open_blocks =
     some : (fs : List Frame) → fs ≡ [] → false ≡ no_frame fs → ⊥
     some [] z q = cc
     some (f ∷ fs) z q = cc
-
-pub checked_at_end : (c : Context) (code : List Instr) (at : ℕ) (s : Stacks) → length code ≤ at → Reached c code at s → ((fs : List Frame) → Stand fs s → true ≡ no_frame fs) → Checked c code
-checked_at_end c code at s l r none = by r.0 r.1 r.2
-  where
-    by : (fs : List Frame) → walk c (take at code) (start c) ≡ Some fs → Stand fs s → Checked c code
-    by [] h st = whole_by c code at [] l h
-    by (f ∷ fs) h st = let q = none (f ∷ fs) st in cc
 
 -- where a fault stands the function is not checked
 pub fault_refutes : (c : Context) (code : List Instr) (at : ℕ) → FirstFault c code at → Checked c code → ⊥

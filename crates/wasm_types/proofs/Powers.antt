@@ -1,8 +1,5 @@
 -- Powers of two, seven bits apart.
 use Rattle.std.proofs.Common.{◌≡◌, ℕ, ◌+◌, ◌-◌, ◌*◌, ◌^◌, ◌<◌, ◌≤◌, Bool, true, false, ltb, leb, cond, refl, sym, ap, ◌∙◌, arith}
-use Rattle.std.specs.Prelude.{ℤ, pos, negsuc, ◌+ℤ◌, ◌*ℤ◌}
-use Rattle.std.proofs.lemmas.Int.{ints}
-use Rattle.wasm_types.specs.Leb128.{FitsBits}
 use Rattle.wasm_types.specs.Leb128Reading.{fits_signed}
 use Rattle.std.proofs.Math.Pow.{pow_mono}
 use Rattle.std.proofs.lemmas.Nat.{pow-add}
@@ -17,9 +14,6 @@ pub within_seven : (byte bits : ℕ) → byte < 128 → 7 ≤ bits → byte < 2 
 within_seven byte bits lt h =
     let p : 2 ^ 7 ≤ 2 ^ bits = pow_mono h in
     omega arith
-
-pub below_64 : (bits : ℕ) → bits ≤ 64 → 2 ^ bits ≤ 2 ^ 64
-below_64 bits h = pow_mono h
 
 pub number_below : (byte high bits : ℕ) → byte < 256 → 128 ≤ byte → 7 ≤ bits → high < 2 ^ (bits - 7) → byte - 128 + 128 * high < 2 ^ bits
 number_below byte high bits b ge h lt = let e = seven_less bits h in omega arith
@@ -41,9 +35,6 @@ half_below bits h = let k : bits - 1 ≤ 63 = omega arith in pow_mono k
 
 pub half_most : (bits : ℕ) → 7 ≤ bits → 64 ≤ 2 ^ (bits - 1)
 half_most bits h = let k : 6 ≤ bits - 1 = omega arith in let p : 2 ^ 6 ≤ 2 ^ (bits - 1) = pow_mono k in p
-
-pub below_fits : (bits byte : ℕ) (high : ℤ) → 7 < bits → 128 ≤ byte → byte < 256 → FitsBits (bits - 7) high → FitsBits bits (pos byte +ℤ negsuc 127 +ℤ (pos 128 *ℤ high))
-below_fits bits byte high h ge lt f = let e = half_less bits h in record { low = omega (arith, ints, f.low, f.high); high = omega (arith, ints, f.low, f.high) }
 
 fits_by : (byte bits : ℕ) (t : Bool) → ltb byte 64 ≡ t → byte < 128 → 64 ≤ 2 ^ (bits - 1) → cond t (ltb byte (2 ^ (bits - 1))) (leb 128 (byte + 2 ^ (bits - 1))) ≡ true
 fits_by byte bits true e lt p = lt-ltb _ _ (omega (arith, ltb-true _ _ e))
