@@ -33,6 +33,3 @@ pub use place::Place;
 pub use step_fault::{InstructionFault, Named, Needs, Operand, Row, StepFault};
 pub use type_fault::TypeFault;
 pub use validation::{ValidCause, ValidReason, valid_reason};
-
-#[cfg(test)]
-mod tests;

@@ -1,7 +1,7 @@
 //! What no command line shows of the reasons of modules.
 
-use crate::{Cause, LimitReason, decode_reason, limit_reason};
 use binary_decoder::{DecodeFault, decode};
+use module_reasons::{Cause, LimitReason, decode_reason, limit_reason};
 use std::alloc::Global;
 use std::test::Fail;
 
