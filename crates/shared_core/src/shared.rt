@@ -127,24 +127,31 @@ impl<S: Striped, J: Opening<S, S::Value, S::Fixed>> Shared<S, J> {
         self.journal.lock(rt).length()
     }
 
-    /// Waits until so many calls were entered, or no seat can go on. Answers whether so many were entered.
-    pub fn rest<R: Wait>(&self, rt: &R, seat: &Seat<S, J>, until: u64) -> bool {
+    /// Waits until so many calls were entered, or no seat can go on. Answers how many were entered: fewer where no seat can go
+    /// on.
+    fn rest_until<R: Wait>(&self, rt: &R, seat: &Seat<S, J>, until: u64) -> u64 {
         let number = seat.thread();
         let mut journal = self.journal.lock(rt);
         let length = journal.length();
         if length >= until {
-            return true;
+            return length;
         }
         if journal.resting.rest(number, until, length) {
             drop(journal);
             self.changed.notify_all();
-            return false;
+            return length;
         }
         let mut journal = self
             .changed
             .wait_while(rt, journal, |journal| journal.is_still(until));
         journal.resting.goes_on(number);
-        journal.length() >= until
+        journal.length()
+    }
+
+    /// Waits until more than `seen` calls were entered, or no seat can go on. Answers how many were entered: `seen` where no
+    /// seat can go on, since each rests until there are more, or has left.
+    pub fn rest<R: Wait>(&self, rt: &R, seat: &Seat<S, J>, seen: u64) -> u64 {
+        self.rest_until(rt, seat, seen.saturating_add(1))
     }
 
     /// Waits before the gate of a call whose entry is to be this one, and which could not be entered when `seen` calls were.
@@ -161,7 +168,7 @@ impl<S: Striped, J: Opening<S, S::Value, S::Fixed>> Shared<S, J> {
         let opens_at = opens_at(&journal.held.versions, journal.length(), expected, seen);
         drop(journal);
         match opens_at {
-            Some(until) => self.rest(rt, seat, until),
+            Some(until) => self.rest_until(rt, seat, until) >= until,
             None => false,
         }
     }

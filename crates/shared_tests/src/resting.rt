@@ -35,7 +35,7 @@ fn rest<J: Opening<StripedMemory, ObjectValue, MemoryLimits>, R: Wait>(
 ) -> u64 {
     for _ in rt.forever() {
         let seen = shared.length(rt);
-        if !shared.rest(rt, seat, seen.saturating_add(1)) {
+        if shared.rest(rt, seat, seen) == seen {
             return seen;
         }
     }
@@ -110,18 +110,17 @@ fn rests_end_when_all_rest(rt: HostRuntime) -> Result<(), Fail> {
     Ok(())
 }
 
-/// Where the first thread rests until two calls were entered, and then until two more; the other makes two.
+/// Where the first thread rests until two calls were entered, and then until a third; the other makes two.
 #[derive(Drop)]
 struct Pair {
     begun: Meeting,
 }
 
-/// How a rest for two calls ended, with how many calls that were, and how the next one did.
+/// How many calls were entered when each of two rests ended.
 #[derive(Clone, Copy, Debug, PartialEq, Eq, Drop)]
 struct Rests {
-    are_two: bool,
-    seen: u64,
-    are_four: bool,
+    first: u64,
+    second: u64,
 }
 
 impl Work<StripedMemory> for Pair {
@@ -144,14 +143,9 @@ impl Work<StripedMemory> for Pair {
             return None;
         }
         if seat.thread() == 0 {
-            let are_two = shared.rest(rt, seat, 2);
-            let seen = shared.length(rt);
-            let are_four = shared.rest(rt, seat, 4);
-            return Some(Rests {
-                are_two,
-                seen,
-                are_four,
-            });
+            let first = shared.rest(rt, seat, 1);
+            let second = shared.rest(rt, seat, 2);
+            return Some(Rests { first, second });
         }
         for _ in 0..2 {
             let Ok(Tried::Done(..)) = enter(rt, alloc, shared, seat, load(0), &Unkept) else {
@@ -163,7 +157,7 @@ impl Work<StripedMemory> for Pair {
     }
 }
 
-/// A thread that rests until two calls were entered has seen both when it goes on. Its rest for two more ends too, without them,
+/// A thread that rests until two calls were entered has seen both when it goes on. Its rest for a third ends too, without one,
 /// once the other has left.
 #[test]
 fn a_rest_goes_on_with_the_last_call_awaited(rt: HostRuntime) -> Result<(), Fail> {
@@ -177,9 +171,8 @@ fn a_rest_goes_on_with_the_last_call_awaited(rt: HostRuntime) -> Result<(), Fail
         return Ok(());
     }
     let expected = Rests {
-        are_two: true,
-        seen: 2,
-        are_four: false,
+        first: 2,
+        second: 2,
     };
     assert_eq!(rt; rests.as_slice(), [Some(expected), None].as_slice());
     Ok(())

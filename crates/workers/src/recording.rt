@@ -96,7 +96,7 @@ fn sleep<M: Machine<S>, S: Striped, J: Opening<S, S::Value, S::Fixed>, T: Timer,
             Ok(false) => {}
             Err(fault) => return Err(fault),
         }
-        if !shared.rest(rt, seat, seen.saturating_add(1)) {
+        if shared.rest(rt, seat, seen) == seen {
             return Ok(false);
         }
     }

@@ -25,7 +25,7 @@ returns-in-Err-time_out-clause-advances g c =
     subst (λ x. Advances g.M.Machine.code (λ t s. g.T.Timer.can_expire t (g.M.Machine.nanos_of s)) x (driven g.M.Machine.state c.time_out.new.thread c.time_out.new.seat))
     (c.in-Ok-false.ensures.kept c.in-Ok-false.field-0-test ∙ c.loop.invariant.2) c.time_out.ensures.advances
 
-pub returns-then-not-rest-clause-advances : goal.returns-then-not-rest-clause-advances
-returns-then-not-rest-clause-advances g c =
+pub returns-then-rest-seen-clause-advances : goal.returns-then-rest-seen-clause-advances
+returns-then-rest-seen-clause-advances g c =
     subst (λ x. Advances g.M.Machine.code (λ t s. g.T.Timer.can_expire t (g.M.Machine.nanos_of s)) x (driven g.M.Machine.state c.time_out.new.thread c.time_out.new.seat))
     (c.in-Ok-false.ensures.kept c.in-Ok-false.field-0-test ∙ c.loop.invariant.2) c.time_out.ensures.advances
