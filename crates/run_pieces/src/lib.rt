@@ -3,7 +3,6 @@
 
 mod cutting;
 mod fault;
-mod fields;
 mod laws;
 mod line_room;
 mod line_writing;

@@ -7,77 +7,29 @@ use std::alloc::Global;
 use std::marker::Model;
 use wasm_types::NoMemory;
 
-/// The fields of a piece but for its entries, in bytes. Contracts see the bytes.
+/// Room for lines that were not written yet. Contracts see what waits in it: lines, and perhaps digits of a beginning of one.
 #[derive(Drop)]
-pub struct Fields {
-    bytes: Vec<u8>,
-}
-
-impl Model for Fields {
-    ghost use Rattle.std.specs.Prelude.{ℕ, ◌≤◌, List, vec_capacity};
-
-    ghost Value = { List ℕ };
-
-    ghost view = { λ f. f.bytes.items };
-
-    ghost invariant = { λ f. 128 ≤ vec_capacity f.bytes };
-}
-
-impl Fields {
-    /// No bytes, and room for as many as the fields of a piece have.
-    pub(crate) fn new(alloc: Global) -> Result<Fields, NoMemory>
-        ensures { IfOk result (λ fields. fields ≡ []) }
-    {
-        Ok(Fields {
-            bytes: Vec::with_capacity(alloc, 128)?,
-        })
-    }
-
-    /// The bytes.
-    pub(crate) fn as_slice(&self) -> &[u8]
-        ensures { result.now ≡ self.now }
-    {
-        &self.bytes
-    }
-
-    /// Forgets the bytes.
-    pub(crate) fn clear(&mut self)
-        ensures { self.new ≡ [] }
-    {
-        self.bytes.clear();
-    }
-
-    /// Puts bytes behind the others.
-    pub(crate) fn put(&mut self, field: &[u8])
-        requires { length self.old + length field.now ≤ 128 }
-        ensures { self.new ≡ self.old ++ field.now }
-    {
-        let _ = self.bytes.extend_from_slice(field);
-    }
-}
-
-/// Lines, or the digits of a beginning of one. Contracts see them.
-#[derive(Drop)]
-pub struct Digits {
+pub struct LineRoom {
     digits: Vec<u8>,
 }
 
-impl Model for Digits {
+impl Model for LineRoom {
     ghost use Rattle.std.specs.Prelude.{ℕ, ◌≤◌, List, vec_capacity};
 
     ghost Value = { List ℕ };
 
-    ghost view = { λ d. d.digits.items };
+    ghost view = { λ r. r.digits.items };
 
-    ghost invariant = { λ d. 98560 ≤ vec_capacity d.digits };
+    ghost invariant = { λ r. 98560 ≤ vec_capacity r.digits };
 }
 
-impl Digits {
-    /// No digits, and room for as many as are written at once, with a part of a line behind them.
-    pub(crate) fn new(alloc: Global) -> Result<Digits, NoMemory>
-        ensures { IfOk result (λ digits. digits ≡ []) }
+impl LineRoom {
+    /// Empty room, for as much as is written at once, with a part of a line behind it. No more memory is wanted for lines that
+    /// are written through it.
+    pub fn new(alloc: Global) -> Result<LineRoom, NoMemory>
+        ensures { IfOk result (λ room. room ≡ []) }
     {
-        Ok(Digits {
+        Ok(LineRoom {
             digits: Vec::with_capacity(alloc, 98_560)?,
         })
     }
@@ -121,22 +73,5 @@ impl Digits {
         ensures { self.new ≡ self.old ++ 10 ∷ [] }
     {
         let _ = self.digits.push(b'\n');
-    }
-}
-
-/// Room for lines that were not written yet, and for the fields of one piece.
-#[derive(Drop)]
-pub struct LineRoom {
-    pub(crate) digits: Digits,
-    pub(crate) fields: Fields,
-}
-
-impl LineRoom {
-    /// Empty room. No more memory is wanted for lines that are written through it.
-    pub fn new(alloc: Global) -> Result<LineRoom, NoMemory> {
-        Ok(LineRoom {
-            digits: Digits::new(alloc)?,
-            fields: Fields::new(alloc)?,
-        })
     }
 }

@@ -11,9 +11,8 @@ ghost use Rattle.run_pieces.specs.Keeps.{IsCut, KeepsRules};
 ghost use Rattle.run_pieces.specs.Lines.{head_bytes};
 
 use crate::cutting::{ThreadCut, end_at, piece_count};
-use crate::fields::{put_end, put_head};
-use crate::line_room::{Digits, LineRoom};
-use log_pieces::End;
+use crate::line_room::LineRoom;
+use log_pieces::{End, end_bytes, head_bytes};
 use packed_entries::EntriesReader;
 use recorder::{Recorded, ThreadLog};
 use replica::{Failed, Sink, write_all};
@@ -26,37 +25,37 @@ const FULL: usize = 65_536;
 const PART: usize = 16_384;
 
 /// Writes what a room has, and empties it, where that is as much as is written at once.
-fn flush<W: Sink>(digits: &mut Digits, sink: &mut W) -> Result<(), Failed>
+fn flush<W: Sink>(room: &mut LineRoom, sink: &mut W) -> Result<(), Failed>
     requires { W.failed sink.old < 2 ^ 64 - 1 }
-    ensures wrote { OnOk result (Wrote W.takes sink.old digits.old [] sink.new digits.new) }
-    ensures room { OnOk result (length digits.new ≤ 65536) }
+    ensures wrote { OnOk result (Wrote W.takes sink.old room.old [] sink.new room.new) }
+    ensures room { OnOk result (length room.new ≤ 65536) }
     ensures none_failed { OnOk result (W.failed sink.new ≡ W.failed sink.old) }
-    ensures began { OnErr result (Began W.takes sink.old digits.old [] sink.new) }
+    ensures began { OnErr result (Began W.takes sink.old room.old [] sink.new) }
     ensures one_failed { OnErr result (W.failed sink.new ≡ W.failed sink.old + 1) }
 {
-    if digits.len() <= FULL {
+    if room.len() <= FULL {
         return Ok(());
     }
-    write_all(sink, digits.as_slice())?;
-    digits.clear();
+    write_all(sink, room.as_slice())?;
+    room.clear();
     Ok(())
 }
 
 /// Writes the digits of bytes; the last of them may be left in the room.
-fn write_digits<W: Sink>(digits: &mut Digits, sink: &mut W, bytes: &[u8]) -> Result<(), Failed>
+fn write_digits<W: Sink>(room: &mut LineRoom, sink: &mut W, bytes: &[u8]) -> Result<(), Failed>
     requires sink { W.failed sink.old < 2 ^ 64 - 1 }
-    requires room { length digits.old ≤ 65792 }
-    ensures wrote { OnOk result (Wrote W.takes sink.old digits.old (encode_lower bytes.now) sink.new digits.new) }
-    ensures room { OnOk result (length digits.new ≤ 65792) }
+    requires room { length room.old ≤ 65792 }
+    ensures wrote { OnOk result (Wrote W.takes sink.old room.old (encode_lower bytes.now) sink.new room.new) }
+    ensures room { OnOk result (length room.new ≤ 65792) }
     ensures none_failed { OnOk result (W.failed sink.new ≡ W.failed sink.old) }
-    ensures began { OnErr result (Began W.takes sink.old digits.old (encode_lower bytes.now) sink.new) }
+    ensures began { OnErr result (Began W.takes sink.old room.old (encode_lower bytes.now) sink.new) }
     ensures one_failed { OnErr result (W.failed sink.new ≡ W.failed sink.old + 1) }
 {
     let mut rest = bytes;
     while !rest.is_empty() {
         let (part, behind) = rest.split_at(rest.len().min(PART));
-        digits.put(part);
-        flush(digits, sink)?;
+        room.put(part);
+        flush(room, sink)?;
         rest = behind;
     }
     Ok(())
@@ -64,36 +63,26 @@ fn write_digits<W: Sink>(digits: &mut Digits, sink: &mut W, bytes: &[u8]) -> Res
 
 /// Puts the digits of what stands before the entries of a thread's piece, of which there are `count`.
 fn open_line(room: &mut LineRoom, cut: &ThreadCut<'_>, index: usize, count: usize)
-    requires room { length room.old.digits ≤ 65536 }
+    requires room { length room.old ≤ 65536 }
     requires rules { IsCut cut.now.key.now cut.now.thread cut.now.log.now cut.now.size }
     requires index { index < piece_count cut.now.size (length cut.now.log.now.entries) }
     requires count { count ≡ length (take cut.now.size (drop (index * cut.now.size) cut.now.log.now.entries)) }
-    ensures text { room.new.digits ≡ room.old.digits ++ encode_lower (head_bytes (piece_at cut.now.key.now cut.now.thread cut.now.log.now cut.now.size index)) }
-    ensures short { length room.new.digits ≤ 65642 }
+    ensures text { room.new ≡ room.old ++ encode_lower (head_bytes (piece_at cut.now.key.now cut.now.thread cut.now.log.now cut.now.size index)) }
+    ensures short { length room.new ≤ 65642 }
 {
     let first = index * cut.size;
     let end = end_at(cut.log, cut.size, index);
-    room.fields.clear();
-    put_head(
-        &mut room.fields,
-        cut.key,
-        cut.thread as u8,
-        first as u32,
-        count as u16,
-        &end,
-    );
-    room.digits.put(room.fields.as_slice());
+    let head = head_bytes(cut.key, cut.thread as u8, first as u32, count as u16, &end);
+    room.put(head.as_slice());
 }
 
 /// Puts the digits of what stands behind the entries of a piece, and the line end.
 fn close_line(room: &mut LineRoom, end: &Option<End>)
-    requires room { length room.old.digits ≤ 65792 }
-    ensures text { room.new.digits ≡ room.old.digits ++ encode_lower (end_bytes end.now) ++ 10 ∷ [] }
+    requires room { length room.old ≤ 65792 }
+    ensures text { room.new ≡ room.old ++ encode_lower (end_bytes end.now) ++ 10 ∷ [] }
 {
-    room.fields.clear();
-    put_end(&mut room.fields, end);
-    room.digits.put(room.fields.as_slice());
-    room.digits.end_line();
+    room.put(end_bytes(end).as_slice());
+    room.end_line();
 }
 
 /// Writes the line of the next piece of a thread, whose entries are read up to it; it may be left in the room.
@@ -105,22 +94,22 @@ fn write_piece<W: Sink>(
     index: usize,
 ) -> Result<(), Failed>
     requires sink { W.failed sink.old < 2 ^ 64 - 1 }
-    requires room { length room.old.digits ≤ 65536 }
+    requires room { length room.old ≤ 65536 }
     requires rules { IsCut cut.now.key.now cut.now.thread cut.now.log.now cut.now.size }
     requires index { index < piece_count cut.now.size (length cut.now.log.now.entries) }
     requires at { entries.old ≡ drop (index * cut.now.size) cut.now.log.now.entries }
-    ensures wrote { OnOk result (Wrote W.takes sink.old room.old.digits (line_of (piece_at cut.now.key.now cut.now.thread cut.now.log.now cut.now.size index)) sink.new room.new.digits) }
-    ensures room { OnOk result (length room.new.digits ≤ 65536) }
+    ensures wrote { OnOk result (Wrote W.takes sink.old room.old (line_of (piece_at cut.now.key.now cut.now.thread cut.now.log.now cut.now.size index)) sink.new room.new) }
+    ensures room { OnOk result (length room.new ≤ 65536) }
     ensures left { OnOk result (entries.new ≡ drop cut.now.size entries.old) }
     ensures none_failed { OnOk result (W.failed sink.new ≡ W.failed sink.old) }
-    ensures began { OnErr result (Began W.takes sink.old room.old.digits (line_of (piece_at cut.now.key.now cut.now.thread cut.now.log.now cut.now.size index)) sink.new) }
+    ensures began { OnErr result (Began W.takes sink.old room.old (line_of (piece_at cut.now.key.now cut.now.thread cut.now.log.now cut.now.size index)) sink.new) }
     ensures one_failed { OnErr result (W.failed sink.new ≡ W.failed sink.old + 1) }
 {
     let (bytes, count) = entries.next_bytes(cut.size);
     open_line(room, cut, index, count);
-    write_digits(&mut room.digits, sink, bytes)?;
+    write_digits(room, sink, bytes)?;
     close_line(room, &end_at(cut.log, cut.size, index));
-    flush(&mut room.digits, sink)
+    flush(room, sink)
 }
 
 /// Writes the lines of a thread's pieces, by rising place; the last of them may be left in the room.
@@ -130,12 +119,12 @@ fn write_thread<W: Sink>(
     cut: &ThreadCut<'_>,
 ) -> Result<(), Failed>
     requires sink { W.failed sink.old < 2 ^ 64 - 1 }
-    requires room { length room.old.digits ≤ 65536 }
+    requires room { length room.old ≤ 65536 }
     requires rules { IsCut cut.now.key.now cut.now.thread cut.now.log.now cut.now.size }
-    ensures wrote { OnOk result (Wrote W.takes sink.old room.old.digits (flat_map line_of (thread_pieces cut.now.key.now cut.now.thread cut.now.log.now cut.now.size)) sink.new room.new.digits) }
-    ensures room { OnOk result (length room.new.digits ≤ 65536) }
+    ensures wrote { OnOk result (Wrote W.takes sink.old room.old (flat_map line_of (thread_pieces cut.now.key.now cut.now.thread cut.now.log.now cut.now.size)) sink.new room.new) }
+    ensures room { OnOk result (length room.new ≤ 65536) }
     ensures none_failed { OnOk result (W.failed sink.new ≡ W.failed sink.old) }
-    ensures began { OnErr result (Began W.takes sink.old room.old.digits (flat_map line_of (thread_pieces cut.now.key.now cut.now.thread cut.now.log.now cut.now.size)) sink.new) }
+    ensures began { OnErr result (Began W.takes sink.old room.old (flat_map line_of (thread_pieces cut.now.key.now cut.now.thread cut.now.log.now cut.now.size)) sink.new) }
     ensures one_failed { OnErr result (W.failed sink.new ≡ W.failed sink.old + 1) }
 {
     let log = cut.log.entries();
@@ -155,13 +144,13 @@ fn write_threads<W: Sink>(
     size: usize,
 ) -> Result<(), Failed>
     requires sink { W.failed sink.old < 2 ^ 64 - 1 }
-    requires room { length room.old.digits ≤ 65536 }
+    requires room { length room.old ≤ 65536 }
     requires keeps { KeepsRules key.now logs.now }
     requires some { 0 < size }
     requires few { size ≤ 4096 }
-    ensures wrote { OnOk result (Wrote W.takes sink.old room.old.digits (flat_map line_of (pieces_of key.now logs.now size)) sink.new room.new.digits) }
+    ensures wrote { OnOk result (Wrote W.takes sink.old room.old (flat_map line_of (pieces_of key.now logs.now size)) sink.new room.new) }
     ensures none_failed { OnOk result (W.failed sink.new ≡ W.failed sink.old) }
-    ensures began { OnErr result (Began W.takes sink.old room.old.digits (flat_map line_of (pieces_of key.now logs.now size)) sink.new) }
+    ensures began { OnErr result (Began W.takes sink.old room.old (flat_map line_of (pieces_of key.now logs.now size)) sink.new) }
     ensures one_failed { OnErr result (W.failed sink.new ≡ W.failed sink.old + 1) }
 {
     for (thread, log) in logs.iter().enumerate() {
@@ -196,7 +185,7 @@ pub fn write_lines<W: Sink>(
     ensures begun { OnErr result ((part rest : List ℕ) × (flat_map line_of (pieces_of key.now recorded.now.threads size) ≡ part ++ rest) × W.takes sink.old part sink.new) }
     ensures one_failed { OnErr result (W.failed sink.new ≡ W.failed sink.old + 1) }
 {
-    room.digits.clear();
+    room.clear();
     write_threads(room, sink, key, recorded.log(), size as usize)?;
-    write_all(sink, room.digits.as_slice())
+    write_all(sink, room.as_slice())
 }

@@ -8,7 +8,7 @@ use Rattle.run_pieces.proofs.line_writing.write_digits.Goals as goal
 
 pub loop-rest-init : goal.loop-rest-init
 loop-rest-init g c = record {
-  lines = lines_none g.W.Sink.takes g.met.W.Sink.takes_nothing c.args.sink.now c.args.digits.now (encode_lower c.args.bytes.now) (encode_lower c.args.bytes.now) refl;
+  lines = lines_none g.W.Sink.takes g.met.W.Sink.takes_nothing c.args.sink.now c.args.room.now (encode_lower c.args.bytes.now) (encode_lower c.args.bytes.now) refl;
   room = c.requires.room;
   same = refl;
 }

@@ -6,8 +6,8 @@ use Rattle.run_pieces.proofs.line_writing.write_digits.Given as goal
 
 abbrev pub invariant-loop-rest : goal.invariant-loop-rest
 invariant-loop-rest g l = record {
-  lines : Lines g.W.Sink.takes l.initial.sink l.initial.digits (encode_lower l.bytes) (encode_lower l.rest) l.sink l.digits;
-  room : length l.digits ≤ 65792;
+  lines : Lines g.W.Sink.takes l.initial.sink l.initial.room (encode_lower l.bytes) (encode_lower l.rest) l.sink l.room;
+  room : length l.room ≤ 65792;
   same : g.W.Sink.failed l.sink ≡ g.W.Sink.failed l.initial.sink;
 }
 

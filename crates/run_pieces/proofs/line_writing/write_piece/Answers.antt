@@ -22,7 +22,7 @@ pub returns-clause-wrote : goal.returns-clause-wrote
 returns-clause-wrote g c =
     let piece = piece_at c.args.cut.now.key.now c.args.cut.now.thread c.args.cut.now.log.now c.args.cut.now.size c.args.index in
     let spelled = c.next_bytes-count.ensures.bytes ∙ ap (λ es. flat_map entry_bytes (take c.args.cut.now.size es)) c.requires.at in
-    let closed = c.close_line.ensures.text ∙ ap (λ e. c.write_digits.new.digits ++ encode_lower (end_bytes e) ++ 10 ∷ []) c.end_at.ensures ∙ append_assoc c.write_digits.new.digits (encode_lower (end_bytes piece.end)) (10 ∷ []) in
+    let closed = c.close_line.ensures.text ∙ ap (λ e. c.write_digits.new.room ++ encode_lower (end_bytes e) ++ 10 ∷ []) c.end_at.ensures ∙ append_assoc c.write_digits.new.room (encode_lower (end_bytes piece.end)) (10 ∷ []) in
     on_ok_weaker c.flush.result
     (λ v. line_wrote g.met.W.Sink.takes_more piece c.next_bytes-count.result.0.now spelled c.open_line.ensures.text c.in_ok-write_digits.ensures.wrote closed v)
     c.flush.ensures.wrote
@@ -31,7 +31,7 @@ pub returns-clause-began : goal.returns-clause-began
 returns-clause-began g c =
     let piece = piece_at c.args.cut.now.key.now c.args.cut.now.thread c.args.cut.now.log.now c.args.cut.now.size c.args.index in
     let spelled = c.next_bytes-count.ensures.bytes ∙ ap (λ es. flat_map entry_bytes (take c.args.cut.now.size es)) c.requires.at in
-    let closed = c.close_line.ensures.text ∙ ap (λ e. c.write_digits.new.digits ++ encode_lower (end_bytes e) ++ 10 ∷ []) c.end_at.ensures ∙ append_assoc c.write_digits.new.digits (encode_lower (end_bytes piece.end)) (10 ∷ []) in
+    let closed = c.close_line.ensures.text ∙ ap (λ e. c.write_digits.new.room ++ encode_lower (end_bytes e) ++ 10 ∷ []) c.end_at.ensures ∙ append_assoc c.write_digits.new.room (encode_lower (end_bytes piece.end)) (10 ∷ []) in
     on_err_weaker c.flush.result
     (λ v. line_began g.met.W.Sink.takes_more piece c.next_bytes-count.result.0.now spelled c.open_line.ensures.text c.in_ok-write_digits.ensures.wrote closed v)
     c.flush.ensures.began

@@ -14,7 +14,7 @@ loop-index-init g c =
     let f = piece_at c.args.cut.now.key.now c.args.cut.now.thread c.args.cut.now.log.now c.args.cut.now.size in
     let n = piece_count c.args.cut.now.size (length c.args.cut.now.log.now.entries) in
     record {
-      lines = lines_none g.W.Sink.takes g.met.W.Sink.takes_nothing c.args.sink.now c.args.room.now.digits (flat_map line_of (thread_pieces c.args.cut.now.key.now c.args.cut.now.thread c.args.cut.now.log.now c.args.cut.now.size)) (lines_left f 0 n) (lines_at_first f n);
+      lines = lines_none g.W.Sink.takes g.met.W.Sink.takes_nothing c.args.sink.now c.args.room.now (flat_map line_of (thread_pieces c.args.cut.now.key.now c.args.cut.now.thread c.args.cut.now.log.now c.args.cut.now.size)) (lines_left f 0 n) (lines_at_first f n);
       room = c.requires.room;
       same = refl;
       left = search rules;

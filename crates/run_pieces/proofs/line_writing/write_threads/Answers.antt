@@ -26,7 +26,7 @@ pub loop-thread-init : goal.loop-thread-init
 loop-thread-init g c =
     let text = flat_map line_of (pieces_of c.args.key.now c.args.logs.now c.args.size) in
     record {
-      lines = lines_none g.W.Sink.takes g.met.W.Sink.takes_nothing c.args.sink.now c.args.room.now.digits text text refl;
+      lines = lines_none g.W.Sink.takes g.met.W.Sink.takes_nothing c.args.sink.now c.args.room.now text text refl;
       room = c.requires.room;
       same = refl;
     }

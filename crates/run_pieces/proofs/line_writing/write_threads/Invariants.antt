@@ -8,7 +8,7 @@ use Rattle.run_pieces.proofs.line_writing.write_threads.Given as goal
 
 abbrev pub invariant-loop-thread : goal.invariant-loop-thread
 invariant-loop-thread g l = record {
-  lines : Lines g.W.Sink.takes l.initial.sink l.initial.room.digits (flat_map line_of (pieces_of l.key l.logs l.size)) (flat_map line_of (pieces_from l.key l.thread (drop l.thread l.logs) l.size)) l.sink l.room.digits;
-  room : length l.room.digits ≤ 65536;
+  lines : Lines g.W.Sink.takes l.initial.sink l.initial.room (flat_map line_of (pieces_of l.key l.logs l.size)) (flat_map line_of (pieces_from l.key l.thread (drop l.thread l.logs) l.size)) l.sink l.room;
+  room : length l.room ≤ 65536;
   same : g.W.Sink.failed l.sink ≡ g.W.Sink.failed l.initial.sink;
 }
