@@ -136,18 +136,17 @@ fn running<T: Threads + Wait + Sync>(
     schedule: &str,
     lines: &str,
 ) -> Done {
-    let output = MemorySink::new(alloc, 65536, None);
-    writing_to(threads, alloc, words, schedule, lines, output)
+    failing_at(threads, alloc, words, schedule, lines, None)
 }
 
-/// The same, with an output that may fail.
-fn writing_to<T: Threads + Wait + Sync>(
+/// The same, with an output that takes 100 bytes at a call, and fails at this one.
+fn failing_at<T: Threads + Wait + Sync>(
     threads: &T,
     alloc: Global,
     words: &[&str],
     schedule: &str,
     lines: &str,
-    mut output: MemorySink,
+    fails_at: Option<u64>,
 ) -> Done {
     let notes = Memory::new(alloc);
     let mut files = MemoryFiles {
@@ -157,6 +156,7 @@ fn writing_to<T: Threads + Wait + Sync>(
         lines,
     };
     let mut source = MemorySource::new(b"".as_slice(), 1, None);
+    let mut output = MemorySink::new(alloc, 100, fails_at);
     let mut errors = MemorySink::new(alloc, 65536, None);
     let status = run(
         &notes,
@@ -196,7 +196,7 @@ fn records_by_a_schedule(rt: HostRuntime) -> Result<(), Fail> {
     Ok(())
 }
 
-/// Two threads in turn, in pieces of one entry: an output that takes 100 bytes at a call, and fails at one of five.
+/// Two threads in turn, in pieces of one entry: the output fails at one of five calls.
 #[test]
 fn writes_a_beginning_of_the_pieces_where_writing_fails(rt: HostRuntime) -> Result<(), Fail> {
     let words = [
@@ -216,8 +216,7 @@ fn writes_a_beginning_of_the_pieces_where_writing_fails(rt: HostRuntime) -> Resu
     // In each thread a piece of 76 bytes and one of 89, which has the end: two digits a byte, and the line ends.
     assert_eq!(rt; whole.output.taken().len(), 664);
     for call in 0..5 {
-        let output = MemorySink::new(rt.alloc(), 100, Some(call + 1));
-        let cut = writing_to(&rt, rt.alloc(), words.as_slice(), picks, "", output);
+        let cut = failing_at(&rt, rt.alloc(), words.as_slice(), picks, "", Some(call + 1));
         assert_eq!(rt; text(&cut.errors), "refused 45 SinkFailed\n");
         assert_eq!(rt; cut.status, 1);
         assert_eq!(rt; cut.output.taken().len() as u64, 100 * call);
