@@ -1,7 +1,9 @@
 -- Which seats can go on: the others rest until more calls were entered, or have left.
-use Rattle.std.specs.Prelude.{ℕ, Bool, true, false, ◌==◌, nat_lt}
+use Rattle.std.specs.Prelude.{ℕ, ◌+◌, Bool, true, false, ◌==◌, nat_lt, cond, List, [], ◌∷◌}
 use Rattle.shared_core.specs.declared.resting.Standing.{Standing}
 use Rattle.shared_core.specs.declared.resting.Standing.TheVariants.{Goes, RestsUntil, Left}
+use Rattle.shared_core.specs.declared.resting.Wakes.{Wakes}
+use Rattle.shared_core.specs.declared.resting.Wakes.TheVariants.{Nobody, One, All}
 
 -- a seat rests until just so many calls were entered
 abbrev pub is_awaited : ℕ → Standing → Bool
@@ -14,3 +16,23 @@ abbrev pub is_still : ℕ → Standing → Bool
 is_still length Goes = false
 is_still length (RestsUntil until) = nat_lt length until
 is_still length Left = true
+
+-- the numbers of the seats that rest until just so many calls, where the first seat has this number
+abbrev pub awaiting : ℕ → ℕ → List Standing → List ℕ
+awaiting length number [] = []
+awaiting length number (s ∷ ss) = cond (is_awaited length s) (number ∷ awaiting length (number + 1) ss) (awaiting length (number + 1) ss)
+
+-- the same with one seat more
+abbrev pub with_one : Wakes → ℕ → Wakes
+with_one Nobody n = One n
+with_one (One m) n = All
+with_one All n = All
+
+-- which seats are woken where these are awaited, and so many before them
+abbrev pub woken : Wakes → List ℕ → Wakes
+woken before [] = before
+woken before (n ∷ ns) = woken (with_one before n) ns
+
+-- which seats are woken where these are awaited
+abbrev pub wakes : List ℕ → Wakes
+wakes ns = woken Nobody ns

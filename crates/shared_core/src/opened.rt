@@ -18,6 +18,7 @@ use rw_objects::{ObjectSpace, Versions};
 use shared_journal::{Held, Seat};
 use shared_parts::{Books, Call, Count, Lane, Opening, Stripe};
 use std::alloc::Global;
+use std::array;
 use std::boxed::Box;
 use std::sync::ledger::{Blank, Book, Share};
 use std::sync::{Condvar, Mutex, RwLock};
@@ -191,7 +192,7 @@ impl<S: Striped + Drop, J: Opening<S, S::Value, S::Fixed>> Shared<S, J> {
         let shared = Shared {
             parts,
             journal: Mutex::new(Journal { held, resting }),
-            changed: Condvar::new(),
+            changed: array::from_fn(|_| Condvar::new()),
         };
         Ok((shared, seats))
     }

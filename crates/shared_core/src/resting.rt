@@ -1,9 +1,9 @@
 //! Which seats can go on.
 
 ghost use Rattle.std.specs.Prelude.{◌≡◌, ◌||◌, IfOk, false, replicate, slice_set};
-ghost use Rattle.std.specs.List.{list_all, list_any};
+ghost use Rattle.std.specs.List.{list_all};
 ghost use Rattle.shared_core.specs.declared.resting.Standing.TheVariants.{Goes, RestsUntil, Left};
-ghost use Rattle.shared_core.specs.Resting.{is_awaited, is_still};
+ghost use Rattle.shared_core.specs.Resting.{awaiting, is_awaited, is_still, wakes, with_one};
 
 use std::alloc::Global;
 use wasm_types::NoMemory;
@@ -43,6 +43,29 @@ impl Standing {
     }
 }
 
+/// Which of the seats that rest are to be woken.
+#[derive(Clone, Copy, Debug, PartialEq, Eq)]
+pub(crate) enum Wakes {
+    /// None.
+    Nobody,
+    /// The seat with this number.
+    One(usize),
+    /// All, as more than one is.
+    All,
+}
+
+impl Wakes {
+    /// The same with one seat more.
+    fn with(self, number: usize) -> Wakes
+        ensures { result ≡ with_one self number }
+    {
+        match self {
+            Wakes::Nobody => Wakes::One(number),
+            Wakes::One(_) | Wakes::All => Wakes::All,
+        }
+    }
+}
+
 /// What each seat does, by its number, and whether at some time no seat could go on.
 #[derive(Debug, Drop)]
 pub(crate) struct Resting {
@@ -63,12 +86,18 @@ impl Resting {
         })
     }
 
-    /// Whether a seat rests until just so many calls were entered, as now they are, so that it is to be woken. Each call is
-    /// told, so a seat is woken once.
-    pub(crate) fn entered(&self, length: u64) -> bool
-        ensures { result ≡ list_any (λ s. is_awaited length s) self.now.seats.items }
+    /// Which seats are to be woken, as they rest until just so many calls were entered as now are. Each call is told, so a seat is
+    /// woken once.
+    pub(crate) fn entered(&self, length: u64) -> Wakes
+        ensures { result ≡ wakes (awaiting length 0 self.now.seats.items) }
     {
-        self.seats.iter().any(|seat| seat.is_awaited(length))
+        let mut wakes = Wakes::Nobody;
+        for (number, seat) in self.seats.iter().enumerate() {
+            if seat.is_awaited(length) {
+                wakes = wakes.with(number);
+            }
+        }
+        wakes
     }
 
     /// A seat rests until `until` calls were entered; `length` are. Answers whether no seat can go on.

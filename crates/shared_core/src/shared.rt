@@ -9,41 +9,44 @@ use crate::hold::Hold;
 use crate::journal::Journal;
 use crate::missing::opens_at;
 use crate::parts::Parts;
+use crate::resting::Wakes;
 use rw_objects::Entry;
 use shared_journal::{Seat, Tried};
 use shared_parts::Opening;
 use std::alloc::Global;
-use std::hint::spin_loop;
-use std::sync::{Condvar, Mutex, MutexGuard, Wait};
+use std::sync::{Condvar, Mutex, Wait};
 use striped_objects::Striped;
-use wasm_types::NoMemory;
-
-/// How often the journal's lock is asked for before a thread sleeps until it is free.
-const MOST_TRIES: u32 = 1_000;
+use wasm_types::{MOST_THREADS, NoMemory};
 
 /// A space shared by threads, each of which has a seat: its parts, the journal of all calls, and what wakes those that rest.
 #[derive(Drop)]
 pub struct Shared<S: Striped, J: Opening<S, S::Value, S::Fixed>> {
     pub(crate) parts: Parts<S, J>,
     pub(crate) journal: Mutex<Journal<S, J>>,
-    pub(crate) changed: Condvar,
+    pub(crate) changed: [Condvar; MOST_THREADS],
 }
 
 impl<S: Striped, J: Opening<S, S::Value, S::Fixed>> Shared<S, J> {
-    /// The journal's lock. It is held for less time than it takes to sleep and be woken, so it is asked for often before the
-    /// thread sleeps.
-    fn lock_journal<R: Wait>(&self, rt: &R) -> MutexGuard<'_, Journal<S, J>> {
-        for _ in 0..MOST_TRIES {
-            if let Some(journal) = self.journal.try_lock() {
-                return journal;
+    /// What wakes a seat. Seats whose numbers differ by a multiple of the most threads share one.
+    fn changed(&self, seat: usize) -> &Condvar {
+        &self.changed[seat % MOST_THREADS]
+    }
+
+    /// Wakes seats that rest.
+    fn wake(&self, wakes: Wakes) {
+        match wakes {
+            Wakes::Nobody => {}
+            Wakes::One(seat) => self.changed(seat).notify_all(),
+            Wakes::All => {
+                for changed in &self.changed {
+                    changed.notify_all();
+                }
             }
-            spin_loop();
         }
-        self.journal.lock(rt)
     }
 
     /// Tries a call once. The locks of the touched parts are asked for in rising order, then the journal's, which is given
-    /// back first. Seats that rest are woken where one of them rests until just so many calls.
+    /// back first. A seat that rests until just so many calls is woken.
     fn try_call<R: Wait, H: Hold>(
         &self,
         rt: &R,
@@ -64,22 +67,24 @@ impl<S: Striped, J: Opening<S, S::Value, S::Fixed>> Shared<S, J> {
         hold.before(thread, place);
         let touches = S::touches(alloc, &op);
         let kept = self.parts.keep(rt, &touches);
-        let mut journal = self.lock_journal(rt);
+        let mut journal = self.journal.lock(rt);
         let mut lents = kept.lend(rt, &touches);
         let answer = journal
             .held
             .enter(alloc, seat, op, expected, &touches, &mut lents);
         drop(lents);
         let is_entered = matches!(&answer, Ok(Tried::Done(..)));
-        let wakes = is_entered && journal.resting.entered(journal.length());
+        let wakes = if is_entered {
+            journal.resting.entered(journal.length())
+        } else {
+            Wakes::Nobody
+        };
         drop(journal);
         if is_entered {
             hold.inside(thread, place);
         }
         drop(kept);
-        if wakes {
-            self.changed.notify_all();
-        }
+        self.wake(wakes);
         hold.after(thread, place);
         answer
     }
@@ -138,11 +143,11 @@ impl<S: Striped, J: Opening<S, S::Value, S::Fixed>> Shared<S, J> {
         }
         if journal.resting.rest(number, until, length) {
             drop(journal);
-            self.changed.notify_all();
+            self.wake(Wakes::All);
             return length;
         }
         let mut journal = self
-            .changed
+            .changed(number as usize)
             .wait_while(rt, journal, |journal| journal.is_still(until));
         journal.resting.goes_on(number);
         journal.length()
@@ -183,7 +188,7 @@ impl<S: Striped, J: Opening<S, S::Value, S::Fixed>> Shared<S, J> {
         let is_over = journal.resting.leave(number, length);
         drop(journal);
         if is_over {
-            self.changed.notify_all();
+            self.wake(Wakes::All);
         }
     }
 }
