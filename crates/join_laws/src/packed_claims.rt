@@ -52,6 +52,20 @@ impl<'a, T: Packed> PackedClaim<'a, T> {
             None => Flat::Clash,
         }
     }
+
+    /// Puts the claim in the place of another, so that no item is moved where both are known.
+    pub(crate) fn put(&self, alloc: Global, claim: &mut Flat<T>)
+        ensures { claim.new ≡ self.now }
+    {
+        if let Some(bytes) = self.bytes {
+            if let Flat::Known(item) = claim {
+                if item.take_in_place(alloc, bytes) {
+                    return;
+                }
+            }
+        }
+        *claim = self.claim(alloc);
+    }
 }
 
 /// Takes a place and what is claimed there from the front of bytes.

@@ -6,10 +6,9 @@ ghost use Rattle.join_laws.specs.Keyed.{value_at};
 ghost use Rattle.join_laws.specs.Packed.{Rising, read_pairs};
 
 use crate::flat::Flat;
-use crate::page::take_pair;
+use crate::packed_claims::{PackedClaim, pass_pair};
 use crate::runs::{PAGE, Runs};
 use log_pieces::Packed;
-use std::alloc::Global;
 use std::marker::Model;
 
 /// What is left to read of a page: so many pairs, at places from `low` on.
@@ -21,7 +20,7 @@ pub(crate) struct Ahead<'a> {
 }
 
 /// What is claimed of a place, and what is left to read behind it.
-fn read_at<T: Packed>(alloc: Global, ahead: Ahead<'_>, at: u8) -> (Option<Flat<T>>, Ahead<'_>)
+fn read_at<T: Packed>(ahead: Ahead<'_>, at: u8) -> (Option<PackedClaim<'_, T>>, Ahead<'_>)
     requires from { ahead.low ≤ at }
     requires at { at < 128 }
     requires rising { Rising ahead.low (read_pairs T.read ahead.left ahead.rest.now) 128 }
@@ -35,7 +34,7 @@ fn read_at<T: Packed>(alloc: Global, ahead: Ahead<'_>, at: u8) -> (Option<Flat<T
         if now.left == 0 {
             return (None, now);
         }
-        match take_pair::<T>(alloc, now.rest) {
+        match pass_pair::<T>(now.rest) {
             None => return (None, now),
             Some((pair, behind)) => {
                 if pair.0 > at {
@@ -105,17 +104,24 @@ impl<'a, T: Packed> RunsCursor<'a, T> {
         self.runs.page_ahead(number)
     }
 
-    /// What is claimed of a place.
-    pub fn get(&mut self, place: u32) -> Option<Flat<T>>
-        ensures found { result ≡ value_at nat_cmp self.old place }
+    /// Reads what is claimed of a place, in the place of what was read before, so that no item is moved.
+    pub fn read(&mut self, place: u32, claim: &mut Option<Flat<T>>)
+        ensures found { claim.new ≡ value_at nat_cmp self.old place }
         ensures same { self.new ≡ self.old }
     {
         let number = place / PAGE;
         let at = (place % PAGE) as u8;
         let ahead = self.ahead_of(number, at);
-        let (found, ahead) = read_at::<T>(self.runs.allocator(), ahead, at);
+        let (found, ahead) = read_at::<T>(ahead, at);
         self.number = number;
         self.ahead = ahead;
-        found
+        let alloc = self.runs.allocator();
+        match found {
+            None => *claim = None,
+            Some(found) => match claim {
+                None => *claim = Some(found.claim(alloc)),
+                Some(before) => found.put(alloc, before),
+            },
+        }
     }
 }

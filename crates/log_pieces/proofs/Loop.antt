@@ -14,6 +14,10 @@ use Rattle.log_pieces.specs.Reading.{Reader, Refuses, read_times}
 abbrev pub behind : {A : Type 0} → List A → Option (List A × List ℕ) → Option (List A × List ℕ)
 behind xs read = option_map (λ x. (xs ++ x.0, x.1)) read
 
+pub whole : {A : Type 0} (read : Option (List A × List ℕ)) → behind [] read ≡ read
+whole None = refl
+whole (Some x) = refl
+
 module _ {A : Type 0} (read : Reader A) where
   regroup : (xs : List A) (x : A) (rest : Option (List A × List ℕ)) → behind xs (option_map (λ y. (x ∷ y.0, y.1)) rest) ≡ behind (xs ++ x ∷ []) rest
   regroup xs x (Some y) = ap (λ (ys : List A). Some (ys, y.1)) (simp append_assoc)

@@ -1,7 +1,8 @@
 -- Values that are passed over.
-use Rattle.std.proofs.Common.{◌≡◌, ℕ, Bool, true, false, List, [], ◌∷◌, Option, Some, None, refl, ap}
-use Rattle.std.specs.Prelude.{nat_lt, if◌then◌else◌}
-use Rattle.std.specs.Option.{option_and_then}
+use Rattle.std.proofs.Common.{◌≡◌, ℕ, Bool, true, false, List, [], ◌∷◌, Option, Some, None, refl, ap, sym, ◌∙◌}
+use Rattle.std.specs.Prelude.{nat_lt, is_some, if◌then◌else◌}
+use Rattle.std.specs.Option.{option_and_then, option_map}
+use Rattle.std.specs.Borrow.{Bor}
 use Rattle.rw_objects.specs.declared.touch.Found.{Found}
 use Rattle.rw_objects.specs.declared.entry.Kind.{Kind}
 use Rattle.rw_objects.specs.declared.entry.Entry.{Entry}
@@ -47,3 +48,14 @@ entry_by_head (kind ∷ rest) = by_kind (kind_at kind) rest
 pub behind_entry : (kind : Kind) (touches : Option (List Found × List ℕ)) → behind_read (entry_of kind touches) ≡ behind_read touches
 behind_entry kind None = refl
 behind_entry kind (Some x) = refl
+
+-- an entry whose head was read, with the touches that were put into a list
+module _ (bytes rest : List ℕ) (kind : Kind) (count : ℕ) (found : List Found) (head : read_head bytes ≡ Some ((kind, count), rest)) where
+  pub entry_put : (left : Option (Bor (List ℕ))) → option_map (λ r. (found, r.now)) left ≡ read_times count read_touch rest → is_some left ≡ true
+      → (behind : List ℕ) × (read_entry bytes ≡ Some (record { kind = kind; found = found }, behind))
+  entry_put None touches some = absurd (cc some)
+  entry_put (Some r) touches some = (r.now, entry_by_head bytes ∙ ap after_head head ∙ ap (entry_of kind) (sym touches))
+
+  pub no_entry_put : (left : Option (Bor (List ℕ))) → option_map (λ r. (found, r.now)) left ≡ read_times count read_touch rest → is_some left ≡ false → read_entry bytes ≡ None
+  no_entry_put None touches none = entry_by_head bytes ∙ ap after_head head ∙ ap (entry_of kind) (sym touches)
+  no_entry_put (Some r) touches none = absurd (cc none)

@@ -673,10 +673,15 @@ fn a_cursor_reads_places_in_any_order(rt: HostRuntime) -> Result<(), Fail> {
     let second = whole.entries().get(1).ok_or("the piece has two entries")?;
     let replica = delivered(alloc, &[WHOLE, OTHER_FIRST])?;
     let mut cursor = replica.log().cursor(0).ok_or("thread 0")?;
-    assert_eq!(rt; cursor.get(0), Some(Flat::Clash));
-    assert_eq!(rt; cursor.get(1), Some(Flat::Known(second.copy(alloc)?)));
-    assert_eq!(rt; cursor.get(200), None);
-    assert_eq!(rt; cursor.get(0), Some(Flat::Clash));
+    let mut claim = None;
+    cursor.read(0, &mut claim);
+    assert_eq!(rt; claim, Some(Flat::Clash));
+    cursor.read(1, &mut claim);
+    assert_eq!(rt; claim, Some(Flat::Known(second.copy(alloc)?)));
+    cursor.read(200, &mut claim);
+    assert_eq!(rt; claim, None);
+    cursor.read(0, &mut claim);
+    assert_eq!(rt; claim, Some(Flat::Clash));
     assert!(rt; replica.log().cursor(16).is_none());
     Ok(())
 }

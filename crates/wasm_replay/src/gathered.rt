@@ -48,9 +48,7 @@ impl<'a> ReadLog for Gathered<'a> {
     }
 
     fn read(&self, reader: &mut LogReader<'a>, thread: u32, place: u32) {
-        let index = thread as usize;
-        let one = reader[index].take();
-        reader[index] = ThreadReader::read_on(one, self.log, thread, place);
+        ThreadReader::read_on(&mut reader[thread as usize], self.log, thread, place);
     }
 
     fn held<'r>(reader: &'r LogReader<'a>, thread: u32) -> Option<&'r Flat<Entry>> {

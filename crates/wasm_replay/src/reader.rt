@@ -37,7 +37,8 @@ impl<'a> ThreadReader<'a> {
         match log.cursor(thread) {
             None => None,
             Some(mut cursor) => {
-                let item = cursor.get(place);
+                let mut item = None;
+                cursor.read(place, &mut item);
                 Some(ThreadReader {
                     cursor,
                     place,
@@ -53,7 +54,7 @@ impl<'a> ThreadReader<'a> {
         ensures same { self.new.cursor ≡ self.old.cursor }
     {
         if place != self.place {
-            self.item = self.cursor.get(place);
+            self.cursor.read(place, &mut self.item);
             self.place = place;
         }
     }
@@ -65,23 +66,20 @@ impl<'a> ThreadReader<'a> {
         self.item.as_ref()
     }
 
-    /// The reader of a thread when it has read the item at a place; it is made where there was none.
+    /// Has the reader of a thread read the item at a place; it is made where there was none.
     pub(crate) fn read_on(
-        reader: Option<ThreadReader<'a>>,
+        reader: &mut Option<ThreadReader<'a>>,
         log: &'a Log,
         thread: u32,
         place: u32,
-    ) -> Option<ThreadReader<'a>>
-        requires { ReadsThread log.now thread reader }
-        ensures holds { thread_holds result ≡ entry_at log.now thread place }
-        ensures reads { ReadsThread log.now thread result }
+    )
+        requires { ReadsThread log.now thread reader.old }
+        ensures holds { thread_holds reader.new ≡ entry_at log.now thread place }
+        ensures reads { ReadsThread log.now thread reader.new }
     {
         match reader {
-            Some(mut one) => {
-                one.read(place);
-                Some(one)
-            }
-            None => ThreadReader::new(log, thread, place),
+            Some(one) => one.read(place),
+            None => *reader = ThreadReader::new(log, thread, place),
         }
     }
 }

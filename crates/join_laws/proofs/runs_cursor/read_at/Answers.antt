@@ -19,11 +19,6 @@ returns-then-pair-at-2-clause-ahead g c =
     let next = read_next g.T.Packed.read c.loop-now.now.left c.loop-now.now.rest.now c.in-Some.pair c.in-Some.behind.now (omega arith) (sym c.in-Some.ensures.taken) in
     same_more c.loop-now.invariant c.in-Some.pair (read_pairs g.T.Packed.read (c.loop-now.now.left - 1) c.in-Some.behind.now) next
 
-pub loop-now-preserved-else-pair-at-2 : goal.loop-now-preserved-else-pair-at-2
-loop-now-preserved-else-pair-at-2 g c =
-    let next = read_next g.T.Packed.read c.loop-now.now.left c.loop-now.now.rest.now c.in-Some.pair c.in-Some.behind.now (omega arith) (sym c.in-Some.ensures.taken) in
-    still_ahead c.loop-now.invariant c.in-Some.pair (read_pairs g.T.Packed.read (c.loop-now.now.left - 1) c.in-Some.behind.now) next (omega arith)
-
 pub loop-now-preserved : goal.loop-now-preserved
 loop-now-preserved g c =
     let next = read_next g.T.Packed.read c.loop-now.now.left c.loop-now.now.rest.now c.in-Some.pair c.in-Some.behind.now (omega arith) (sym c.in-Some.ensures.taken) in

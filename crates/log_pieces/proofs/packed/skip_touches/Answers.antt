@@ -1,15 +1,10 @@
-use Rattle.std.proofs.Common.{◌≡◌, ◌-◌, ◌++◌, ◌∷◌, [], Option, Some, None, List, ℕ, refl, ap, sym, arith}
-use Rattle.rw_objects.specs.declared.touch.Found.{Found}
+use Rattle.std.proofs.Common.{◌≡◌, ◌-◌, ◌++◌, ◌∷◌, [], ap, sym, arith}
 use Rattle.log_pieces.specs.declared.fault.DecodeFault.TheVariants.{NotAPiece}
 use Rattle.log_pieces.specs.Packed.{behind_read}
 use Rattle.log_pieces.specs.Reading.{read_times, read_touch}
-use Rattle.log_pieces.proofs.Loop.{behind, goes_on, fails, is_done}
+use Rattle.log_pieces.proofs.Loop.{goes_on, fails, is_done, whole}
 use Rattle.log_pieces.proofs.Passing.{passed_some, passed_none}
 use Rattle.log_pieces.proofs.packed.skip_touches.Goals as goal
-
-whole : (read : Option (List Found × List ℕ)) → behind [] read ≡ read
-whole None = refl
-whole (Some x) = refl
 
 pub loop-init : goal.loop-init
 loop-init c = let all : c.args.count - 0 ≡ c.args.count = omega arith in ([], rw all (whole (read_times c.args.count read_touch c.args.bytes.now)))
