@@ -1,7 +1,8 @@
 //! The event that the log has next for a thread.
 
-ghost use Rattle.std.specs.Prelude.{◌≡◌, IfSome, IfOk, OnOk, OnErr, true, false};
+ghost use Rattle.std.specs.Prelude.{◌≡◌, Some, IfSome, IfOk, OnOk, OnErr, true, false};
 ghost use Rattle.event_core.specs.World.{world_of};
+ghost use Rattle.join_laws.specs.declared.flat.Flat.TheVariants.{Known};
 ghost use Rattle.replay_laws.specs.Turns.{input_for};
 ghost use Rattle.replay_gate.specs.Leads.{Leads, IsEventOf};
 
@@ -9,6 +10,7 @@ use crate::gates::{are_of, is_open};
 use crate::read_log::ReadLog;
 use event_core::{Input, Pick, PickStep, World};
 use join_laws::Flat;
+use log_pieces::End;
 use rw_objects::{Entry, Kind, Machine, ObjectSpace};
 use std::alloc::Global;
 use wasm_types::NoMemory;
@@ -47,16 +49,18 @@ fn event_of<M: Machine<S>, S: ObjectSpace>(
     }
 }
 
-/// Makes the event that the log has next for a thread, where the log lets it pass, and answers whether it did. The reader
-/// goes forward to its item, and holds it where the event is not let pass yet.
+/// Makes the event that the log has next for a thread, before the thread's logged end, where the log lets it pass, and
+/// answers whether it did. The reader goes forward to its item, and holds it where the event is not let pass yet.
 pub(crate) fn pass_event<M: Machine<S>, S: ObjectSpace, L: ReadLog>(
     alloc: Global,
     world: &mut World<M, S>,
     log: &L,
     reader: &mut L::Reader,
     thread: u32,
+    end: End,
 ) -> Result<bool, NoMemory>
-    requires { L.reads log.now reader.old }
+    requires reads { L.reads log.now reader.old }
+    requires ends { (L.log log.now).end thread ≡ Some (Known end) }
     ensures reads { L.reads log.now reader.new }
     ensures passes { OnOk result (Leads S.meaning M.code (L.log log.now) (world_of world.old) (world_of world.new)) }
     ensures err { OnErr result (world_of world.new ≡ world_of world.old) }
@@ -65,9 +69,6 @@ pub(crate) fn pass_event<M: Machine<S>, S: ObjectSpace, L: ReadLog>(
         return Ok(false);
     };
     let Some(place) = world.places(thread) else {
-        return Ok(false);
-    };
-    let Some(Flat::Known(end)) = log.end(thread) else {
         return Ok(false);
     };
     if steps >= end.steps || place >= end.places {

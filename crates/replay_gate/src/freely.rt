@@ -1,7 +1,8 @@
 //! Replay by whatever schedule is fast.
 
-ghost use Rattle.std.specs.Prelude.{◌≡◌, true, false, IfOk, OnOk, OnErr};
+ghost use Rattle.std.specs.Prelude.{◌≡◌, true, false, Some, IfOk, OnOk, OnErr};
 ghost use Rattle.event_core.specs.World.{world_of};
+ghost use Rattle.join_laws.specs.declared.flat.Flat.TheVariants.{Known};
 ghost use Rattle.replay_laws.specs.Gates.{IsFinished};
 ghost use Rattle.replay_gate.specs.Leads.{Leads, IsAtEnd};
 
@@ -22,15 +23,14 @@ fn advance<M: Machine<S>, S: ObjectSpace, L: ReadLog>(
     log: &L,
     reader: &mut L::Reader,
     thread: u32,
+    end: End,
 ) -> Result<bool, NoMemory>
-    requires { L.reads log.now reader.old }
+    requires reads { L.reads log.now reader.old }
+    requires ends { (L.log log.now).end thread ≡ Some (Known end) }
     ensures reads { L.reads log.now reader.new }
     ensures ok { OnOk result (Leads S.meaning M.code (L.log log.now) (world_of world.old) (world_of world.new)) }
     ensures err { OnErr result (Leads S.meaning M.code (L.log log.now) (world_of world.old) (world_of world.new)) }
 {
-    let Some(Flat::Known(end)) = log.end(thread) else {
-        return Ok(false);
-    };
     let Some(steps) = world.steps(thread) else {
         return Ok(false);
     };
@@ -39,7 +39,7 @@ fn advance<M: Machine<S>, S: ObjectSpace, L: ReadLog>(
     }
     match world.local_run(thread, end.steps - steps) {
         Err(error) => Err(error),
-        Ok(ran) => match pass_event(alloc, world, log, reader, thread) {
+        Ok(ran) => match pass_event(alloc, world, log, reader, thread, end) {
             Ok(passed) => Ok(passed || ran > 0),
             Err(error) => Err(error),
         },
@@ -59,8 +59,11 @@ fn run_thread<M: Machine<S>, S: ObjectSpace, L: ReadLog>(
     ensures ok { OnOk result (Leads S.meaning M.code (L.log log.now) (world_of world.old) (world_of world.new)) }
     ensures err { OnErr result (Leads S.meaning M.code (L.log log.now) (world_of world.old) (world_of world.new)) }
 {
+    let Some(Flat::Known(end)) = log.end(thread) else {
+        return Ok(false);
+    };
     for times in 0..MOST_STEPS {
-        match advance(alloc, world, log, reader, thread) {
+        match advance(alloc, world, log, reader, thread, end) {
             Ok(true) => {}
             Ok(false) => return Ok(times > 0),
             Err(error) => return Err(error),
