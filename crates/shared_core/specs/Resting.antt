@@ -1,7 +1,7 @@
--- Which seats can go on: the others rest until more calls were entered, or have left.
+-- Which seats can go on: the others rest until more calls were entered, or are away.
 use Rattle.std.specs.Prelude.{ℕ, ◌+◌, Bool, true, false, ◌==◌, nat_lt, cond, List, [], ◌∷◌}
 use Rattle.shared_core.specs.declared.resting.Standing.{Standing}
-use Rattle.shared_core.specs.declared.resting.Standing.TheVariants.{Goes, RestsUntil, Left}
+use Rattle.shared_core.specs.declared.resting.Standing.TheVariants.{Goes, RestsUntil, Away}
 use Rattle.shared_core.specs.declared.resting.Wakes.{Wakes}
 use Rattle.shared_core.specs.declared.resting.Wakes.TheVariants.{Nobody, One, All}
 
@@ -9,13 +9,13 @@ use Rattle.shared_core.specs.declared.resting.Wakes.TheVariants.{Nobody, One, Al
 abbrev pub is_awaited : ℕ → Standing → Bool
 is_awaited length Goes = false
 is_awaited length (RestsUntil until) = until == length
-is_awaited length Left = false
+is_awaited length Away = false
 
--- with so many calls entered, a seat enters none: it rests until there are more, or has left
+-- with so many calls entered, a seat enters none: it rests until there are more, or is away
 abbrev pub is_still : ℕ → Standing → Bool
 is_still length Goes = false
 is_still length (RestsUntil until) = nat_lt length until
-is_still length Left = true
+is_still length Away = true
 
 -- the numbers of the seats that rest until just so many calls, where the first seat has this number
 abbrev pub awaiting : ℕ → ℕ → List Standing → List ℕ

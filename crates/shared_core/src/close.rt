@@ -106,6 +106,7 @@ impl<S: Striped + Drop, J: Opening<S, S::Value, S::Fixed>> Shared<S, J> {
             parts,
             journal,
             changed: _,
+            to_begin: _,
         } = self;
         let Journal { held, resting: _ } = journal.into_inner();
         end(held, alloc, parts, seats)

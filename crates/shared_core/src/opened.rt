@@ -20,6 +20,7 @@ use shared_parts::{Books, Call, Count, Lane, Opening, Stripe};
 use std::alloc::Global;
 use std::array;
 use std::boxed::Box;
+use std::sync::atomic::AtomicU64;
 use std::sync::ledger::{Blank, Book, Share};
 use std::sync::{Condvar, Mutex, RwLock};
 use striped_objects::{Eight, Striped};
@@ -193,6 +194,7 @@ impl<S: Striped + Drop, J: Opening<S, S::Value, S::Fixed>> Shared<S, J> {
             parts,
             journal: Mutex::new(Journal { held, resting }),
             changed: array::from_fn(|_| Condvar::new()),
+            to_begin: AtomicU64::new(u64::from(threads)),
         };
         Ok((shared, seats))
     }

@@ -2,7 +2,7 @@
 
 ghost use Rattle.std.specs.Prelude.{◌≡◌, ◌||◌, IfOk, false, replicate, slice_set};
 ghost use Rattle.std.specs.List.{list_all};
-ghost use Rattle.shared_core.specs.declared.resting.Standing.TheVariants.{Goes, RestsUntil, Left};
+ghost use Rattle.shared_core.specs.declared.resting.Standing.TheVariants.{Goes, RestsUntil, Away};
 ghost use Rattle.shared_core.specs.Resting.{awaiting, is_awaited, is_still, wakes, with_one};
 
 use std::alloc::Global;
@@ -15,8 +15,8 @@ pub(crate) enum Standing {
     Goes,
     /// It enters none before so many calls were entered.
     RestsUntil(u64),
-    /// It enters none any more.
-    Left,
+    /// It enters none: its thread has not begun, or has left.
+    Away,
 }
 
 impl Standing {
@@ -27,18 +27,18 @@ impl Standing {
         match self {
             Standing::Goes => false,
             Standing::RestsUntil(until) => until == length,
-            Standing::Left => false,
+            Standing::Away => false,
         }
     }
 
-    /// Whether the seat enters no call while so many were entered: it rests until there are more, or has left.
+    /// Whether the seat enters no call while so many were entered: it rests until there are more, or is away.
     fn is_still(self, length: u64) -> bool
         ensures { result ≡ is_still length self }
     {
         match self {
             Standing::Goes => false,
             Standing::RestsUntil(until) => length < until,
-            Standing::Left => true,
+            Standing::Away => true,
         }
     }
 }
@@ -74,12 +74,12 @@ pub(crate) struct Resting {
 }
 
 impl Resting {
-    /// Of so many seats each can go on.
+    /// So many seats, none of which has begun.
     pub(crate) fn new(alloc: Global, seats: u8) -> Result<Resting, NoMemory>
-        ensures seats { IfOk result (λ r. r.seats.items ≡ replicate seats Goes) }
+        ensures seats { IfOk result (λ r. r.seats.items ≡ replicate seats Away) }
         ensures stopped { IfOk result (λ r. r.stopped ≡ false) }
     {
-        let seats = vec![in alloc; Standing::Goes; seats as usize]?;
+        let seats = vec![in alloc; Standing::Away; seats as usize]?;
         Ok(Resting {
             seats,
             stopped: false,
@@ -110,7 +110,7 @@ impl Resting {
         self.stop(length)
     }
 
-    /// A seat that rested can go on.
+    /// A seat that was away or rested can go on.
     pub(crate) fn goes_on(&mut self, seat: u32)
         ensures seats { self.new.seats.items ≡ slice_set self.old.seats.items seat Goes }
         ensures stopped { self.new.stopped ≡ self.old.stopped }
@@ -120,11 +120,11 @@ impl Resting {
 
     /// A seat has left; `length` calls are entered. Answers whether no seat can go on.
     pub(crate) fn leave(&mut self, seat: u32, length: u64) -> bool
-        ensures seats { self.new.seats.items ≡ slice_set self.old.seats.items seat Left }
+        ensures seats { self.new.seats.items ≡ slice_set self.old.seats.items seat Away }
         ensures stopped { self.new.stopped ≡ (self.old.stopped || list_all (λ s. is_still length s) self.new.seats.items) }
         ensures answer { result ≡ self.new.stopped }
     {
-        self.put(seat, Standing::Left);
+        self.put(seat, Standing::Away);
         self.stop(length)
     }
 

@@ -14,9 +14,14 @@ use rw_objects::Entry;
 use shared_journal::{Seat, Tried};
 use shared_parts::Opening;
 use std::alloc::Global;
+use std::sync::atomic::{AtomicU64, Ordering};
 use std::sync::{Condvar, Mutex, Wait};
+use std::thread;
 use striped_objects::Striped;
 use wasm_types::{MOST_THREADS, NoMemory};
+
+/// How often a thread that is to rest looks whether all have begun.
+const MOST_LOOKS: u32 = 100_000;
 
 /// A space shared by threads, each of which has a seat: its parts, the journal of all calls, and what wakes those that rest.
 #[derive(Drop)]
@@ -24,6 +29,8 @@ pub struct Shared<S: Striped, J: Opening<S, S::Value, S::Fixed>> {
     pub(crate) parts: Parts<S, J>,
     pub(crate) journal: Mutex<Journal<S, J>>,
     pub(crate) changed: [Condvar; MOST_THREADS],
+    /// How many seats have not begun.
+    pub(crate) to_begin: AtomicU64,
 }
 
 impl<S: Striped, J: Opening<S, S::Value, S::Fixed>> Shared<S, J> {
@@ -132,9 +139,29 @@ impl<S: Striped, J: Opening<S, S::Value, S::Fixed>> Shared<S, J> {
         self.journal.lock(rt).length()
     }
 
+    /// The seat begins: others that rest may wait for its calls. To be called once for a seat, before its first call.
+    pub fn begin<R: Wait>(&self, rt: &R, seat: &mut Seat<S, J>)
+        ensures { seat.new ≡ seat.old }
+    {
+        self.journal.lock(rt).resting.goes_on(seat.thread());
+        self.to_begin.fetch_sub(1, Ordering::SeqCst);
+    }
+
+    /// Waits until all seats have begun, but not for ever: where no thread can be made for a seat, it begins once another's
+    /// thread has left.
+    fn wait_for_beginnings(&self) {
+        for _ in 0..MOST_LOOKS {
+            if self.to_begin.load(Ordering::SeqCst) == 0 {
+                return;
+            }
+            thread::yield_now();
+        }
+    }
+
     /// Waits until so many calls were entered, or no seat can go on. Answers how many were entered: fewer where no seat can go
     /// on.
     fn rest_until<R: Wait>(&self, rt: &R, seat: &Seat<S, J>, until: u64) -> u64 {
+        self.wait_for_beginnings();
         let number = seat.thread();
         let mut journal = self.journal.lock(rt);
         let length = journal.length();
@@ -154,7 +181,7 @@ impl<S: Striped, J: Opening<S, S::Value, S::Fixed>> Shared<S, J> {
     }
 
     /// Waits until more than `seen` calls were entered, or no seat can go on. Answers how many were entered: `seen` where no
-    /// seat can go on, since each rests until there are more, or has left.
+    /// seat can go on, since each rests until there are more, or is away.
     pub fn rest<R: Wait>(&self, rt: &R, seat: &Seat<S, J>, seen: u64) -> u64 {
         self.rest_until(rt, seat, seen.saturating_add(1))
     }

@@ -61,7 +61,7 @@ pub(crate) fn part<S: Striped, J: Opening<S, S::Value, S::Fixed>, T: Drop>(
     Ok((seats, states))
 }
 
-/// The work of one thread, which then leaves.
+/// The work of one thread, which begins and then leaves.
 fn work_one<S: Striped, J: Opening<S, S::Value, S::Fixed>, T, W: Work<S, State = T>, R: Wait>(
     rt: &R,
     alloc: Global,
@@ -74,6 +74,7 @@ fn work_one<S: Striped, J: Opening<S, S::Value, S::Fixed>, T, W: Work<S, State =
     ensures { IsWorked W.leads job.seat job.state result.seat result.state }
 {
     let Job { mut seat, state } = job;
+    shared.begin(rt, &mut seat);
     let state = work.work(rt, alloc, shared, &mut seat, state);
     shared.leave(rt, &mut seat);
     Job { seat, state }
