@@ -12,6 +12,7 @@ use shared_threads::{Work, run_threads};
 use std::alloc::Global;
 use std::marker::Brand;
 use std::sync::{Mutex, Wait};
+use std::thread;
 use std::thread::Threads;
 use striped_memory::StripedMemory;
 use waiter_queues::SharedSpace;
@@ -116,18 +117,33 @@ fn run_loads<R: Threads + Wait + Sync>(
     Ok(sum)
 }
 
-/// Takes a lock and gives it back so many times, and answers how often it did.
-fn locks<R: Wait>(rt: &R, count: u32) -> u64 {
-    let made = Mutex::new(0u64);
+/// Takes a lock and gives it back so many times.
+fn take_often<R: Wait>(rt: &R, lock: &Mutex<u64>, count: u32) {
     for _ in 0..count {
-        let mut guard = made.lock(rt);
+        let mut guard = lock.lock(rt);
         *guard = guard.wrapping_add(1);
     }
-    made.into_inner()
 }
 
-/// Makes what the words ask for: the mode, how many threads, from 1 to 4, and how many loads each makes. It answers how many were
-/// made, and nothing where the words ask for none.
+/// Has each of so many threads take one lock and give it back so many times, and answers how often they did.
+fn run_locks<R: Threads + Wait + Sync>(
+    rt: &R,
+    alloc: Global,
+    threads: u8,
+    count: u32,
+) -> Result<u64, NoMemory> {
+    let lock = Mutex::new(0u64);
+    let counts = vec![in alloc; count; usize::from(threads)]?;
+    thread::map_vec(
+        rt,
+        counts,
+        &|count: u32| -> () { take_often(rt, &lock, count) },
+    )?;
+    Ok(lock.into_inner())
+}
+
+/// Makes what the words ask for: the mode, how many threads, from 1 to 4, and how many loads each makes, or how often it takes a
+/// lock. It answers how many were made, and nothing where the words ask for none.
 pub(crate) fn locks_asked<R: Threads + Wait + Sync>(
     rt: &R,
     alloc: Global,
@@ -140,7 +156,7 @@ pub(crate) fn locks_asked<R: Threads + Wait + Sync>(
         return Ok(None);
     }
     match mode {
-        "mutex" => Ok(Some(locks(rt, count))),
+        "mutex" => Ok(Some(run_locks(rt, alloc, threads, count)?)),
         "apart" => {
             let apart = true;
             Ok(Some(run_loads(rt, alloc, threads, &Loads { apart, count })?))
