@@ -5,7 +5,7 @@ ghost use Rattle.std.specs.List.{All};
 ghost use Rattle.wasm_types.specs.declared.sizes.TheConstants.{MOST_THREADS};
 ghost use Rattle.event_core.specs.Opening.{AllFresh, opening_world};
 ghost use Rattle.event_core.specs.World.{world_of};
-ghost use Rattle.shared_core.specs.Begins.{names_of, ledger_names};
+ghost use Rattle.shared_core.specs.Begins.{names_of, lane_names};
 ghost use Rattle.replay_gate.specs.Leads.{Leads};
 ghost use Rattle.replay_workers.specs.Work.{opened_thread};
 
@@ -91,7 +91,7 @@ where
     S::Seen: Send + Sync,
     S::Decision: Send + Sync,
     requires chain { opened.chain ≡ J.chain }
-    requires named { names_of (S.fixed opened.space) (S.values opened.space) opened.count.name (ledger_names opened.lanes) opened.threads ≡ J.named }
+    requires named { names_of (S.fixed opened.space) (S.values opened.space) opened.count.name (lane_names opened.lanes) opened.threads ≡ J.named }
     requires threads { length machines.items ≡ opened.threads }
     requires few { length machines.items ≤ MOST_THREADS }
     requires fresh { AllFresh M.code M.state (S.fixed opened.space) machines.items }

@@ -9,7 +9,7 @@ ghost use Rattle.shared_parts.specs.Calls.{IsLegalHistory, memory_after_calls, p
 use crate::journal::Journal;
 use crate::parts::{Parts, gather};
 use crate::shared::Shared;
-use call_chain::{Head, Tail};
+use call_chain::Latest;
 use packed_entries::PackedEntries;
 use rw_objects::{ObjectSpace, Versioned};
 use shared_journal::{Held, Seat};
@@ -33,12 +33,10 @@ pub struct History<S: ObjectSpace> {
 /// Takes a seat in. Its calls are among those of its thread.
 fn hand_in<S: Striped, J: Opening<S, S::Value, S::Fixed>>(
     seat: Seat<S, J>,
-    head: &Head<Call<S::Op, S::Reply>, J>,
-    tail: &mut Tail<Call<S::Op, S::Reply>, J>,
+    latest: &Latest<Call<S::Op, S::Reply>, J>,
     all: &mut Share<Count<S, J>>,
 ) -> PackedEntries
-    ensures tail { tail.new ≡ tail.old }
-    ensures within { IsWithin seat.calls (part_of seat.thread tail.old) }
+    ensures within { IsWithin seat.calls (part_of seat.thread latest.now) }
     ensures parts { all.new.parts ≡ all.old.parts + 1 }
     ensures amount { all.new.amount ≡ all.old.amount + length seat.calls }
     ensures entries { result ≡ entries_in seat.calls }
@@ -48,10 +46,10 @@ fn hand_in<S: Striped, J: Opening<S, S::Value, S::Fixed>>(
         entries,
         calls: _,
         share,
-        told,
+        reached,
         seen: _,
     } = seat;
-    tail.meet(head, &told);
+    latest.meet(&reached);
     all.merge(share);
     entries
 }
@@ -75,18 +73,17 @@ pub(crate) fn end<S: Striped + Drop, J: Opening<S, S::Value, S::Fixed>>(
     let Held {
         versions,
         order,
-        head,
-        mut tail,
-        books,
+        latest,
+        written,
         mut book,
         rest: mut all,
     } = held;
     let mut entries = Vec::new(alloc);
     for seat in seats {
-        entries.push(hand_in(seat, &head, &mut tail, &mut all))?;
+        entries.push(hand_in(seat, &latest, &mut all))?;
     }
     book.audit(&mut all);
-    let whole = gather(parts, books, &head, &mut tail);
+    let whole = gather(parts, &written, &latest);
     let space = S::unite(alloc, whole)?;
     Ok(History {
         order,

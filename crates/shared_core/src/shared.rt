@@ -52,8 +52,8 @@ impl<S: Striped, J: Opening<S, S::Value, S::Fixed>> Shared<S, J> {
         }
     }
 
-    /// Tries a call once. The locks of the touched parts are asked for in rising order, then the journal's, which is given
-    /// back first. A seat that rests until just so many calls is woken.
+    /// Tries a call once. The locks of the touched parts are asked for in rising order, and what it decides by what they hold
+    /// is found before the journal's lock is asked for, which is given back first. A seat that rests until just so many calls is woken.
     fn try_call<R: Wait, H: Hold>(
         &self,
         rt: &R,
@@ -73,13 +73,19 @@ impl<S: Striped, J: Opening<S, S::Value, S::Fixed>> Shared<S, J> {
         let (thread, place) = (seat.thread(), seat.entries().len() as u64);
         hold.before(thread, place);
         let touches = S::touches(alloc, &op);
-        let kept = self.parts.keep(rt, &touches);
+        let mut kept = self.parts.keep(rt, &touches);
+        let decision = match seat.decide(&kept, &touches, &op) {
+            Ok(decision) => decision,
+            Err(error) => {
+                drop(kept);
+                hold.after(thread, place);
+                return Err(error);
+            }
+        };
         let mut journal = self.journal.lock(rt);
-        let mut lents = kept.lend(rt, &touches);
         let answer = journal
             .held
-            .enter(alloc, seat, op, expected, &touches, &mut lents);
-        drop(lents);
+            .enter(alloc, seat, op, expected, &touches, &mut kept, &decision);
         let is_entered = matches!(&answer, Ok(Tried::Done(..)));
         let wakes = if is_entered {
             journal.resting.entered(journal.length())

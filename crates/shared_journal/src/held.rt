@@ -1,19 +1,19 @@
 //! What lies under the journal's lock.
 
-ghost use Rattle.std.specs.Prelude.{◌≡◌, ◌≢◌, ℕ, ◌+◌, ◌<◌, ◌≤◌, List, [], ◌∷◌, ◌++◌, IfOk, OnOk, Bool, true, false, MatchOption, IsSomeAnd, length};
+ghost use Rattle.std.specs.Prelude.{◌≡◌, ◌≢◌, ℕ, ◌+◌, ◌<◌, ◌≤◌, List, [], ◌∷◌, ◌++◌, IfOk, Bool, true, false, MatchOption, IsSomeAnd, length};
 ghost use Rattle.rw_objects.specs.Space.{Fits, AllBelow, is_ready, reply_of};
 ghost use Rattle.rw_objects.specs.Counts.{all_found, count_at, is_touched};
 ghost use Rattle.rw_objects.specs.Memory.{entry_of, memory_after};
-ghost use Rattle.striped_objects.specs.Cut.{sights};
+ghost use Rattle.striped_objects.specs.Cut.{decision_at};
 ghost use Rattle.shared_parts.specs.Calls.{call, IsLegalHistory, memory_after_calls};
 ghost use Rattle.shared_journal.specs.Tries.{IfDone, IfShut, IfNotReady, IsDone};
 ghost use Rattle.shared_parts.specs.Eights.{AreHere, Covers};
 
 use crate::seat::Seat;
 use crate::tried::Tried;
-use call_chain::{Head, Tail};
+use call_chain::Latest;
 use rw_objects::{Entry, Few, Found, Mode, ObjectSpace, Touch, Versions};
-use shared_parts::{Books, Call, Count, Lents, Opening};
+use shared_parts::{Call, Count, KeptParts, Opening, Written};
 use std::alloc::Global;
 use std::marker::Model;
 use std::snapshot::Snapshot;
@@ -27,9 +27,8 @@ use wasm_types::NoMemory;
 pub struct Held<S: Striped, J: Opening<S, S::Value, S::Fixed>> {
     pub versions: Versions,
     pub order: Vec<u8>,
-    pub head: Head<Call<S::Op, S::Reply>, J>,
-    pub tail: Tail<Call<S::Op, S::Reply>, J>,
-    pub books: Books<S, J>,
+    pub latest: Latest<Call<S::Op, S::Reply>, J>,
+    pub written: Written<S, J>,
     pub book: Book<Count<S, J>>,
     pub rest: Share<Count<S, J>>,
 }
@@ -45,18 +44,18 @@ impl<S: Striped, J: Opening<S, S::Value, S::Fixed>> Model for Held<S, J> {
 
     ghost Value = { List (Call S.Op S.Reply) };
 
-    ghost view = { λ h. h.tail };
+    ghost view = { λ h. h.latest };
 
     ghost invariant = { λ h. record {
-      legal : IsLegalHistory S.meaning J.named.memory h.tail;
-      sound : AllSound S.cut J.named.memory.fixed (memory_after_calls S.meaning J.named.memory h.tail).values;
-      counts : count_at h.versions ≡ (memory_after_calls S.meaning J.named.memory h.tail).counts;
+      legal : IsLegalHistory S.meaning J.named.memory h.latest;
+      sound : AllSound S.cut J.named.memory.fixed (memory_after_calls S.meaning J.named.memory h.latest).values;
+      counts : count_at h.versions ≡ (memory_after_calls S.meaning J.named.memory h.latest).counts;
       sized : length h.versions ≡ S.meaning.objects J.named.memory.fixed;
       few_versions : (o : ℕ) → (count_at h.versions o).version ≤ length h.order.items;
       few_reads : (o : ℕ) → (count_at h.versions o).reads ≤ length h.order.items;
-      order : h.order.items ≡ threads_in h.tail;
-      books : h.books ≡ totals_by (λ i. writes S.meaning.touches i h.tail);
-      total : h.book.total ≡ length h.tail;
+      order : h.order.items ≡ threads_in h.latest;
+      written : h.written ≡ totals_by (λ i. writes S.meaning.touches i h.latest);
+      total : h.book.total ≡ length h.latest;
       rest : h.rest.parts ≡ 1;
       none : h.rest.amount ≡ 0;
     } };
@@ -101,40 +100,7 @@ impl<S: Striped, J: Opening<S, S::Value, S::Fixed>> Held<S, J> {
         self.order.len()
     }
 
-    /// What an operation sees of the objects that it touches, of the memory to which the journal leads.
-    pub fn look(
-        &mut self,
-        lents: &mut Lents<'_, S, J>,
-        touches: &Few<Touch>,
-        op: &S::Op,
-        seen: &mut Vec<S::Seen>,
-    ) -> Result<(), NoMemory>
-        requires empty { seen.old.items ≡ [] }
-        requires fits { Fits S.meaning J.named.memory.fixed op.now }
-        requires touches { touches.now ≡ S.meaning.touches op.now }
-        requires covers { Covers touches.now lents.old }
-        ensures kept { self.new ≡ self.old }
-        ensures lents { lents.new ≡ lents.old }
-        ensures here { AreHere S.held (memory_after_calls S.meaning J.named.memory self.old).values lents.new }
-        ensures seen { OnOk result (seen.new.items ≡ sights S.meaning S.cut J.named.memory.fixed (memory_after_calls S.meaning J.named.memory self.old).values op.now) }
-    {
-        let Held {
-            versions: _,
-            order: _,
-            head,
-            tail,
-            books,
-            book: _,
-            rest: _,
-        } = self;
-        lents.meet(books, head, tail);
-        for touch in touches.as_slice() {
-            seen.push(lents.look(tail, touch.object, op))?;
-        }
-        Ok(())
-    }
-
-    /// Tries one call, over the parts that it touches. `Shut` is tested first.
+    /// Tries one call, over the parts that it touches, with what it decides by what they hold. `Shut` is tested first.
     pub fn enter(
         &mut self,
         alloc: Global,
@@ -142,11 +108,13 @@ impl<S: Striped, J: Opening<S, S::Value, S::Fixed>> Held<S, J> {
         op: S::Op,
         expected: Option<&Entry>,
         touches: &Few<Touch>,
-        lents: &mut Lents<'_, S, J>,
+        kept: &mut KeptParts<'_, S, J>,
+        decision: &S::Decision,
     ) -> Result<Tried<S::Reply>, NoMemory>
         requires fits { Fits S.meaning J.named.memory.fixed op }
         requires touches { touches.now ≡ S.meaning.touches op }
-        requires covers { Covers touches.now lents.old }
+        requires covers { Covers touches.now kept.old }
+        requires decided { (values : ℕ → S.Value) → AreHere S.held values kept.old → decision.now ≡ decision_at S.meaning S.cut J.named.memory.fixed values op }
         ensures done { IfOk result (λ t. IfDone t (λ r e. (is_ready S.meaning J.named.memory.fixed (memory_after_calls S.meaning J.named.memory self.old).values op ≡ true) × (r ≡ reply_of S.meaning J.named.memory.fixed (memory_after_calls S.meaning J.named.memory self.old).values op) × (e ≡ entry_of S.meaning (memory_after_calls S.meaning J.named.memory self.old) op) × (memory_after_calls S.meaning J.named.memory self.new ≡ memory_after S.meaning (memory_after_calls S.meaning J.named.memory self.old) op))) }
         ensures journal { IfOk result (λ t. IfDone t (λ r e. self.new ≡ self.old ++ call seat.old.thread op r e ∷ [])) }
         ensures own { IfOk result (λ t. IfDone t (λ r e. seat.new.calls ≡ seat.old.calls ++ call seat.old.thread op r e ∷ [])) }
@@ -156,8 +124,7 @@ impl<S: Striped, J: Opening<S, S::Value, S::Fixed>> Held<S, J> {
         ensures kept { (IsDone result ≡ false) → (self.new ≡ self.old) × (seat.new ≡ seat.old) }
         ensures thread { seat.new.thread ≡ seat.old.thread }
     {
-        seat.seen.clear();
-        self.look(lents, touches, &op, &mut seat.seen)?;
+        kept.meet(&self.written, &self.latest);
         let entry = Entry {
             kind: S::kind(&op),
             found: find(alloc, &self.versions, touches),
@@ -167,24 +134,23 @@ impl<S: Striped, J: Opening<S, S::Value, S::Fixed>> Held<S, J> {
                 return Ok(Tried::Shut);
             }
         }
-        let decision = S::decide(&op, seat.seen.as_slice());
-        if !S::is_ready(&decision) {
+        if !S::is_ready(decision) {
             return Ok(Tried::NotReady);
         }
         self.order.reserve(1)?;
         seat.entries.push(&entry)?;
-        let reply = S::reply(&decision);
+        let reply = S::reply(decision);
         let made = Call {
             thread: u32::from(seat.thread),
             op,
             reply,
             entry,
         };
-        let before = self.tail.told();
-        self.tail.meet(&self.head, &seat.told);
-        self.tail.push(&self.head, Snapshot::of(&made));
+        let before = self.latest.reached();
+        self.latest.meet(&seat.reached);
+        self.latest.push(Snapshot::of(&made));
         seat.calls.push(Snapshot::of(&made));
-        seat.told = self.tail.told();
+        seat.reached = self.latest.reached();
         self.book.add(&mut seat.share, 1);
         self.order.push_reserved(seat.thread);
         let Call {
@@ -194,13 +160,13 @@ impl<S: Striped, J: Opening<S, S::Value, S::Fixed>> Held<S, J> {
             entry,
         } = made;
         self.versions.touch_all(touches);
-        lents.advance(
-            &mut self.books,
+        kept.advance(
+            &mut self.written,
             &before,
-            &self.tail,
+            &self.latest,
             touches,
             &op,
-            &decision,
+            decision,
         );
         Ok(Tried::Done(reply, entry))
     }

@@ -1,14 +1,19 @@
 //! The seats of threads.
 
-ghost use Rattle.std.specs.Prelude.{◌≡◌, ◌+◌, length};
+ghost use Rattle.std.specs.Prelude.{◌≡◌, ◌+◌, ℕ, [], IfOk, OnOk, length};
+ghost use Rattle.rw_objects.specs.Space.{Fits};
+ghost use Rattle.striped_objects.specs.Cut.{sights, decision_at};
+ghost use Rattle.shared_parts.specs.Eights.{AreHere, Covers};
 ghost use Rattle.shared_parts.specs.Calls.{entries_in};
 
-use call_chain::{Pile, Told};
+use call_chain::{Pile, Reached};
 use packed_entries::PackedEntries;
-use shared_parts::{Call, Count, Opening};
+use rw_objects::{Few, ObjectSpace, Touch};
+use shared_parts::{Call, Count, KeptParts, Opening};
 use std::marker::Model;
 use std::sync::ledger::Share;
 use striped_objects::Striped;
+use wasm_types::NoMemory;
 
 /// A thread's own calls, with what shows that they stand in the journal. What they asked and were answered is known to
 /// proofs alone: at run time there are their entries, in the bytes by which pieces spell them.
@@ -18,7 +23,7 @@ pub struct Seat<S: Striped, J: Opening<S, S::Value, S::Fixed>> {
     pub entries: PackedEntries,
     pub calls: Pile<Call<S::Op, S::Reply>>,
     pub share: Share<Count<S, J>>,
-    pub told: Told<Call<S::Op, S::Reply>, J>,
+    pub reached: Reached<Call<S::Op, S::Reply>, J>,
     /// What the last call saw of each object, a list that is used again.
     pub seen: Vec<S::Seen>,
 }
@@ -31,7 +36,26 @@ impl<S: Striped, J: Opening<S, S::Value, S::Fixed>> Model for Seat<S, J> {
 
     ghost view = { λ s. record { thread = s.thread; calls = s.calls } };
 
-    ghost invariant = { λ s. (s.share.parts ≡ 1) × (s.share.amount ≡ length s.calls) × (s.entries ≡ entries_in s.calls) × IsWithin s.calls (part_of s.thread s.told) };
+    ghost invariant = { λ s. (s.share.parts ≡ 1) × (s.share.amount ≡ length s.calls) × (s.entries ≡ entries_in s.calls) × IsWithin s.calls (part_of s.thread s.reached) };
+}
+
+/// What an operation sees of the objects that it touches, whatever the space is of which the parts are parts.
+fn look<S: Striped, J: Opening<S, S::Value, S::Fixed>>(
+    kept: &KeptParts<'_, S, J>,
+    touches: &Few<Touch>,
+    op: &S::Op,
+    seen: &mut Vec<S::Seen>,
+) -> Result<(), NoMemory>
+    requires empty { seen.old.items ≡ [] }
+    requires fits { Fits S.meaning J.named.memory.fixed op.now }
+    requires touches { touches.now ≡ S.meaning.touches op.now }
+    requires covers { Covers touches.now kept.now }
+    ensures { OnOk result ((values : ℕ → S.Value) → AreHere S.held values kept.now → seen.new.items ≡ sights S.meaning S.cut J.named.memory.fixed values op.now) }
+{
+    for touch in touches.as_slice() {
+        seen.push(kept.look(touch.object, op))?;
+    }
+    Ok(())
 }
 
 impl<S: Striped, J: Opening<S, S::Value, S::Fixed>> Seat<S, J> {
@@ -40,6 +64,24 @@ impl<S: Striped, J: Opening<S, S::Value, S::Fixed>> Seat<S, J> {
         ensures { result ≡ self.now.thread }
     {
         u32::from(self.thread)
+    }
+
+    /// What an operation decides by what the parts that it touches hold, whatever the space is of which they are parts.
+    pub fn decide(
+        &mut self,
+        kept: &KeptParts<'_, S, J>,
+        touches: &Few<Touch>,
+        op: &S::Op,
+    ) -> Result<S::Decision, NoMemory>
+        requires fits { Fits S.meaning J.named.memory.fixed op.now }
+        requires touches { touches.now ≡ S.meaning.touches op.now }
+        requires covers { Covers touches.now kept.now }
+        ensures kept { self.new ≡ self.old }
+        ensures decided { IfOk result (λ d. (values : ℕ → S.Value) → AreHere S.held values kept.now → d ≡ decision_at S.meaning S.cut J.named.memory.fixed values op.now) }
+    {
+        self.seen.clear();
+        look(kept, touches, op, &mut self.seen)?;
+        Ok(S::decide(op, self.seen.as_slice()))
     }
 
     /// The entries of its calls.

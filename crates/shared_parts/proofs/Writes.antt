@@ -1,7 +1,8 @@
 -- What stays where nothing was written.
+use Rattle.std.specs.Prelude.{nat_lt}
 use Rattle.std.proofs.Common.{zero, suc, length, get_or, ◌≡◌, ◌≢◌, ℕ, ◌+◌, ◌*◌, ◌%◌, ◌<◌, ◌==◌, Bool, true, false, List, [], ◌∷◌, ◌++◌, cond, Some, refl, sym, ap, ◌∙◌, arith, inl, inr}
 use Rattle.std.proofs.lemmas.Bool.{eq-eqb}
-use Rattle.std.proofs.lemmas.Bool.Decides.{eqb_tells}
+use Rattle.std.proofs.lemmas.Bool.Decides.{eqb_tells, nat_tests}
 use mathlib.Core.List.{IsPrefix}
 use Rattle.rw_objects.specs.declared.touch.Touch.{Touch}
 use Rattle.rw_objects.specs.Space.{Space, mode_at, is_written, values_after, effect_at}
@@ -83,6 +84,10 @@ no_lane i (t ∷ ts) none =
       | inl p ↦ let h : true ≡ false = rw p.0 at none in absurd (cc)
       | inr p ↦ let h = no_lane i ts (rw p.0 at none) in rw p.0 (omega (arith, h))
     ]
+
+-- what is not above 0 is 0
+pub none_above : (n : ℕ) → nat_lt 0 n ≡ false → n ≡ 0
+none_above n e = grind (arith, nat_tests, e)
 
 -- a part is touched where one of its objects is
 pub lane_touched : (i o : ℕ) (ts : List Touch) → is_touched ts o ≡ true → o % 8 ≡ i → has_lane i ts ≡ true

@@ -2,11 +2,11 @@
 #![tactic(auto)]
 
 mod call;
-mod lent;
+mod kept;
 mod naming;
 mod stripe;
 
 pub use call::Call;
-pub use lent::{Books, Lents};
+pub use kept::{KeptPart, KeptParts, Written};
 pub use naming::{Count, Lane, Opening};
 pub use stripe::{Stripe, lane_writes};

@@ -1,11 +1,11 @@
 //! What names one shared space.
 
-use call_chain::Naming;
+use call_chain::{Counting, Naming};
 use rw_objects::ObjectSpace;
 use std::marker::PhantomData;
 use std::sync::ledger::Ledger;
 
-/// Names the opening space and the ledgers of one shared space `S`, with values `V` and fixed numbers `F`. Each call of a program
+/// Names the opening space, the ledger and the numbers of one shared space `S`, with values `V` and fixed numbers `F`. Each call of a program
 /// picks it. That the parameters have no bounds is what lets it be picked.
 pub trait Opening<S, V, F>: Naming {
     ghost use Rattle.shared_parts.specs.Named.{Named};
@@ -26,15 +26,13 @@ impl<S: ObjectSpace, J: Opening<S, S::Value, S::Fixed>> Ledger for Count<S, J> {
     ghost parts = { J.named.threads + 1 };
 }
 
-/// The ledger of the writes of the part with this number.
+/// The number of writes of the part with this number.
 pub struct Lane<S: ObjectSpace, J: Opening<S, S::Value, S::Fixed>, const I: u64> {
     of: PhantomData<(S, J)>,
 }
 
-impl<S: ObjectSpace, J: Opening<S, S::Value, S::Fixed>, const I: u64> Ledger for Lane<S, J, I> {
+impl<S: ObjectSpace, J: Opening<S, S::Value, S::Fixed>, const I: u64> Counting for Lane<S, J, I> {
     ghost use Rattle.std.specs.Prelude.{slice_index_or};
 
-    ghost name = { slice_index_or J.named.lanes I 0 };
-
-    ghost parts = { 1 };
+    ghost number = { slice_index_or J.named.lanes I 0 };
 }

@@ -10,19 +10,19 @@ ghost use Rattle.shared_parts.specs.Writes.{writes};
 
 use crate::call::Call;
 use crate::naming::{Lane, Opening};
-use call_chain::{Head, Tail, Told};
+use call_chain::{FirstHalf, Latest, Reached, SecondHalf};
 use rw_objects::{Few, Mode, ObjectSpace, Touch};
 use std::boxed::Box;
 use std::marker::Model;
-use std::sync::ledger::{Book, Share};
 use striped_objects::{Striped, change_lane};
 
-/// What one part of the space holds, with what shows that it is what the journal leads to.
+/// What one part of the space holds, with what shows that it is what the journal leads to: how often it was written, which
+/// the journal knows too, and the calls that led to it.
 #[derive(Drop)]
 pub struct Stripe<S: Striped, J: Opening<S, S::Value, S::Fixed>, const I: u64> {
     pub part: Box<S::Part>,
-    pub share: Share<Lane<S, J, I>>,
-    pub told: Told<Call<S::Op, S::Reply>, J>,
+    pub times: FirstHalf<Lane<S, J, I>>,
+    pub reached: Reached<Call<S::Op, S::Reply>, J>,
 }
 
 impl<S: Striped, J: Opening<S, S::Value, S::Fixed>, const I: u64> Model for Stripe<S, J, I> {
@@ -35,24 +35,20 @@ impl<S: Striped, J: Opening<S, S::Value, S::Fixed>, const I: u64> Model for Stri
 
     ghost view = { λ s. s.part.value };
 
-    ghost invariant = { λ s. (I < 8) × (s.share.parts ≡ 1) × (s.share.amount ≡ writes S.meaning.touches I s.told) × IsPart S.lane S.part_fixed S.held I J.named.memory.fixed (memory_after_calls S.meaning J.named.memory s.told).values s.part.value };
+    ghost invariant = { λ s. (I < 8) × (s.times ≡ writes S.meaning.touches I s.reached) × IsPart S.lane S.part_fixed S.held I J.named.memory.fixed (memory_after_calls S.meaning J.named.memory s.reached).values s.part.value };
 }
 
 impl<S: Striped, J: Opening<S, S::Value, S::Fixed>, const I: u64> Stripe<S, J, I> {
-    /// What it holds is what the journal leads to.
+    /// What it holds is what the journal leads to, which knows as many writes of it.
     pub fn meet(
-        &mut self,
-        book: &mut Book<Lane<S, J, I>>,
-        head: &Head<Call<S::Op, S::Reply>, J>,
-        tail: &mut Tail<Call<S::Op, S::Reply>, J>,
+        &self,
+        written: &SecondHalf<Lane<S, J, I>>,
+        latest: &Latest<Call<S::Op, S::Reply>, J>,
     )
-        ensures kept { self.new ≡ self.old }
-        ensures total { book.new.total ≡ book.old.total }
-        ensures tail { tail.new ≡ tail.old }
-        ensures met { book.old.total ≡ writes S.meaning.touches I tail.old → S.held self.old ≡ part_values I (memory_after_calls S.meaning J.named.memory tail.old).values }
+        ensures met { written.now ≡ writes S.meaning.touches I latest.now → S.held self.now ≡ part_values I (memory_after_calls S.meaning J.named.memory latest.now).values }
     {
-        tail.meet(head, &self.told);
-        book.audit(&mut self.share);
+        latest.meet(&self.reached);
+        self.times.meet(written);
     }
 
     /// What an operation sees of an object that it touches.
@@ -68,27 +64,26 @@ impl<S: Striped, J: Opening<S, S::Value, S::Fixed>, const I: u64> Stripe<S, J, I
     /// Makes what a call that the journal has just got makes of this part. `before` knows the calls before it.
     pub fn advance(
         &mut self,
-        book: &mut Book<Lane<S, J, I>>,
-        before: &Told<Call<S::Op, S::Reply>, J>,
-        tail: &Tail<Call<S::Op, S::Reply>, J>,
+        written: &mut SecondHalf<Lane<S, J, I>>,
+        before: &Reached<Call<S::Op, S::Reply>, J>,
+        latest: &Latest<Call<S::Op, S::Reply>, J>,
         touches: &Few<Touch>,
         op: &S::Op,
         decision: &S::Decision,
     )
         requires fits { Fits S.meaning J.named.memory.fixed op.now }
         requires touches { touches.now ≡ S.meaning.touches op.now }
-        requires grown { (c : Call S.Op S.Reply) × (tail.now ≡ before.now ++ c ∷ []) × (c.op ≡ op.now) }
-        requires total { book.old.total ≡ writes S.meaning.touches I before.now }
+        requires grown { (c : Call S.Op S.Reply) × (latest.now ≡ before.now ++ c ∷ []) × (c.op ≡ op.now) }
+        requires total { written.old ≡ writes S.meaning.touches I before.now }
         requires here { S.held self.old ≡ part_values I (memory_after_calls S.meaning J.named.memory before.now).values }
         requires decided { decision.now ≡ decision_at S.meaning S.cut J.named.memory.fixed (memory_after_calls S.meaning J.named.memory before.now).values op.now }
         requires sound { AllSound S.cut J.named.memory.fixed (memory_after_calls S.meaning J.named.memory before.now).values }
-
-        ensures total { book.new.total ≡ writes S.meaning.touches I tail.now }
+        ensures total { written.new ≡ writes S.meaning.touches I latest.now }
     {
-        book.audit(&mut self.share);
+        self.times.meet(written);
         change_lane::<S>(&mut self.part, I as u32, touches, op, decision);
-        book.add(&mut self.share, lane_writes(I, touches));
-        self.told = tail.told();
+        self.times.add(written, lane_writes(I, touches));
+        self.reached = latest.reached();
     }
 
     /// Gives up what it holds.
@@ -97,8 +92,8 @@ impl<S: Striped, J: Opening<S, S::Value, S::Fixed>, const I: u64> Stripe<S, J, I
     {
         let Stripe {
             part,
-            share: _,
-            told: _,
+            times: _,
+            reached: _,
         } = self;
         part
     }

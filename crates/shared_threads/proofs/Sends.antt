@@ -2,28 +2,27 @@
 use denote.RattleType.{RattleType}
 use denote.Param.Send.{IsSend, sendable}
 use Rattle.std.proofs.Crossing.{crosses}
-use Rattle.logbook.proofs.tokens.Pen.TheSendSync as pen
-use Rattle.logbook.proofs.tokens.Seen.TheSendSync as seen
-use Rattle.logbook.proofs.word.Word.TheSendSync as word
+use Rattle.call_chain.proofs.grown.Noted.TheSendSync as noted
+use Rattle.call_chain.proofs.grown.Past.TheSendSync as past
 use Rattle.call_chain.specs.contracts.chain.Pile as Pile
-use Rattle.call_chain.specs.contracts.chain.Told as Told
+use Rattle.call_chain.specs.contracts.chain.Reached as Reached
 use Rattle.packed_entries.specs.contracts.packed.PackedEntries as Packed
 use Rattle.std.proofs.sync.ledger.Share.TheSendSync as share
 use Rattle.shared_journal.specs.contracts.seat.Seat as Seat
 use Rattle.shared_threads.specs.contracts.jobs.Job as Job
 
 pub pile_send : (C : RattleType) → IsSend (Pile.the_row C)
-pile_send C = search (sendable, crosses, pen.the_send, seen.the_send, word.the_send) depth 20
+pile_send C = search (sendable, crosses, noted.the_send) depth 20
 
 packed_send : IsSend Packed.the_row
 packed_send = search (sendable, crosses) depth 20
 
-told_send : (C J : RattleType) (naming : _) → IsSend J → IsSend (Told.the_row C J naming)
-told_send C J naming j = search (sendable, crosses, seen.the_send) depth 20
+reached_send : (C J : RattleType) (naming : _) → IsSend J → IsSend (Reached.the_row C J naming)
+reached_send C J naming j = search (sendable, crosses, past.the_send) depth 20
 
 pub seat_send : (S J P E D O R V F : RattleType) (striped : _) (space : _) (op : _) (reply : _) (default : _) (opening : _) (naming : _)
     → IsSend S → IsSend J → IsSend E → IsSend O → IsSend R → IsSend (Seat.the_row S J P E D O R V F striped space op reply default opening naming)
-seat_send S J P E D O R V F striped space op reply default opening naming s j e o r = search (sendable, crosses, pile_send, packed_send, told_send, share.the_send) depth 30
+seat_send S J P E D O R V F striped space op reply default opening naming s j e o r = search (sendable, crosses, pile_send, packed_send, reached_send, share.the_send) depth 30
 
 pub job_send : (S J T P E D O R V F : RattleType) (striped : _) (space : _) (op : _) (reply : _) (default : _) (opening : _) (naming : _)
     → IsSend S → IsSend J → IsSend T → IsSend E → IsSend O → IsSend R → IsSend (Job.the_row S J T P E D O R V F striped space op reply default opening naming)

@@ -4,7 +4,7 @@ ghost use Rattle.std.specs.Prelude.{◌≡◌, IfOk, length};
 ghost use Rattle.std.specs.List.{All};
 ghost use Rattle.rw_objects.specs.Counts.{no_counts};
 ghost use Rattle.rw_objects.specs.Memory.{memory_with, memory_of};
-ghost use Rattle.shared_core.specs.Begins.{names_of, ledger_names};
+ghost use Rattle.shared_core.specs.Begins.{names_of, lane_names};
 ghost use Rattle.shared_threads.specs.Ran.{AreRun};
 
 use crate::jobs::{pair, part, work_all};
@@ -41,7 +41,7 @@ where
     S::Seen: Send + Sync,
     S::Decision: Send + Sync,
     requires chain { opened.chain ≡ J.chain }
-    requires named { names_of (S.fixed opened.space) (S.values opened.space) opened.count.name (ledger_names opened.lanes) opened.threads ≡ J.named }
+    requires named { names_of (S.fixed opened.space) (S.values opened.space) opened.count.name (lane_names opened.lanes) opened.threads ≡ J.named }
     requires threads { length states.items ≡ opened.threads }
     requires begins { All (W.begins (S.fixed opened.space)) states.items }
     ensures { IfOk result (λ r. AreRun S.meaning W.leads (memory_with (S.fixed opened.space) (S.values opened.space) no_counts) states.items r.0.order.items r.0.entries.items (memory_of r.0.memory) r.1.items) }

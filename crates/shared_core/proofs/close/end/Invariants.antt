@@ -9,7 +9,6 @@ invariant-loop-seat g l =
     let seats = l.fn.seats.items in
     (l.all.parts + length rest ≡ length seats + 1)
     × (l.all.amount + calls_of rest ≡ calls_of seats)
-    × (AreWithin l.tail rest → AreWithin l.tail seats)
+    × (AreWithin l.fn.held rest → AreWithin l.fn.held seats)
     × (into_iter_len l.seat-iterator ≡ length rest)
     × (l.entries.items ++ map (λ s. entries_in s.calls) rest ≡ map (λ s. entries_in s.calls) seats)
-    × (l.tail ≡ l.fn.held)

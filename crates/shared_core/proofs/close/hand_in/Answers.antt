@@ -6,4 +6,4 @@ use Rattle.shared_core.proofs.close.hand_in.Goals as goal
 pub returns-clause-within : goal.returns-clause-within
 returns-clause-within g c =
     let inv = c.seat.invariant in
-    subst (λ v. IsWithin v.calls (part_of v.thread c.args.tail.now)) c.seat.view_is (within_later c.seat.inside.thread c.seat.inside.calls c.seat.inside.told c.args.tail.now c.meet.ensures.begins inv.3)
+    subst (λ v. IsWithin v.calls (part_of v.thread c.args.latest.now)) c.seat.view_is (within_later c.seat.inside.thread c.seat.inside.calls c.seat.inside.reached c.args.latest.now c.meet.ensures.begins inv.3)

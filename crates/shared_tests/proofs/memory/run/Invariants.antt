@@ -1,5 +1,5 @@
 -- The names of the opened memory.
-use Rattle.shared_core.specs.Begins.{names_of, ledger_names}
+use Rattle.shared_core.specs.Begins.{names_of, lane_names}
 use Rattle.waiter_queues.specs.Shared.{shared_values}
 use Rattle.shared_tests.proofs.memory.run.Given as goal
 
@@ -8,5 +8,5 @@ ghosts-run_threads-J-Naming g a = record { chain = a.opened.chain }
 
 abbrev pub ghosts-run_threads-J-Opening : goal.ghosts-run_threads-J-Opening
 ghosts-run_threads-J-Opening g a = record {
-  named = names_of a.opened.space.space.blocks.limits (shared_values a.opened.space.space.blocks a.opened.space.space.queues) a.opened.count.name (ledger_names a.opened.lanes) a.opened.threads;
+  named = names_of a.opened.space.space.blocks.limits (shared_values a.opened.space.space.blocks a.opened.space.space.queues) a.opened.count.name (lane_names a.opened.lanes) a.opened.threads;
 }

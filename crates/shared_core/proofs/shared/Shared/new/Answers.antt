@@ -21,7 +21,7 @@ invariant_of-held g c =
     let space = g.S.ObjectSpace.meaning in
     let cut = g.S.Striped.cut in
     let m = g.J.Opening.named.memory in
-    let nil = c.named-head.ensures in
+    let nil = c.named-latest.ensures in
     let mem = ap (λ n. n.memory) c.requires.named in
     let none : count_at c.in_ok-versions.versions ≡ no_counts = ap count_at c.in_ok-versions.ensures ∙ (λ i o. count_none c.objects.result o i) in
     let at : (o : ℕ) → count_at c.in_ok-versions.versions o ≡ no_count = λ o. ap (λ f. f o) none in
@@ -33,7 +33,7 @@ invariant_of-held g c =
       few_versions = λ o. let h = ap (λ (k : Count). k.version) (at o) in omega (arith, h);
       few_reads = λ o. let h = ap (λ (k : Count). k.reads) (at o) in omega (arith, h);
       order = search rules;
-      books = search rules;
+      written = search rules;
       total = search rules;
       rest = search rules;
       none = search rules;

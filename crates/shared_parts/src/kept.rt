@@ -1,0 +1,295 @@
+//! The parts that an operation touches, kept for it.
+
+ghost use Rattle.std.specs.Prelude.{◌≡◌, ◌≢◌, ◌+◌, ◌%◌, ◌<◌, ℕ, true, ◌++◌, ◌∷◌, [], is_some, nat_lt, option_map};
+ghost use Rattle.rw_objects.specs.Space.{Fits};
+ghost use Rattle.rw_objects.specs.Counts.{is_touched};
+ghost use Rattle.striped_objects.specs.Cut.{AllSound, decision_at};
+ghost use Rattle.striped_objects.specs.Parts.{lane_writes};
+ghost use Rattle.std.specs.Sync.RwLock.{write_guard_value};
+ghost use Rattle.shared_parts.specs.Calls.{memory_after_calls};
+ghost use Rattle.shared_parts.specs.Writes.{writes};
+ghost use Rattle.shared_parts.specs.Eights.{IsKept, IsAt, IsHere, AreHere, Covers, totals_by};
+
+use crate::call::Call;
+use crate::naming::{Lane, Opening};
+use crate::stripe::Stripe;
+use call_chain::{Latest, Reached, SecondHalf};
+use rw_objects::{Few, ObjectSpace, Touch};
+use std::marker::Model;
+use std::sync::{RwLockReadGuard, RwLockWriteGuard};
+use striped_objects::Striped;
+
+/// How often each part was written, as the journal knows it.
+#[derive(Drop)]
+pub struct Written<S: Striped, J: Opening<S, S::Value, S::Fixed>> {
+    pub zero: SecondHalf<Lane<S, J, 0>>,
+    pub one: SecondHalf<Lane<S, J, 1>>,
+    pub two: SecondHalf<Lane<S, J, 2>>,
+    pub three: SecondHalf<Lane<S, J, 3>>,
+    pub four: SecondHalf<Lane<S, J, 4>>,
+    pub five: SecondHalf<Lane<S, J, 5>>,
+    pub six: SecondHalf<Lane<S, J, 6>>,
+    pub seven: SecondHalf<Lane<S, J, 7>>,
+}
+
+impl<S: Striped, J: Opening<S, S::Value, S::Fixed>> Model for Written<S, J> {
+    ghost use Rattle.shared_parts.specs.Eights.{Totals};
+
+    ghost Value = { Totals };
+
+    ghost view = { λ w. record { zero = w.zero; one = w.one; two = w.two; three = w.three; four = w.four; five = w.five; six = w.six; seven = w.seven } };
+}
+
+/// A part that is kept for reading or for writing, or not at all.
+pub struct KeptPart<'a, S: Striped, J: Opening<S, S::Value, S::Fixed>, const I: u64> {
+    pub read: Option<RwLockReadGuard<'a, Stripe<S, J, I>>>,
+    pub write: Option<RwLockWriteGuard<'a, Stripe<S, J, I>>>,
+}
+
+impl<'a, S: Striped, J: Opening<S, S::Value, S::Fixed>, const I: u64> Model
+    for KeptPart<'a, S, J, I> {
+    ghost use Rattle.std.specs.Prelude.{option_map};
+    ghost use Rattle.std.specs.Sync.RwLock.{read_guard_value, write_guard_value};
+    ghost use Rattle.shared_parts.specs.Eights.{Kept};
+
+    ghost Value = { Kept S.Part };
+
+    ghost view = { λ k. record { read = option_map read_guard_value k.read; write = option_map write_guard_value k.write } };
+}
+
+impl<S: Striped, J: Opening<S, S::Value, S::Fixed>, const I: u64> Drop for KeptPart<'_, S, J, I> {
+    fn drop(self) {
+        let KeptPart { read, write } = self;
+        drop(read);
+        drop(write);
+    }
+}
+
+impl<S: Striped, J: Opening<S, S::Value, S::Fixed>, const I: u64> KeptPart<'_, S, J, I> {
+    /// What is here is what the journal leads to, which knows as many writes of it.
+    fn meet(&self, written: &SecondHalf<Lane<S, J, I>>, latest: &Latest<Call<S::Op, S::Reply>, J>)
+        ensures { written.now ≡ writes S.meaning.touches I latest.now → IsHere S.held I (memory_after_calls S.meaning J.named.memory latest.now).values self.now }
+    {
+        match (&self.write, &self.read) {
+            (Some(guard), _) => guard.meet(written, latest),
+            (None, Some(guard)) => guard.meet(written, latest),
+            (None, None) => {}
+        }
+    }
+
+    /// Looks at an object that an operation touches, where it is of this part.
+    fn look(&self, object: u32, op: &S::Op, seen: &mut S::Seen)
+        requires fits { Fits S.meaning J.named.memory.fixed op.now }
+        requires touched { is_touched (S.meaning.touches op.now) object ≡ true }
+        requires kept { IsKept I (S.meaning.touches op.now) self.now }
+        ensures mine { object % 8 ≡ I → (values : ℕ → S.Value) → IsHere S.held I values self.now → seen.new ≡ S.cut.sight J.named.memory.fixed op.now object (values object) }
+        ensures other { object % 8 ≢ I → seen.new ≡ seen.old }
+    {
+        if u64::from(object % 8) == I {
+            match (&self.write, &self.read) {
+                (Some(guard), _) => *seen = guard.look(object, op),
+                (None, Some(guard)) => *seen = guard.look(object, op),
+                (None, None) => unreachable!(),
+            }
+        }
+    }
+}
+
+/// Makes what a call that the journal has just got makes of a part. `before` knows the calls before it.
+fn advance<S: Striped, J: Opening<S, S::Value, S::Fixed>, const I: u64>(
+    write: &mut Option<RwLockWriteGuard<'_, Stripe<S, J, I>>>,
+    written: &mut SecondHalf<Lane<S, J, I>>,
+    before: &Reached<Call<S::Op, S::Reply>, J>,
+    latest: &Latest<Call<S::Op, S::Reply>, J>,
+    touches: &Few<Touch>,
+    op: &S::Op,
+    decision: &S::Decision,
+)
+    requires fits { Fits S.meaning J.named.memory.fixed op.now }
+    requires touches { touches.now ≡ S.meaning.touches op.now }
+    requires grown { (c : Call S.Op S.Reply) × (latest.now ≡ before.now ++ c ∷ []) × (c.op ≡ op.now) }
+    requires total { written.old ≡ writes S.meaning.touches I before.now }
+    requires kept { is_some (option_map write_guard_value write.old) ≡ nat_lt 0 (lane_writes I (S.meaning.touches op.now)) }
+    requires here { IsAt S.held I (memory_after_calls S.meaning J.named.memory before.now).values (option_map write_guard_value write.old) }
+    requires decided { decision.now ≡ decision_at S.meaning S.cut J.named.memory.fixed (memory_after_calls S.meaning J.named.memory before.now).values op.now }
+    requires sound { AllSound S.cut J.named.memory.fixed (memory_after_calls S.meaning J.named.memory before.now).values }
+    ensures total { written.new ≡ writes S.meaning.touches I latest.now }
+{
+    match write {
+        Some(guard) => guard.advance(written, before, latest, touches, op, decision),
+        None => {}
+    }
+}
+
+/// The parts that an operation touches, each kept for reading or for writing. Contracts see what each holds.
+pub struct KeptParts<'a, S: Striped, J: Opening<S, S::Value, S::Fixed>> {
+    pub zero: KeptPart<'a, S, J, 0>,
+    pub one: KeptPart<'a, S, J, 1>,
+    pub two: KeptPart<'a, S, J, 2>,
+    pub three: KeptPart<'a, S, J, 3>,
+    pub four: KeptPart<'a, S, J, 4>,
+    pub five: KeptPart<'a, S, J, 5>,
+    pub six: KeptPart<'a, S, J, 6>,
+    pub seven: KeptPart<'a, S, J, 7>,
+}
+
+impl<'a, S: Striped, J: Opening<S, S::Value, S::Fixed>> Model for KeptParts<'a, S, J> {
+    ghost use Rattle.shared_parts.specs.Eights.{Eights};
+
+    ghost Value = { Eights S.Part };
+
+    ghost view = { λ k. record { zero = k.zero; one = k.one; two = k.two; three = k.three; four = k.four; five = k.five; six = k.six; seven = k.seven } };
+}
+
+impl<'a, S: Striped, J: Opening<S, S::Value, S::Fixed>> Drop for KeptParts<'a, S, J> {
+    fn drop(self) {
+        let KeptParts {
+            zero,
+            one,
+            two,
+            three,
+            four,
+            five,
+            six,
+            seven,
+        } = self;
+        drop(zero);
+        drop(one);
+        drop(two);
+        drop(three);
+        drop(four);
+        drop(five);
+        drop(six);
+        drop(seven);
+    }
+}
+
+impl<S: Striped, J: Opening<S, S::Value, S::Fixed>> KeptParts<'_, S, J> {
+    /// What the parts hold is what the journal leads to.
+    pub fn meet(&self, written: &Written<S, J>, latest: &Latest<Call<S::Op, S::Reply>, J>)
+        requires totals { written.now ≡ totals_by (λ i. writes S.meaning.touches i latest.now) }
+        ensures here { AreHere S.held (memory_after_calls S.meaning J.named.memory latest.now).values self.now }
+    {
+        self.zero.meet(&written.zero, latest);
+        self.one.meet(&written.one, latest);
+        self.two.meet(&written.two, latest);
+        self.three.meet(&written.three, latest);
+        self.four.meet(&written.four, latest);
+        self.five.meet(&written.five, latest);
+        self.six.meet(&written.six, latest);
+        self.seven.meet(&written.seven, latest);
+    }
+
+    /// What an operation sees of an object that it touches, whatever the space is of which these are parts.
+    pub fn look(&self, object: u32, op: &S::Op) -> S::Seen
+        requires fits { Fits S.meaning J.named.memory.fixed op.now }
+        requires touched { is_touched (S.meaning.touches op.now) object ≡ true }
+        requires covers { Covers (S.meaning.touches op.now) self.now }
+        ensures { (values : ℕ → S.Value) → AreHere S.held values self.now → result ≡ S.cut.sight J.named.memory.fixed op.now object (values object) }
+    {
+        let mut seen = Default::default();
+        self.zero.look(object, op, &mut seen);
+        self.one.look(object, op, &mut seen);
+        self.two.look(object, op, &mut seen);
+        self.three.look(object, op, &mut seen);
+        self.four.look(object, op, &mut seen);
+        self.five.look(object, op, &mut seen);
+        self.six.look(object, op, &mut seen);
+        self.seven.look(object, op, &mut seen);
+        seen
+    }
+
+    /// Makes what a call that the journal has just got makes of the parts. `before` knows the calls before it.
+    pub fn advance(
+        &mut self,
+        written: &mut Written<S, J>,
+        before: &Reached<Call<S::Op, S::Reply>, J>,
+        latest: &Latest<Call<S::Op, S::Reply>, J>,
+        touches: &Few<Touch>,
+        op: &S::Op,
+        decision: &S::Decision,
+    )
+        requires fits { Fits S.meaning J.named.memory.fixed op.now }
+        requires touches { touches.now ≡ S.meaning.touches op.now }
+        requires grown { (c : Call S.Op S.Reply) × (latest.now ≡ before.now ++ c ∷ []) × (c.op ≡ op.now) }
+        requires totals { written.old ≡ totals_by (λ i. writes S.meaning.touches i before.now) }
+        requires covers { Covers (S.meaning.touches op.now) self.old }
+        requires here { AreHere S.held (memory_after_calls S.meaning J.named.memory before.now).values self.old }
+        requires decided { decision.now ≡ decision_at S.meaning S.cut J.named.memory.fixed (memory_after_calls S.meaning J.named.memory before.now).values op.now }
+        requires sound { AllSound S.cut J.named.memory.fixed (memory_after_calls S.meaning J.named.memory before.now).values }
+        ensures { written.new ≡ totals_by (λ i. writes S.meaning.touches i latest.now) }
+    {
+        advance(
+            &mut self.zero.write,
+            &mut written.zero,
+            before,
+            latest,
+            touches,
+            op,
+            decision,
+        );
+        advance(
+            &mut self.one.write,
+            &mut written.one,
+            before,
+            latest,
+            touches,
+            op,
+            decision,
+        );
+        advance(
+            &mut self.two.write,
+            &mut written.two,
+            before,
+            latest,
+            touches,
+            op,
+            decision,
+        );
+        advance(
+            &mut self.three.write,
+            &mut written.three,
+            before,
+            latest,
+            touches,
+            op,
+            decision,
+        );
+        advance(
+            &mut self.four.write,
+            &mut written.four,
+            before,
+            latest,
+            touches,
+            op,
+            decision,
+        );
+        advance(
+            &mut self.five.write,
+            &mut written.five,
+            before,
+            latest,
+            touches,
+            op,
+            decision,
+        );
+        advance(
+            &mut self.six.write,
+            &mut written.six,
+            before,
+            latest,
+            touches,
+            op,
+            decision,
+        );
+        advance(
+            &mut self.seven.write,
+            &mut written.seven,
+            before,
+            latest,
+            touches,
+            op,
+            decision,
+        );
+    }
+}
