@@ -12,6 +12,7 @@ use std::alloc::Global;
 use std::marker::PhantomData;
 use std::sync::Wait;
 use striped_objects::Striped;
+use workers::own_thread;
 
 /// What all workers of a replay share: what keeps each try of a call.
 #[derive(Drop)]
@@ -38,13 +39,20 @@ impl<'a, S: Striped, M: Machine<S> + Drop, L: ReadLog, H: Hold> Work<S> for Repl
         state: Follower<'a, M, L>,
     ) -> Follower<'a, M, L> {
         let Follower {
-            mut thread,
+            thread,
             log,
             is_starved: _,
         } = state;
-        let answer = follow_log(rt, alloc, shared, &mut thread, seat, log, self.hold);
+        let Ok(mut own) = own_thread::<S, M>(alloc, &thread) else {
+            return Follower {
+                thread,
+                log,
+                is_starved: true,
+            };
+        };
+        let answer = follow_log(rt, alloc, shared, &mut own, seat, log, self.hold);
         Follower {
-            thread,
+            thread: own,
             log,
             is_starved: answer.is_err(),
         }

@@ -3,12 +3,14 @@
 
 mod entering;
 mod lawful;
+mod own;
 mod record;
 mod recording;
 mod timer;
 mod work;
 mod worker;
 
+pub use own::own_thread;
 pub use record::record_workers;
 pub use timer::{AtOnce, Never, Timer};
 pub use worker::Worker;

@@ -1,5 +1,6 @@
 //! The work of workers that record.
 
+use crate::own::own_thread;
 use crate::recording::record_thread;
 use crate::timer::Timer;
 use crate::worker::Worker;
@@ -39,22 +40,22 @@ impl<S: Striped, M: Machine<S> + Drop, T: Timer, H: Hold> Work<S> for Recording<
         state: Worker<M>,
     ) -> Worker<M> {
         let Worker {
-            mut thread,
+            thread,
             steps,
             is_starved: _,
         } = state;
+        let Ok(mut own) = own_thread::<S, M>(alloc, &thread) else {
+            return Worker {
+                thread,
+                steps,
+                is_starved: true,
+            };
+        };
         let answer = record_thread(
-            rt,
-            alloc,
-            shared,
-            &mut thread,
-            seat,
-            steps,
-            self.timer,
-            self.hold,
+            rt, alloc, shared, &mut own, seat, steps, self.timer, self.hold,
         );
         Worker {
-            thread,
+            thread: own,
             steps,
             is_starved: answer.is_err(),
         }
