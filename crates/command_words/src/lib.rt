@@ -5,6 +5,7 @@ mod command;
 mod help;
 mod numbers;
 mod requests;
+mod rows;
 mod wanted;
 
 pub use command::{Asked, requested};

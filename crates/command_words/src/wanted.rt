@@ -122,13 +122,27 @@ fn recording_of<'a>(matches: &ArgMatches<'a>) -> Wanted<RecordRequest<'a>>
     ensures asked { IfOk result (IsRecordAsked (rows_of (found_of matches.now))) }
     ensures none { OnErr result ((r : RecordRequest) → IsRecordAsked (rows_of (found_of matches.now)) r → ⊥) }
 {
-    let module = value(matches, "MODULE").ok_or(MISSING)?;
-    let plan = value(matches, "PLAN").ok_or(MISSING)?;
-    let order = record_order(matches).ok_or(BAD_RECORD_ORDER)?;
-    let run = number(matches, "run", u64::MAX).ok_or(BAD_RUN)?;
-    let steps = small_number(matches, "steps", MOST_STEPS).ok_or(BAD_STEPS)?;
-    let size = small_number(matches, "size", u32::MAX).ok_or(BAD_SIZE)?;
-    let block = block(matches).ok_or(BAD_BLOCK)?;
+    let Some(module) = value(matches, "MODULE") else {
+        return Err(MISSING);
+    };
+    let Some(plan) = value(matches, "PLAN") else {
+        return Err(MISSING);
+    };
+    let Some(order) = record_order(matches) else {
+        return Err(BAD_RECORD_ORDER);
+    };
+    let Some(run) = number(matches, "run", u64::MAX) else {
+        return Err(BAD_RUN);
+    };
+    let Some(steps) = small_number(matches, "steps", MOST_STEPS) else {
+        return Err(BAD_STEPS);
+    };
+    let Some(size) = small_number(matches, "size", u32::MAX) else {
+        return Err(BAD_SIZE);
+    };
+    let Some(block) = block(matches) else {
+        return Err(BAD_BLOCK);
+    };
     if !has_text(matches, "timeouts", "never") && !has_text(matches, "timeouts", "now") {
         return Err(BAD_TIMEOUTS);
     }
@@ -161,10 +175,18 @@ fn replay_of<'a>(matches: &ArgMatches<'a>, order: Option<Vec<u32>>) -> Wanted<Re
     ensures asked { IfOk result (IsReplayAsked (rows_of (found_of matches.now))) }
     ensures none { OnErr result ((r : ReplayRequest) → IsReplayAsked (rows_of (found_of matches.now)) r → ⊥) }
 {
-    let module = value(matches, "MODULE").ok_or(MISSING)?;
-    let plan = value(matches, "PLAN").ok_or(MISSING)?;
-    let pieces = value(matches, "PIECES").ok_or(MISSING)?;
-    let order = order.ok_or(BAD_ORDER)?;
+    let Some(module) = value(matches, "MODULE") else {
+        return Err(MISSING);
+    };
+    let Some(plan) = value(matches, "PLAN") else {
+        return Err(MISSING);
+    };
+    let Some(pieces) = value(matches, "PIECES") else {
+        return Err(MISSING);
+    };
+    let Some(order) = order else {
+        return Err(BAD_ORDER);
+    };
     Ok(ReplayRequest {
         module,
         plan,
@@ -231,11 +253,21 @@ fn view_of<'a>(
     ensures none { OnErr result ((v : ViewRequest) → IsViewAsked (rows_of (found_of matches.now)) v → ⊥) }
 {
     let replay = replay?;
-    let place = thread_count(matches, "place").ok_or(BAD_PLACE)?;
-    let step = thread_count(matches, "step").ok_or(BAD_STEP)?;
-    let write = byte_range(matches, "write").ok_or(BAD_WRITE)?;
-    let from = small_number(matches, "from", u32::MAX).ok_or(BAD_FROM)?;
-    let len = small_number(matches, "len", u32::MAX).ok_or(BAD_LEN)?;
+    let Some(place) = thread_count(matches, "place") else {
+        return Err(BAD_PLACE);
+    };
+    let Some(step) = thread_count(matches, "step") else {
+        return Err(BAD_STEP);
+    };
+    let Some(write) = byte_range(matches, "write") else {
+        return Err(BAD_WRITE);
+    };
+    let Some(from) = small_number(matches, "from", u32::MAX) else {
+        return Err(BAD_FROM);
+    };
+    let Some(len) = small_number(matches, "len", u32::MAX) else {
+        return Err(BAD_LEN);
+    };
     let range = ByteRange { from, len };
     Ok(ViewRequest {
         replay,

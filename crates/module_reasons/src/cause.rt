@@ -3,6 +3,7 @@
 use crate::op_code::OpCode;
 use crate::place::section_name;
 use crate::type_fault::TypeFault;
+use crate::words::{write_number, write_numbers};
 use quoted_bytes::Quoted;
 use std::fmt;
 
@@ -194,43 +195,43 @@ fn write_misplaced<W: fmt::Write>(
     write!(f, "the {section} stands behind the {behind}")
 }
 
-// Writes how far the length of a section goes.
-fn write_past_end<W: fmt::Write>(
-    f: &mut fmt::Formatter<W>,
-    length: u32,
-    left: usize,
-) -> fmt::Result {
-    write!(
-        f,
-        "its length of {length} bytes goes past the end of the file: {left} are left"
-    )
-}
-
-// Writes how many bodies there are, and how many there should be.
-fn write_bodies<W: fmt::Write>(
-    f: &mut fmt::Formatter<W>,
-    bodies: u32,
-    functions: u32,
-) -> fmt::Result {
-    write!(
-        f,
-        "{bodies} bodies stand in it, and the function section has {functions} functions"
-    )
-}
-
 impl fmt::Display for SectionFault {
     fn fmt<W: fmt::Write>(&self, f: &mut fmt::Formatter<W>) -> fmt::Result {
         match *self {
             SectionFault::Unknown(id) => write_unknown(f, id),
             SectionFault::Repeated(id) => write!(f, "a second {}", section_name(id)),
             SectionFault::Misplaced { section, behind } => write_misplaced(f, section, behind),
-            SectionFault::PastEnd { length, left } => write_past_end(f, length, left),
-            SectionFault::LeftOver(left) => {
-                write!(f, "{left} bytes are left behind what the section counts")
-            }
-            SectionFault::Bodies { bodies, functions } => write_bodies(f, bodies, functions),
+            SectionFault::PastEnd { length, left } => write_numbers(
+                f,
+                [
+                    "its length of ",
+                    " bytes goes past the end of the file: ",
+                    " are left",
+                ],
+                [u64::from(length), left as u64],
+            ),
+            SectionFault::LeftOver(left) => write_number(
+                f,
+                "",
+                left as u64,
+                " bytes are left behind what the section counts",
+            ),
+            SectionFault::Bodies { bodies, functions } => write_numbers(
+                f,
+                [
+                    "",
+                    " bodies stand in it, and the function section has ",
+                    " functions",
+                ],
+                [u64::from(bodies), u64::from(functions)],
+            ),
             SectionFault::NoCode(functions) => {
-                write!(f, "{functions} functions have no code section")
+                write_number(
+                    f,
+                    "",
+                    u64::from(functions),
+                    " functions have no code section",
+                )
             }
         }
     }
@@ -244,11 +245,15 @@ impl fmt::Display for SpellingFault {
             }
             SpellingFault::Number(integer) => write!(f, "no {integer} stands there in LEB128"),
             SpellingFault::ByteMissing => f.write_str("a byte is missing"),
-            SpellingFault::TooLong { length, left } => {
-                write!(f, "a length of {length} bytes, and {left} are left")
-            }
+            SpellingFault::TooLong { length, left } => write_numbers(
+                f,
+                ["a length of ", " bytes, and ", " are left"],
+                [u64::from(length), left as u64],
+            ),
             SpellingFault::NotText => f.write_str("a name that is not UTF-8"),
-            SpellingFault::LeftOver(left) => write!(f, "{left} bytes are left over"),
+            SpellingFault::LeftOver(left) => {
+                write_number(f, "", left as u64, " bytes are left over")
+            }
         }
     }
 }
@@ -281,13 +286,17 @@ impl<'a> fmt::Display for ItemFault<'a> {
                 let name = kind_name(kind);
                 write!(f, "0x{kind:02x} is an exported {name}, outside the profile")
             }
-            ItemFault::Element(kind) => write!(
+            ItemFault::Element(kind) => write_number(
                 f,
-                "a segment of kind {kind} is of bulk memory or reference types, outside the profile: compile with -mno-bulk-memory and -mno-reference-types"
+                "a segment of kind ",
+                u64::from(kind),
+                " is of bulk memory or reference types, outside the profile: compile with -mno-bulk-memory and -mno-reference-types",
             ),
-            ItemFault::Data(kind) => write!(
+            ItemFault::Data(kind) => write_number(
                 f,
-                "a segment of kind {kind} is of bulk memory, outside the profile: compile with -mno-bulk-memory"
+                "a segment of kind ",
+                u64::from(kind),
+                " is of bulk memory, outside the profile: compile with -mno-bulk-memory",
             ),
         }
     }
@@ -350,29 +359,34 @@ impl fmt::Display for CodeFault {
 
 impl fmt::Display for Limit {
     fn fmt<W: fmt::Write>(&self, f: &mut fmt::Formatter<W>) -> fmt::Result {
-        match *self {
-            Limit::Bytes(bytes) => write!(f, "the file has {bytes} bytes, and may have 1048576"),
-            Limit::Pages(pages) => {
-                write!(
-                    f,
-                    "the memory begins with {pages} pages, and may begin with 256"
-                )
-            }
-            Limit::Elements(elements) => write!(
-                f,
-                "the table begins with {elements} elements, and may begin with 4096"
+        let (before, number, behind) = match *self {
+            Limit::Bytes(bytes) => (
+                "the file has ",
+                bytes as u64,
+                " bytes, and may have 1048576",
             ),
-            Limit::Parameters(count) => {
-                write!(
-                    f,
-                    "it has {count} parameters, and may have 1024 with its locals"
-                )
-            }
-            Limit::Locals(count) => write!(
-                f,
-                "it has {count} parameters and locals or more, and may have 1024"
+            Limit::Pages(pages) => (
+                "the memory begins with ",
+                u64::from(pages),
+                " pages, and may begin with 256",
             ),
-        }
+            Limit::Elements(elements) => (
+                "the table begins with ",
+                u64::from(elements),
+                " elements, and may begin with 4096",
+            ),
+            Limit::Parameters(count) => (
+                "it has ",
+                u64::from(count),
+                " parameters, and may have 1024 with its locals",
+            ),
+            Limit::Locals(count) => (
+                "it has ",
+                count,
+                " parameters and locals or more, and may have 1024",
+            ),
+        };
+        write_number(f, before, number, behind)
     }
 }
 

@@ -73,21 +73,13 @@ fn labels<'a>(reader: &mut Reader<'a>) -> Result<(), Stop<'a>> {
     for _ in 0..count {
         reader.number()?;
     }
-    reader.number()?;
-    Ok(())
-}
-
-// Passes over an index.
-fn index<'a>(reader: &mut Reader<'a>) -> Result<(), Stop<'a>> {
-    reader.number()?;
-    Ok(())
+    reader.unsigned_32()
 }
 
 // Passes over an alignment and an offset.
 fn access<'a>(reader: &mut Reader<'a>) -> Result<(), Stop<'a>> {
     reader.number()?;
-    reader.number()?;
-    Ok(())
+    reader.unsigned_32()
 }
 
 // Passes over the type and the table of an indirect call.
@@ -138,7 +130,7 @@ fn instruction<'a>(reader: &mut Reader<'a>) -> Result<Nests, Stop<'a>> {
     match operands_of(code) {
         Operands::Nothing => {}
         Operands::Block => block_type(reader)?,
-        Operands::Index => index(reader)?,
+        Operands::Index => reader.unsigned_32()?,
         Operands::Labels => labels(reader)?,
         Operands::IndirectCall => indirect_call(reader)?,
         Operands::Access => access(reader)?,

@@ -44,7 +44,7 @@ pub(crate) fn func_type<'a>(reader: &mut Reader<'a>) -> Result<u32, Stop<'a>> {
 // Passes over the most of limits, where there is one.
 fn maximum<'a>(has_maximum: bool, reader: &mut Reader<'a>) -> Result<(), Stop<'a>> {
     if has_maximum {
-        reader.number()?;
+        return reader.unsigned_32();
     }
     Ok(())
 }
@@ -148,8 +148,7 @@ fn export<'a>(reader: &mut Reader<'a>) -> Result<(), Stop<'a>> {
     if kind > 0x03 {
         return Err(start.stop(Cause::Item(ItemFault::Export(kind))));
     }
-    reader.number()?;
-    Ok(())
+    reader.unsigned_32()
 }
 
 // Passes over the offset of a segment, before which a number stands that is its kind where it is from 1 to 7.
@@ -188,12 +187,6 @@ fn data_segment<'a>(reader: &mut Reader<'a>) -> Result<(), Stop<'a>> {
     Ok(())
 }
 
-// Passes over a function's type, by its number.
-fn type_index<'a>(reader: &mut Reader<'a>) -> Result<(), Stop<'a>> {
-    reader.number()?;
-    Ok(())
-}
-
 /// Passes over an item of a section that is a vector of such.
 pub(crate) fn item<'a>(section: u8, reader: &mut Reader<'a>) -> Result<(), Stop<'a>> {
     match section {
@@ -202,7 +195,7 @@ pub(crate) fn item<'a>(section: u8, reader: &mut Reader<'a>) -> Result<(), Stop<
             Ok(())
         }
         2 => import(reader),
-        3 => type_index(reader),
+        3 => reader.unsigned_32(),
         4 => table_type(reader),
         5 => memory_type(reader),
         6 => global(reader),

@@ -21,6 +21,7 @@ mod stack;
 mod step_fault;
 mod type_fault;
 mod validation;
+mod words;
 
 pub use cause::{
     Cause, CodeFault, HeaderFault, Integer, ItemFault, Limit, SectionFault, SpellingFault,

@@ -1,5 +1,6 @@
 //! The rules of a module as a whole.
 
+use crate::words::{write_number, write_numbers};
 use std::alloc::Global as Alloc;
 use std::collections::BTreeMap;
 use std::fmt;
@@ -276,41 +277,24 @@ fn names_fault(alloc: Alloc, exports: &[Export]) -> Result<Option<ModuleFault>, 
 
 // The first rule that types, functions, the table or the memory break.
 fn heads_fault(module: &Module) -> Option<ModuleFault> {
-    if let Some(fault) = types_fault(module) {
-        return Some(fault);
-    }
-    if let Some(fault) = functions_fault(module) {
-        return Some(fault);
-    }
-    if let Some(fault) = tables_fault(module) {
-        return Some(fault);
-    }
-    memories_fault(module)
+    types_fault(module)
+        .or(functions_fault(module))
+        .or(tables_fault(module))
+        .or(memories_fault(module))
 }
 
 // The first rule that what is behind the memory breaks.
 fn others_fault(module: &Module) -> Option<ModuleFault> {
-    if let Some(fault) = globals_fault(module) {
-        return Some(fault);
-    }
-    if let Some(fault) = exports_fault(module) {
-        return Some(fault);
-    }
-    if let Some(fault) = start_fault(module) {
-        return Some(fault);
-    }
-    if let Some(fault) = elements_fault(module) {
-        return Some(fault);
-    }
-    data_fault(module)
+    globals_fault(module)
+        .or(exports_fault(module))
+        .or(start_fault(module))
+        .or(elements_fault(module))
+        .or(data_fault(module))
 }
 
 /// The first rule that a module breaks, in the order in which they are tested.
 pub(crate) fn module_fault(alloc: Alloc, module: &Module) -> Result<ModuleFault, NoMemory> {
-    if let Some(fault) = heads_fault(module) {
-        return Ok(fault);
-    }
-    if let Some(fault) = others_fault(module) {
+    if let Some(fault) = heads_fault(module).or(others_fault(module)) {
         return Ok(fault);
     }
     Ok(names_fault(alloc, module.exports.as_slice())?.unwrap_or(ModuleFault::Unknown))
@@ -326,18 +310,6 @@ fn kind_name(kind: ExportKind) -> &'static str {
     }
 }
 
-// Writes how many results a type has.
-fn write_results<W: fmt::Write>(
-    f: &mut fmt::Formatter<W>,
-    number: u32,
-    results: usize,
-) -> fmt::Result {
-    write!(
-        f,
-        "type {number} has {results} results, and may have one: compile with -mno-multivalue"
-    )
-}
-
 // Writes which type a function has.
 fn write_function_type<W: fmt::Write>(
     f: &mut fmt::Formatter<W>,
@@ -351,42 +323,43 @@ fn write_function_type<W: fmt::Write>(
     )
 }
 
-// Writes how many things a module has, of which it may have one.
-fn write_count<W: fmt::Write>(
-    f: &mut fmt::Formatter<W>,
-    count: usize,
-    things: &'static str,
-) -> fmt::Result {
-    write!(f, "it has {count} {things}, and may have one")
-}
-
-// Writes sizes that are in the wrong order.
-fn write_limits<W: fmt::Write>(
-    f: &mut fmt::Formatter<W>,
-    minimum: u32,
-    maximum: u32,
-) -> fmt::Result {
-    write!(
-        f,
-        "the least size {minimum} is above the greatest, {maximum}"
-    )
-}
-
 impl fmt::Display for ModuleFault {
     fn fmt<W: fmt::Write>(&self, f: &mut fmt::Formatter<W>) -> fmt::Result {
         match *self {
-            ModuleFault::Results { number, results } => write_results(f, number, results),
+            ModuleFault::Results { number, results } => write_numbers(
+                f,
+                [
+                    "type ",
+                    " has ",
+                    " results, and may have one: compile with -mno-multivalue",
+                ],
+                [u64::from(number), results as u64],
+            ),
             ModuleFault::FunctionType {
                 function,
                 number,
                 count,
             } => write_function_type(f, function, number, count),
-            ModuleFault::Tables(count) => write_count(f, count, "tables"),
-            ModuleFault::Limits { minimum, maximum } => write_limits(f, minimum, maximum),
-            ModuleFault::Memories(count) => write_count(f, count, "memories, imported and own"),
-            ModuleFault::Pages(pages) => {
-                write!(f, "the memory has {pages} pages, and may have 65536")
+            ModuleFault::Tables(count) => {
+                write_number(f, "it has ", count as u64, " tables, and may have one")
             }
+            ModuleFault::Limits { minimum, maximum } => write_numbers(
+                f,
+                ["the least size ", " is above the greatest, ", ""],
+                [u64::from(minimum), u64::from(maximum)],
+            ),
+            ModuleFault::Memories(count) => write_number(
+                f,
+                "it has ",
+                count as u64,
+                " memories, imported and own, and may have one",
+            ),
+            ModuleFault::Pages(pages) => write_number(
+                f,
+                "the memory has ",
+                u64::from(pages),
+                " pages, and may have 65536",
+            ),
             ModuleFault::Unbounded => f.write_str("the memory is shared and has no greatest size"),
             fault => write!(f, "{}", LaterFault(fault)),
         }
@@ -411,33 +384,36 @@ fn write_export<W: fmt::Write>(
     )
 }
 
-// Writes which exports have one name.
-fn write_same_name<W: fmt::Write>(
-    f: &mut fmt::Formatter<W>,
-    first: u32,
-    second: u32,
-) -> fmt::Result {
-    write!(f, "exports {first} and {second} have the same name")
-}
-
 impl fmt::Display for LaterFault {
     fn fmt<W: fmt::Write>(&self, f: &mut fmt::Formatter<W>) -> fmt::Result {
         match self.0 {
-            ModuleFault::GlobalValue(global) => {
-                write!(f, "global {global} begins with a value of another type")
-            }
+            ModuleFault::GlobalValue(global) => write_number(
+                f,
+                "global ",
+                u64::from(global),
+                " begins with a value of another type",
+            ),
             ModuleFault::Export {
                 export,
                 kind,
                 index,
             } => write_export(f, export, kind, index),
-            ModuleFault::SameName { first, second } => write_same_name(f, first, second),
-            ModuleFault::StartMissing(function) => {
-                write!(f, "the start function {function} is not there")
-            }
-            ModuleFault::StartType(function) => write!(
+            ModuleFault::SameName { first, second } => write_numbers(
                 f,
-                "the start function {function} takes or leaves something, and may do neither"
+                ["exports ", " and ", " have the same name"],
+                [u64::from(first), u64::from(second)],
+            ),
+            ModuleFault::StartMissing(function) => write_number(
+                f,
+                "the start function ",
+                u64::from(function),
+                " is not there",
+            ),
+            ModuleFault::StartType(function) => write_number(
+                f,
+                "the start function ",
+                u64::from(function),
+                " takes or leaves something, and may do neither",
             ),
             fault => write!(f, "{}", SegmentFault(fault)),
         }
@@ -447,29 +423,6 @@ impl fmt::Display for LaterFault {
 /// A rule of segments.
 #[derive(Clone, Copy)]
 struct SegmentFault(ModuleFault);
-
-// Writes for what a segment is that is not there.
-fn write_missing<W: fmt::Write>(
-    f: &mut fmt::Formatter<W>,
-    kind: &'static str,
-    segment: u32,
-    wanted: &'static str,
-    index: u32,
-) -> fmt::Result {
-    write!(
-        f,
-        "{kind} segment {segment} is for {wanted} {index}, which is not there"
-    )
-}
-
-// Writes which segment has an offset of another type.
-fn write_offset<W: fmt::Write>(
-    f: &mut fmt::Formatter<W>,
-    kind: &'static str,
-    segment: u32,
-) -> fmt::Result {
-    write!(f, "the offset of {kind} segment {segment} is no i32")
-}
 
 // Writes which function a segment names.
 fn write_named<W: fmt::Write>(
@@ -487,19 +440,33 @@ fn write_named<W: fmt::Write>(
 impl fmt::Display for SegmentFault {
     fn fmt<W: fmt::Write>(&self, f: &mut fmt::Formatter<W>) -> fmt::Result {
         match self.0 {
-            ModuleFault::ElementTable { segment, table } => {
-                write_missing(f, "element", segment, "table", table)
-            }
-            ModuleFault::ElementOffset(segment) => write_offset(f, "element", segment),
+            ModuleFault::ElementTable { segment, table } => write_numbers(
+                f,
+                ["element segment ", " is for table ", ", which is not there"],
+                [u64::from(segment), u64::from(table)],
+            ),
+            ModuleFault::ElementOffset(segment) => write_number(
+                f,
+                "the offset of element segment ",
+                u64::from(segment),
+                " is no i32",
+            ),
             ModuleFault::ElementFunction {
                 segment,
                 function,
                 count,
             } => write_named(f, segment, function, count),
-            ModuleFault::DataMemory { segment, memory } => {
-                write_missing(f, "data", segment, "memory", memory)
-            }
-            ModuleFault::DataOffset(segment) => write_offset(f, "data", segment),
+            ModuleFault::DataMemory { segment, memory } => write_numbers(
+                f,
+                ["data segment ", " is for memory ", ", which is not there"],
+                [u64::from(segment), u64::from(memory)],
+            ),
+            ModuleFault::DataOffset(segment) => write_number(
+                f,
+                "the offset of data segment ",
+                u64::from(segment),
+                " is no i32",
+            ),
             _ => f.write_str("it breaks a rule of modules"),
         }
     }

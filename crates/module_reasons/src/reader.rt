@@ -87,6 +87,12 @@ impl<'a> Reader<'a> {
         }
     }
 
+    /// An unsigned number of 32 bits, which is passed over.
+    pub(crate) fn unsigned_32(&mut self) -> Result<(), Stop<'a>> {
+        self.number()?;
+        Ok(())
+    }
+
     /// A signed number of 32 bits, which is passed over.
     pub(crate) fn signed_32(&mut self) -> Result<(), Stop<'a>> {
         let stop = self.no_number(Integer::Signed32);

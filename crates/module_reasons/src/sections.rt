@@ -30,12 +30,6 @@ fn custom<'a>(reader: &mut Reader<'a>) -> Result<(), Stop<'a>> {
     Ok(())
 }
 
-// Passes over the number of the start function.
-fn start_function<'a>(reader: &mut Reader<'a>) -> Result<(), Stop<'a>> {
-    reader.number()?;
-    Ok(())
-}
-
 // Passes over the content of a section that begins at `head`.
 fn content<'a>(
     aim: usize,
@@ -46,7 +40,7 @@ fn content<'a>(
 ) -> Result<(), Stop<'a>> {
     match section {
         0 => custom(reader)?,
-        8 => start_function(reader)?,
+        8 => reader.unsigned_32()?,
         10 => code(aim, known, head, reader)?,
         _ => items(section, reader)?,
     }

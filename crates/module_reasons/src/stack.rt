@@ -245,26 +245,11 @@ impl TypeStack {
         Ok(())
     }
 
-    // What is behind an instruction is never reached.
-    fn leave(&mut self, block: Block) -> Result<(), NoMemory> {
+    // Puts another block in the place of the innermost, without its operands.
+    fn replace(&mut self, block: Block) -> Result<(), NoMemory> {
         self.operands.truncate(block.height);
         self.blocks.pop();
-        self.blocks.push(Block {
-            unreachable: true,
-            ..block
-        })?;
-        Ok(())
-    }
-
-    // Begins the second arm of an `if`.
-    fn turn(&mut self, block: Block) -> Result<(), NoMemory> {
-        self.operands.truncate(block.height);
-        self.blocks.pop();
-        self.blocks.push(Block {
-            first_arm: false,
-            unreachable: false,
-            ..block
-        })?;
+        self.blocks.push(block)?;
         Ok(())
     }
 
@@ -290,12 +275,19 @@ impl TypeStack {
                 Ok(())
             }
             Effect::Selects => self.select(&block),
-            Effect::Leaves(_) => self.leave(block),
+            Effect::Leaves(_) => self.replace(Block {
+                unreachable: true,
+                ..block
+            }),
             Effect::Enters(takes, kind, result) => {
                 self.take(&block, takes.count());
                 self.enter(*kind, *result)
             }
-            Effect::Turns => self.turn(block),
+            Effect::Turns => self.replace(Block {
+                first_arm: false,
+                unreachable: false,
+                ..block
+            }),
             Effect::Ends => self.end(block),
             Effect::Wrong(_) => Ok(()),
         }

@@ -1,0 +1,258 @@
+//! The commands and their arguments.
+
+ghost use Rattle.std.specs.Prelude.{◌≡◌};
+ghost use Rattle.clap.specs.Words.{new_app};
+ghost use Rattle.command_words.specs.Tables.{name_for, app_for, with_rules};
+
+use crate::help;
+
+/// A command.
+#[derive(Clone, Copy)]
+pub(crate) enum Subcommand {
+    Check,
+    Record,
+    Replay,
+    View,
+    Gather,
+}
+
+/// The commands, in the order of the help.
+pub(crate) static SUBCOMMANDS: &[Subcommand] = &[
+    Subcommand::Check,
+    Subcommand::Record,
+    Subcommand::Replay,
+    Subcommand::View,
+    Subcommand::Gather,
+];
+
+/// What an argument is, and what it takes.
+#[derive(Clone, Copy)]
+pub(crate) enum Takes {
+    /// A file that has to be named.
+    File,
+    /// `--NAME VALUE`: what the value is called.
+    Value(&'static str),
+    /// `--NAME VALUE`, with a default: what the value is called, and the default.
+    ValueOr(&'static str, &'static str),
+    /// `--NAME`.
+    Nothing,
+}
+
+/// An argument of a command.
+#[derive(Clone, Copy)]
+pub(crate) struct ArgumentRow {
+    pub(crate) name: &'static str,
+    pub(crate) takes: Takes,
+    pub(crate) help: &'static str,
+}
+
+const MODULE: ArgumentRow = ArgumentRow {
+    name: "MODULE",
+    takes: Takes::File,
+    help: "The file of the module",
+};
+
+const PLAN: ArgumentRow = ArgumentRow {
+    name: "PLAN",
+    takes: Takes::File,
+    help: "The file of the plan",
+};
+
+const PIECES: ArgumentRow = ArgumentRow {
+    name: "PIECES",
+    takes: Takes::File,
+    help: "The file of the piece lines",
+};
+
+const ORDER: ArgumentRow = ArgumentRow {
+    name: "order",
+    takes: Takes::Value("LIST"),
+    help: "Threads that take turns first: numbers joined by commas",
+};
+
+const WHY: ArgumentRow = ArgumentRow {
+    name: "why",
+    takes: Takes::Nothing,
+    help: "Say in a second line of standard error why it is refused",
+};
+
+/// The arguments of `check`.
+static OF_CHECK: &[ArgumentRow] = &[MODULE, WHY];
+
+/// The arguments of `record`.
+static OF_RECORD: &[ArgumentRow] = &[
+    MODULE,
+    PLAN,
+    ArgumentRow {
+        name: "schedule",
+        takes: Takes::Value("FILE"),
+        help: "Run the threads by the schedule in FILE",
+    },
+    ArgumentRow {
+        name: "threads",
+        takes: Takes::Nothing,
+        help: "Run the threads at once, as the system lets them",
+    },
+    ArgumentRow {
+        name: "timeouts",
+        takes: Takes::ValueOr("WHEN", "never"),
+        help: "With --threads: when waits time out, never or now",
+    },
+    ArgumentRow {
+        name: "run",
+        takes: Takes::ValueOr("N", "0"),
+        help: "The number of the run, below 2^64",
+    },
+    ArgumentRow {
+        name: "steps",
+        takes: Takes::ValueOr("N", "1000000"),
+        help: "The most steps of a thread, to 1000000000",
+    },
+    ArgumentRow {
+        name: "size",
+        takes: Takes::ValueOr("N", "4096"),
+        help: "The most entries of a piece, 1 to 4096",
+    },
+    ArgumentRow {
+        name: "block",
+        takes: Takes::ValueOr("N", "64"),
+        help: "The bytes of a block: 64, 128, .. 4096",
+    },
+    ArgumentRow {
+        name: "report",
+        takes: Takes::Nothing,
+        help: "Write what the run came to",
+    },
+    WHY,
+];
+
+/// The arguments of `replay`.
+static OF_REPLAY: &[ArgumentRow] = &[
+    MODULE,
+    PLAN,
+    PIECES,
+    ORDER,
+    ArgumentRow {
+        name: "threads",
+        takes: Takes::Nothing,
+        help: "Replay the threads at once, as the system lets them",
+    },
+    WHY,
+];
+
+/// The arguments of `view`.
+static OF_VIEW: &[ArgumentRow] = &[
+    MODULE,
+    PLAN,
+    PIECES,
+    ORDER,
+    ArgumentRow {
+        name: "place",
+        takes: Takes::Value("T.P"),
+        help: "Stop where thread T has made P accesses",
+    },
+    ArgumentRow {
+        name: "step",
+        takes: Takes::Value("T.N"),
+        help: "Stop where thread T has made N steps",
+    },
+    ArgumentRow {
+        name: "write",
+        takes: Takes::Value("FROM+LEN"),
+        help: "Stop behind a write of a block that has one of LEN bytes from FROM on",
+    },
+    ArgumentRow {
+        name: "from",
+        takes: Takes::ValueOr("N", "0"),
+        help: "The first byte that is shown",
+    },
+    ArgumentRow {
+        name: "len",
+        takes: Takes::ValueOr("N", "64"),
+        help: "How many bytes are shown",
+    },
+    ArgumentRow {
+        name: "names",
+        takes: Takes::Nothing,
+        help: "Say in which functions each thread stands",
+    },
+    WHY,
+];
+
+/// The arguments of `gather`.
+static OF_GATHER: &[ArgumentRow] = &[
+    ArgumentRow {
+        name: "skip",
+        takes: Takes::Nothing,
+        help: "Pass over lines that cannot be joined, and count them",
+    },
+    ArgumentRow {
+        name: "objects",
+        takes: Takes::Nothing,
+        help: "Say behind each entry which bytes its objects are",
+    },
+    WHY,
+];
+
+impl Subcommand {
+    /// What it is called.
+    pub(crate) fn name<'a>(self) -> &'a str
+        ensures { result.now ≡ name_for self }
+    {
+        match self {
+            Subcommand::Check => "check",
+            Subcommand::Record => "record",
+            Subcommand::Replay => "replay",
+            Subcommand::View => "view",
+            Subcommand::Gather => "gather",
+        }
+    }
+
+    /// What it does, in a line.
+    pub(crate) fn about<'a>(self) -> &'a str {
+        match self {
+            Subcommand::Check => "Decode and validate a module, and summarize it",
+            Subcommand::Record => {
+                "Run threads by a schedule or at once, and write the pieces of the log"
+            }
+            Subcommand::Replay => "Make a recorded run again, and write what it came to",
+            Subcommand::View => "Stop a replay where it matters, and show it",
+            Subcommand::Gather => "Join piece lines into one log, and list it",
+        }
+    }
+
+    /// The text at the top of its help.
+    pub(crate) fn long_about<'a>(self) -> &'a str {
+        match self {
+            Subcommand::Check => help::CHECK_ABOUT,
+            Subcommand::Record => help::RECORD_ABOUT,
+            Subcommand::Replay => help::REPLAY_ABOUT,
+            Subcommand::View => help::VIEW_ABOUT,
+            Subcommand::Gather => help::GATHER_ABOUT,
+        }
+    }
+
+    /// The text at the end of its help.
+    pub(crate) fn after_help<'a>(self) -> &'a str {
+        match self {
+            Subcommand::Check => help::CHECK_REFUSALS,
+            Subcommand::Record => help::RECORD_REFUSALS,
+            Subcommand::Replay => help::REPLAY_REFUSALS,
+            Subcommand::View => help::VIEW_REFUSALS,
+            Subcommand::Gather => help::GATHER_REFUSALS,
+        }
+    }
+
+    /// Its arguments.
+    pub(crate) fn arguments(self) -> &'static [ArgumentRow]
+        ensures { with_rules (new_app (name_for self)) result.now ≡ app_for self }
+    {
+        match self {
+            Subcommand::Check => OF_CHECK,
+            Subcommand::Record => OF_RECORD,
+            Subcommand::Replay => OF_REPLAY,
+            Subcommand::View => OF_VIEW,
+            Subcommand::Gather => OF_GATHER,
+        }
+    }
+}
