@@ -15,6 +15,3 @@ pub use fault::ViewFault;
 pub use text::view;
 pub use threads::{ThreadView, thread_view};
 pub use values::{bytes, versions};
-
-#[cfg(test)]
-mod tests;

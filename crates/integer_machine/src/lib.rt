@@ -16,18 +16,3 @@ pub use instance::{instance_for, memory_limits};
 pub use laws::fields_have_one_meaning;
 pub use standing::CodePlace;
 pub use state::{ThreadSeen, ThreadState};
-
-#[cfg(test)]
-mod access_tests;
-#[cfg(test)]
-mod call_tests;
-#[cfg(test)]
-mod growth_tests;
-#[cfg(test)]
-mod test_threads;
-#[cfg(test)]
-mod tests;
-#[cfg(test)]
-mod thread_tests;
-#[cfg(test)]
-mod wait_tests;

@@ -12,8 +12,3 @@ pub use plan::plan_reason;
 pub use plan_reasons::PlanReason;
 pub use schedule::schedule_reason;
 pub use schedule_reasons::ScheduleReason;
-
-#[cfg(test)]
-mod plan_tests;
-#[cfg(test)]
-mod schedule_tests;

@@ -1,5 +1,7 @@
 //! Pieces, their bytes and their lines.
 
+ghost use Rattle.std.specs.Prelude.{◌<◌, length};
+
 use log_pieces::{DecodeFault, End, Piece, PieceFault, decode, encode, line, read_line};
 use rw_objects::{Entry, Few, Found, Kind};
 use std::alloc::Global;
@@ -33,141 +35,221 @@ const BLOCK_64: &str = "\
     000002000100010100000001000000000000000000000000000000000001010000000101000000000000000000000000\
     00000008000000020000000301000000";
 
-fn bytes_of(rt: &HostRuntime, text: &str) -> Result<Vec<u8>, Fail> {
-    Ok(hex::decode(rt.alloc(), text)?)
+fn bytes_of(alloc: Global, text: &str) -> Result<Vec<u8>, Fail> {
+    Ok(hex::decode(alloc, text)?)
 }
 
-// The bytes are no piece, or another piece than `WHOLE` with these very bytes.
-fn is_another(rt: &HostRuntime, bytes: &[u8]) -> Result<bool, Fail> {
-    match decode(rt.alloc(), bytes) {
+fn piece_of(alloc: Global, text: &str) -> Result<Piece, Fail> {
+    let bytes = bytes_of(alloc, text)?;
+    Ok(decode(alloc, &bytes)?)
+}
+
+// The digits of a piece's bytes.
+fn digits_of(alloc: Global, piece: &Piece) -> Result<String, Fail> {
+    let bytes = encode(alloc, piece)?;
+    Ok(hex::encode(alloc, &bytes)?)
+}
+
+// The line of a piece.
+fn line_of(alloc: Global, piece: &Piece) -> Result<String, Fail> {
+    let line = line(alloc, piece)?;
+    Ok(String::from_utf8(line)?)
+}
+
+// The piece that stands in this line.
+fn read_again(alloc: Global, line: &str) -> Result<String, Fail> {
+    let piece = read_line(alloc, line.as_bytes())?;
+    digits_of(alloc, &piece)
+}
+
+// The digits of a piece, its line, and the digits of what is read of the line.
+fn told(alloc: Global, piece: &Piece) -> Result<String, Fail> {
+    let digits = digits_of(alloc, piece)?;
+    let line = line_of(alloc, piece)?;
+    let again = read_again(alloc, line.as_str())?;
+    Ok(format!(in alloc; "{digits} {line}{again}")?)
+}
+
+// The same of the piece of these digits.
+fn told_of(alloc: Global, text: &str) -> Result<String, Fail> {
+    let piece = piece_of(alloc, text)?;
+    told(alloc, &piece)
+}
+
+// Pieces, and how many bytes they have.
+static PIECES: &[(&str, usize)] = &[
+    (WHOLE, 111),
+    (FIRST, 75),
+    (SECOND, 88),
+    (ONLY_END, 61),
+    (BLOCK_64, 112),
+];
+
+#[test]
+fn pieces_are_read_and_written(rt: HostRuntime) -> Result<(), Fail> {
+    for (text, len) in PIECES {
+        assert_eq!(rt; text.len() / 2, *len);
+        let found = told_of(rt.alloc(), text)?;
+        let want = format!(in rt.alloc(); "{text} {text}\n{text}")?;
+        assert_eq!(rt; found.as_str(), want.as_str());
+    }
+    Ok(())
+}
+
+// Digits of outcomes, and the outcomes.
+static OUTCOMES: &[(&str, Outcome)] = &[
+    ("00", Outcome::Running),
+    ("01", Outcome::Waiting),
+    ("02", Outcome::Done(None)),
+    ("03feffffff", Outcome::Done(Some(Value::I32(0xffff_fffe)))),
+    (
+        "040100000000000080",
+        Outcome::Done(Some(Value::I64(0x8000_0000_0000_0001))),
+    ),
+    ("050a", Outcome::Trapped(Trap::MemoryNotShared)),
+];
+
+// The run of a piece, its thread, its first place, how many entries it has, its end, and its digits.
+fn told_parts(alloc: Global, piece: &Piece) -> Result<String, Fail> {
+    let digits = digits_of(alloc, piece)?;
+    let (run, thread, first) = (piece.key().run, piece.thread(), piece.first());
+    let (count, end) = (piece.entries().len(), piece.end());
+    Ok(format!(in alloc; "{run} {thread} {first} {count} {end:?} {digits}")?)
+}
+
+// The same of the piece of these digits.
+fn parts_of(alloc: Global, text: &str) -> Result<String, Fail> {
+    let piece = piece_of(alloc, text)?;
+    told_parts(alloc, &piece)
+}
+
+#[test]
+fn outcomes_are_read_and_written(rt: HostRuntime) -> Result<(), Fail> {
+    for (digits, outcome) in OUTCOMES {
+        let text = format!(in rt.alloc(); "{}{digits}", &ONLY_END[..120])?;
+        let end = Some(End {
+            steps: 3,
+            places: 0,
+            outcome: *outcome,
+        });
+        let found = parts_of(rt.alloc(), text.as_str())?;
+        let want = format!(in rt.alloc(); "1 3 0 0 {end:?} {text}")?;
+        assert_eq!(rt; found.as_str(), want.as_str());
+    }
+    Ok(())
+}
+
+// The beginning of a text, other characters, and the rest from there on.
+fn edited(
+    alloc: Global,
+    text: &str,
+    until: usize,
+    other: &str,
+    from: usize,
+) -> Result<String, Fail> {
+    let front = text.get(..until).ok_or("no beginning")?;
+    let rest = text.get(from..).ok_or("no rest")?;
+    Ok(format!(in alloc; "{front}{other}{rest}")?)
+}
+
+fn is_no_piece(alloc: Global, bytes: &[u8]) -> bool {
+    matches!(decode(alloc, bytes), Err(DecodeFault::NotAPiece))
+}
+
+fn is_no_piece_in(alloc: Global, text: &str) -> Result<bool, Fail> {
+    let bytes = bytes_of(alloc, text)?;
+    Ok(is_no_piece(alloc, &bytes))
+}
+
+// Pieces of which these digits stand in place of those from the first place until the second.
+static NO_PIECES: &[(&str, usize, &str, usize)] = &[
+    (WHOLE, 222, "00", 222),
+    (ONLY_END, 120, "06", 122),
+    (ONLY_END, 120, "0500", 122),
+    (ONLY_END, 120, "050b", 122),
+    (BLOCK_64, 88, "05", 90),
+    (BLOCK_64, 88, "0d", 90),
+];
+
+#[test]
+fn other_bytes_are_no_piece(rt: HostRuntime) -> Result<(), Fail> {
+    for (piece, until, digits, from) in NO_PIECES {
+        let text = edited(rt.alloc(), piece, *until, digits, *from)?;
+        assert!(rt; is_no_piece_in(rt.alloc(), text.as_str())?, "{text}");
+    }
+    Ok(())
+}
+
+#[test]
+fn beginnings_are_no_piece(rt: HostRuntime) -> Result<(), Fail> {
+    let bytes = bytes_of(rt.alloc(), WHOLE)?;
+    for len in 0..bytes.len() {
+        assert!(rt; is_no_piece(rt.alloc(), &bytes[..len]), "{len}");
+    }
+    Ok(())
+}
+
+// The bytes are no piece, or another piece than these with these very bytes.
+fn is_another(alloc: Global, whole: &[u8], bytes: &[u8]) -> Result<bool, Fail> {
+    match decode(alloc, bytes) {
         Ok(piece) => {
-            let again = encode(rt.alloc(), &piece)?;
-            Ok(again.as_slice() == bytes && bytes != bytes_of(rt, WHOLE)?.as_slice())
+            let again = encode(alloc, &piece)?;
+            Ok(again.as_slice() == bytes && bytes != whole)
         }
         Err(fault) => Ok(fault == DecodeFault::NotAPiece),
     }
 }
 
-#[test]
-fn pieces_are_read_and_written(rt: HostRuntime) -> Result<(), Fail> {
-    for (text, len) in [
-        (WHOLE, 111),
-        (FIRST, 75),
-        (SECOND, 88),
-        (ONLY_END, 61),
-        (BLOCK_64, 112),
-    ] {
-        let bytes = bytes_of(&rt, text)?;
-        assert_eq!(rt; bytes.len(), len);
-        let piece = decode(rt.alloc(), &bytes)?;
-        assert_eq!(rt; encode(rt.alloc(), &piece)?.as_slice(), bytes.as_slice());
-        let written = line(rt.alloc(), &piece)?;
-        assert_eq!(rt;
-            written.as_slice(),
-            format!(in rt.alloc(); "{text}\n")?.as_bytes()
-        );
-        let again = read_line(rt.alloc(), &written)?;
-        assert_eq!(rt; encode(rt.alloc(), &again)?.as_slice(), bytes.as_slice());
-    }
-    Ok(())
-}
-
-#[test]
-fn outcomes_are_read_and_written(rt: HostRuntime) -> Result<(), Fail> {
-    let outcomes = [
-        ("00", Outcome::Running),
-        ("01", Outcome::Waiting),
-        ("02", Outcome::Done(None)),
-        ("03feffffff", Outcome::Done(Some(Value::I32(0xffff_fffe)))),
-        (
-            "040100000000000080",
-            Outcome::Done(Some(Value::I64(0x8000_0000_0000_0001))),
-        ),
-        ("050a", Outcome::Trapped(Trap::MemoryNotShared)),
-    ];
-    for (outcome_digits, outcome) in outcomes {
-        let text = format!(in rt.alloc(); "{}{outcome_digits}", &ONLY_END[..120])?;
-        let bytes = bytes_of(&rt, &text)?;
-        let end = End {
-            steps: 3,
-            places: 0,
-            outcome,
-        };
-        let piece = decode(rt.alloc(), &bytes)?;
-        assert_eq!(rt; piece.key().run, 1);
-        assert_eq!(rt; piece.thread(), 3);
-        assert_eq!(rt; piece.first(), 0);
-        assert_eq!(rt; piece.entries().len(), 0);
-        assert_eq!(rt; piece.end(), Some(end));
-        assert_eq!(rt; encode(rt.alloc(), &piece)?.as_slice(), bytes.as_slice());
-    }
-    Ok(())
-}
-
-#[test]
-fn other_bytes_are_no_piece(rt: HostRuntime) -> Result<(), Fail> {
-    let texts = [
-        format!(in rt.alloc(); "{WHOLE}00")?,
-        format!(in rt.alloc(); "{}06", &ONLY_END[..120])?,
-        format!(in rt.alloc(); "{}0500", &ONLY_END[..120])?,
-        format!(in rt.alloc(); "{}050b", &ONLY_END[..120])?,
-        format!(in rt.alloc(); "{}05{}", &BLOCK_64[..88], &BLOCK_64[90..])?,
-        format!(in rt.alloc(); "{}0d{}", &BLOCK_64[..88], &BLOCK_64[90..])?,
-    ];
-    for text in &texts {
-        let bytes = bytes_of(&rt, text)?;
-        assert!(rt;
-            matches!(decode(rt.alloc(), &bytes), Err(DecodeFault::NotAPiece)),
-            "{text}"
-        );
-    }
-    let bytes = bytes_of(&rt, WHOLE)?;
-    for len in 0..bytes.len() {
-        assert!(rt;
-            matches!(
-                decode(rt.alloc(), &bytes[..len]),
-                Err(DecodeFault::NotAPiece)
-            ),
-            "{len}"
-        );
-    }
-    Ok(())
+// The same of the bytes of which this bit is turned.
+fn is_another_with(alloc: Global, whole: &[u8], at: usize, bit: u8) -> Result<bool, Fail>
+    requires within { at < length whole.now }
+    requires of_byte { bit < 8 }
+{
+    let mut changed = whole.to_vec(alloc)?;
+    changed[at] ^= 1 << bit;
+    is_another(alloc, whole, &changed)
 }
 
 #[test]
 fn one_bit_makes_another_piece_or_none(rt: HostRuntime) -> Result<(), Fail> {
-    let bytes = bytes_of(&rt, WHOLE)?;
+    let bytes = bytes_of(rt.alloc(), WHOLE)?;
     for i in 0..bytes.len() {
         for bit in 0..8u8 {
-            let mut changed = bytes.to_vec(rt.alloc())?;
-            changed[i] ^= 1 << bit;
-            assert!(rt; is_another(&rt, &changed)?, "byte {i}, bit {bit}");
+            assert!(rt;
+                is_another_with(rt.alloc(), &bytes, i, bit)?,
+                "byte {i}, bit {bit}"
+            );
         }
     }
     Ok(())
 }
 
+fn is_no_line(alloc: Global, text: &str) -> bool {
+    matches!(
+        read_line(alloc, text.as_bytes()),
+        Err(DecodeFault::NotAPiece)
+    )
+}
+
+// What stands in place of the digits of `WHOLE` from the first place until the second, and what stands behind them.
+static NO_LINES: &[(usize, &str, usize, &str)] = &[
+    (0, "", 222, ""),
+    (0, "", 222, "\n"),
+    (222, "", 222, ""),
+    (222, "", 222, "\r\n"),
+    (222, "", 222, "\n\n"),
+    (0, " ", 0, "\n"),
+    (222, "0", 222, "\n"),
+    (220, "", 222, "\n"),
+    (8, "AA", 10, "\n"),
+];
+
 #[test]
 fn other_lines_are_no_piece(rt: HostRuntime) -> Result<(), Fail> {
-    let lines = [
-        format!(in rt.alloc(); "")?,
-        format!(in rt.alloc(); "\n")?,
-        format!(in rt.alloc(); "{WHOLE}")?,
-        format!(in rt.alloc(); "{WHOLE}\r\n")?,
-        format!(in rt.alloc(); "{WHOLE}\n\n")?,
-        format!(in rt.alloc(); " {WHOLE}\n")?,
-        format!(in rt.alloc(); "{WHOLE}0\n")?,
-        format!(in rt.alloc(); "{}\n", &WHOLE[..220])?,
-        format!(in rt.alloc(); "{}AA{}\n", &WHOLE[..8], &WHOLE[10..])?,
-    ];
-    for text in &lines {
-        assert!(rt;
-            matches!(
-                read_line(rt.alloc(), text.as_bytes()),
-                Err(DecodeFault::NotAPiece)
-            ),
-            "{text:?}"
-        );
+    for (until, other, from, end) in NO_LINES {
+        let mut text = edited(rt.alloc(), WHOLE, *until, other, *from)?;
+        text.push_str(end)?;
+        assert!(rt; is_no_line(rt.alloc(), text.as_str()), "{text:?}");
     }
     Ok(())
 }
@@ -188,29 +270,30 @@ fn entry(alloc: Global, objects: &[u32]) -> Entry {
     }
 }
 
-// The fault of so many entries that touch these objects, if there is one.
+// The fault of so many entries that touch these objects, with an end behind so many steps and places, if there is one.
 fn fault(
-    rt: &HostRuntime,
+    alloc: Global,
     profile: Profile,
     thread: u32,
     first: u32,
     count: usize,
     objects: &[u32],
-    end: Option<End>,
+    end: Option<(u32, u32)>,
 ) -> Result<Option<PieceFault>, Fail> {
     let key = RunKey {
         digest: [0; 32],
         run: 0,
         profile,
     };
-    let mut entries = Vec::new(rt.alloc());
+    let mut entries = Vec::new(alloc);
     for _ in 0..count {
-        entries.push(entry(rt.alloc(), objects))?;
+        entries.push(entry(alloc, objects))?;
     }
-    Ok(Piece::new(key, thread, first, entries, end).err())
+    Ok(Piece::new(key, thread, first, entries, end_of(end)).err())
 }
 
-fn end(steps: u32, places: u32) -> Option<End> {
+fn end_of(end: Option<(u32, u32)>) -> Option<End> {
+    let (steps, places) = end?;
     Some(End {
         steps,
         places,
@@ -218,94 +301,112 @@ fn end(steps: u32, places: u32) -> Option<End> {
     })
 }
 
+// The thread, the first place, how many entries there are, the objects of each, the end, and the fault.
+type Rule = (
+    u32,
+    u32,
+    usize,
+    &'static [u32],
+    Option<(u32, u32)>,
+    Option<PieceFault>,
+);
+
+static RULES: &[Rule] = &[
+    (16, 1_000_000_001, 0, &[], None, Some(PieceFault::Empty)),
+    (
+        16,
+        1_000_000_000,
+        4097,
+        &[],
+        None,
+        Some(PieceFault::TooMany),
+    ),
+    (0, 0, 4096, &[1], None, None),
+    (16, 1_000_000_000, 1, &[], None, Some(PieceFault::PastEnd)),
+    (0, 999_999_999, 1, &[1], None, None),
+    (0, 3, 2, &[1], Some((9, 4)), Some(PieceFault::PastEnd)),
+    (0, 3, 2, &[1], Some((9, 5)), None),
+    (0, 0, 1, &[1], Some((2, 3)), Some(PieceFault::PastEnd)),
+    (
+        0,
+        0,
+        1,
+        &[1],
+        Some((1_000_000_001, 1)),
+        Some(PieceFault::PastEnd),
+    ),
+    (0, 0, 0, &[], Some((0, 0)), None),
+    (16, 0, 1, &[], None, Some(PieceFault::BadThread)),
+    (15, 0, 1, &[1], None, None),
+    (0, 0, 1, &[], None, Some(PieceFault::BadEntry)),
+];
+
 #[test]
 fn rules_are_tested_in_their_order(rt: HostRuntime) -> Result<(), Fail> {
-    // The thread, the first place, the count of entries, the objects of each, the end, the fault.
-    let none: &[u32] = &[];
-    let one: &[u32] = &[1];
-    let cases = [
-        (16, 1_000_000_001, 0, none, None, Some(PieceFault::Empty)),
-        (
-            16,
-            1_000_000_000,
-            4097,
-            none,
-            None,
-            Some(PieceFault::TooMany),
-        ),
-        (0, 0, 4096, one, None, None),
-        (16, 1_000_000_000, 1, none, None, Some(PieceFault::PastEnd)),
-        (0, 999_999_999, 1, one, None, None),
-        (0, 3, 2, one, end(9, 4), Some(PieceFault::PastEnd)),
-        (0, 3, 2, one, end(9, 5), None),
-        (0, 0, 1, one, end(2, 3), Some(PieceFault::PastEnd)),
-        (
-            0,
-            0,
-            1,
-            one,
-            end(1_000_000_001, 1),
-            Some(PieceFault::PastEnd),
-        ),
-        (0, 0, 0, none, end(0, 0), None),
-        (16, 0, 1, none, None, Some(PieceFault::BadThread)),
-        (15, 0, 1, one, None, None),
-        (0, 0, 1, none, None, Some(PieceFault::BadEntry)),
-    ];
-    for (thread, first, count, objects, end, wanted) in cases {
-        assert_eq!(rt;
-            fault(&rt, Profile::One, thread, first, count, objects, end)?,
-            wanted,
-            "{thread} {first} {count}"
-        );
+    for (thread, first, count, objects, end, want) in RULES {
+        let found = fault(
+            rt.alloc(),
+            Profile::One,
+            *thread,
+            *first,
+            *count,
+            objects,
+            *end,
+        )?;
+        assert_eq!(rt; found, *want, "{thread} {first} {count}");
     }
     Ok(())
+}
+
+// The size of a block in profile 2, the objects of an entry, and the fault.
+static OBJECTS: &[(Option<u32>, &[u32], Option<PieceFault>)] = &[
+    (None, &[0, 1, 32_768], None),
+    (None, &[32_769], Some(PieceFault::BadEntry)),
+    (None, &[1, 1], Some(PieceFault::BadEntry)),
+    (None, &[1, 3, 2], Some(PieceFault::BadEntry)),
+    (None, &[], Some(PieceFault::BadEntry)),
+    (Some(64), &[524_288], None),
+    (Some(64), &[524_289], Some(PieceFault::BadEntry)),
+    (Some(4096), &[8_192], None),
+    (Some(4096), &[8_193], Some(PieceFault::BadEntry)),
+    (Some(4096), &[2, 1], Some(PieceFault::BadEntry)),
+];
+
+fn profile_of(block: Option<u32>) -> Result<Profile, Fail> {
+    match block {
+        None => Ok(Profile::One),
+        Some(size) => Ok(Profile::Two(Block::new(size)?)),
+    }
 }
 
 #[test]
 fn entries_touch_rising_objects(rt: HostRuntime) -> Result<(), Fail> {
-    let small = Profile::Two(Block::new(64)?);
-    let large = Profile::Two(Block::new(4096)?);
-    let bad = Some(PieceFault::BadEntry);
-    let cases: [(Profile, &[u32], Option<PieceFault>); 10] = [
-        (Profile::One, &[0, 1, 32_768], None),
-        (Profile::One, &[32_769], bad),
-        (Profile::One, &[1, 1], bad),
-        (Profile::One, &[1, 3, 2], bad),
-        (Profile::One, &[], bad),
-        (small, &[524_288], None),
-        (small, &[524_289], bad),
-        (large, &[8_192], None),
-        (large, &[8_193], bad),
-        (large, &[2, 1], bad),
-    ];
-    for (profile, objects, wanted) in cases {
-        assert_eq!(rt;
-            fault(&rt, profile, 0, 0, 1, objects, None)?,
-            wanted,
-            "{profile:?} {objects:?}"
-        );
+    for (block, objects, want) in OBJECTS {
+        let profile = profile_of(*block)?;
+        let found = fault(rt.alloc(), profile, 0, 0, 1, objects, None)?;
+        assert_eq!(rt; found, *want, "{profile:?} {objects:?}");
     }
     Ok(())
 }
 
+// The end of `WHOLE`.
+fn end_of_whole(alloc: Global) -> Result<End, Fail> {
+    let piece = piece_of(alloc, WHOLE)?;
+    Ok(piece.end().ok_or("the piece has an end")?)
+}
+
 #[test]
 fn ends_have_a_text(rt: HostRuntime) -> Result<(), Fail> {
-    let bytes = bytes_of(&rt, WHOLE)?;
-    let piece = decode(rt.alloc(), &bytes)?;
-    let end = piece.end().ok_or("the piece has an end")?;
+    let end = end_of_whole(rt.alloc())?;
     assert_eq!(rt; end.copy(rt.alloc())?, end);
+    let text = format!(in rt.alloc();
+        "{end}; {}; {}",
+        DecodeFault::NotAPiece,
+        PieceFault::BadThread
+    )?;
     assert_eq!(rt;
-        format!(in rt.alloc(); "{end}")?.as_str(),
-        "steps=8 places=2 i32 1"
-    );
-    assert_eq!(rt;
-        format!(in rt.alloc(); "{}", DecodeFault::NotAPiece)?.as_str(),
-        "not a piece"
-    );
-    assert_eq!(rt;
-        format!(in rt.alloc(); "{}", PieceFault::BadThread)?.as_str(),
-        "a thread above 15"
+        text.as_str(),
+        "steps=8 places=2 i32 1; not a piece; a thread above 15"
     );
     Ok(())
 }

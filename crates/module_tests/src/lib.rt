@@ -15,8 +15,6 @@ mod decoding;
 #[cfg(test)]
 mod plans;
 #[cfg(test)]
-mod reasons;
-#[cfg(test)]
 mod validation;
 #[cfg(test)]
 mod validation_rows;

@@ -4,8 +4,6 @@
 mod fault;
 mod receiving;
 mod sending;
-#[cfg(test)]
-mod tests;
 
 pub use fault::SendFault;
 pub use receiving::receive;

@@ -163,62 +163,74 @@ static ROWS: [Row; 8] = [
     },
 ];
 
+/// Where a replay stops, and how many events each thread then has made.
+type Stop = (Stopped, [Option<u32>; 3]);
+
+fn stop(
+    alloc: Global,
+    replay: &mut Replay<Script, Cells, ClaimedLog, Scripts<'_>>,
+    order: &[u32],
+    breaks: &[Break],
+) -> Stop {
+    let stopped = run_to(alloc, replay, order, breaks);
+    let world = replay.world();
+    (stopped, [world.places(0), world.places(1), world.places(2)])
+}
+
+/// Where the replay of a log stops by an order and breaks, and where it then stops without any.
+fn stops(
+    alloc: Global,
+    accesses: Accesses,
+    sums: [Option<u64>; 3],
+    order: &[u32],
+    breaks: &[Break],
+) -> Result<(Stop, Stop), Fail> {
+    let scripts = [&SCRIPTS[0][..], &SCRIPTS[1][..], &SCRIPTS[2][..]];
+    let opens = Scripts { scripts: &scripts };
+    let log = ClaimedLog {
+        alloc,
+        accesses,
+        sums,
+    };
+    let mut replay = Replay::new(alloc, opens, log)?;
+    let first = stop(alloc, &mut replay, order, breaks);
+    Ok((first, stop(alloc, &mut replay, &[], &[])))
+}
+
 /// Each row stops where it says, and the replay then goes on to its end.
 #[test]
 fn replays_stop_at_breaks(rt: HostRuntime) -> Result<(), Fail> {
-    let alloc = rt.alloc();
-    let scripts = [&SCRIPTS[0][..], &SCRIPTS[1][..], &SCRIPTS[2][..]];
     for row in &ROWS {
-        let opens = Scripts { scripts: &scripts };
-        let log = ClaimedLog {
-            alloc,
-            accesses: ACCESSES,
-            sums: SUMS,
-        };
-        let mut replay = Replay::new(alloc, opens, log)?;
-        let stopped = run_to(alloc, &mut replay, row.order, row.breaks);
-        assert_eq!(rt; stopped, row.stopped);
-        for (thread, places) in row.places.iter().enumerate() {
-            assert_eq!(rt; replay.world().places(thread as u32), *places);
-        }
-        let stopped = run_to(alloc, &mut replay, &[], &[]);
-        assert_eq!(rt; stopped, Stopped::Finished);
-        for (thread, places) in ENDS.iter().enumerate() {
-            assert_eq!(rt; replay.world().places(thread as u32), *places);
-        }
+        let found = stops(rt.alloc(), ACCESSES, SUMS, row.order, row.breaks)?;
+        let want = ((row.stopped, row.places), (Stopped::Finished, ENDS));
+        assert_eq!(rt; found, want, "{:?}", row.order);
     }
     Ok(())
+}
+
+/// Where the replay of a log by the order 1 stops, and how many events thread 0 then has made.
+fn stopped(
+    alloc: Global,
+    accesses: Accesses,
+    sums: [Option<u64>; 3],
+) -> Result<(Stopped, Option<u32>), Fail> {
+    let ((stopped, [places, _, _]), _) = stops(alloc, accesses, sums, &[1], &[])?;
+    Ok((stopped, places))
 }
 
 /// Where the end of a thread is not known the others go on, until none can; a thread that can't do what the log says of it
 /// ends the run.
 #[test]
 fn replays_without_breaks(rt: HostRuntime) -> Result<(), Fail> {
-    let alloc = rt.alloc();
-    let scripts = [&SCRIPTS[0][..], &SCRIPTS[1][..], &SCRIPTS[2][..]];
-    let opens = Scripts { scripts: &scripts };
-    let log = ClaimedLog {
-        alloc,
-        accesses: ACCESSES,
-        sums: [Some(0), None, Some(7)],
-    };
-    let mut replay = Replay::new(alloc, opens, log)?;
-    assert_eq!(rt; run_to(alloc, &mut replay, &[1], &[]), Stopped::Stuck);
-    assert_eq!(rt; replay.world().places(0), Some(2));
-    let opens = Scripts { scripts: &scripts };
+    let found = stopped(rt.alloc(), ACCESSES, [Some(0), None, Some(7)])?;
+    assert_eq!(rt; found, (Stopped::Stuck, Some(2)));
     let mut accesses = ACCESSES;
     accesses[1][0] = ACCESSES[0][0];
-    let log = ClaimedLog {
-        alloc,
-        accesses,
-        sums: SUMS,
-    };
-    let mut replay = Replay::new(alloc, opens, log)?;
+    let found = stopped(rt.alloc(), accesses, SUMS)?;
     let want = Stopped::Fault(ReplayFault::Diverged {
         thread: 1,
         place: 0,
     });
-    assert_eq!(rt; run_to(alloc, &mut replay, &[1], &[]), want);
-    assert_eq!(rt; replay.world().places(0), Some(0));
+    assert_eq!(rt; found, (want, Some(0)));
     Ok(())
 }

@@ -3,13 +3,14 @@
 ghost use Rattle.std.specs.Prelude.{◌≡◌, ◌≤◌, ⊤, length, map};
 ghost use Rattle.replay_tests.specs.Claimed.{claimed, few, scripts_world, scripts_open};
 
-use event_core::World;
+use event_core::{Ended, World};
 use join_laws::Flat;
 use log_pieces::End;
 use replay_gate::{OpenWorld, ReadLog};
 use rw_objects::{Entry, Few, Found, Kind};
 use scripted::{Cell, CellOp, Cells, Script, ScriptStep, open_scripts};
 use std::alloc::Global;
+use std::test::Fail;
 use wasm_types::{NoMemory, Outcome, Value};
 
 /// What is claimed of two places of each of three threads.
@@ -107,3 +108,29 @@ pub(crate) const SCRIPTS: [[ScriptStep; 2]; 3] = [
         ScriptStep::Make(CellOp::Read(Cell::B)),
     ],
 ];
+
+/// The memory of an end of a run and the outcomes of its threads, in words.
+pub(crate) fn told_end(alloc: Global, ended: &Ended) -> Result<String, Fail> {
+    let mut text = format!(in alloc; "memory")?;
+    for byte in ended.memory() {
+        write!(text, " {byte}")?;
+    }
+    for outcome in ended.outcomes() {
+        write!(text, "; {outcome}")?;
+    }
+    Ok(text)
+}
+
+/// The same of the end at which cells hold these numbers and threads have these sums.
+pub(crate) fn wanted_end(alloc: Global, cells: &[u64], sums: &[u64]) -> Result<String, Fail> {
+    let mut text = format!(in alloc; "memory")?;
+    for cell in cells {
+        for byte in cell.to_le_bytes() {
+            write!(text, " {byte}")?;
+        }
+    }
+    for sum in sums {
+        write!(text, "; i64 {sum}")?;
+    }
+    Ok(text)
+}

@@ -1,14 +1,14 @@
 //! Replays of three scripts. What they must give was computed by a program of its own, or by hand.
 
-use crate::logs::{Accesses, ClaimedLog, SCRIPTS, Scripts};
-use event_core::Input;
+use crate::logs::{Accesses, ClaimedLog, SCRIPTS, Scripts, told_end, wanted_end};
+use event_core::{Input, World};
 use replay_gate::{Gate, Replay, ReplayFault, Turned, gate, replay, turn_of};
 use replay_laws::{Refusal, Turn};
 use rw_objects::Found;
-use scripted::open_scripts;
+use scripted::{Cells, Script, open_scripts};
 use std::alloc::Global;
+use std::process::Abort;
 use std::test::Fail;
-use wasm_types::{Outcome, Value};
 
 // Reads of A and B at versions 0 and 1, and additions to them behind no read, one or two.
 const READ_A_0: Option<Option<Found>> = Some(Some(Found::Read {
@@ -140,25 +140,25 @@ fn log_of(alloc: Global, row: &Row) -> ClaimedLog {
     }
 }
 
-/// Each log is replayed by three orders, one of which names threads that are not there.
-#[test]
-fn recorded_logs_are_replayed(rt: HostRuntime) -> Result<(), Fail> {
-    let alloc = rt.alloc();
+/// The end of the replay of a log by an order.
+fn end_by(alloc: Global, row: &Row, order: &[u32]) -> Result<String, Fail> {
     let scripts = [&SCRIPTS[0][..], &SCRIPTS[1][..], &SCRIPTS[2][..]];
     let opens = Scripts { scripts: &scripts };
-    let mut memory = Vec::new(alloc);
-    for cell in [5u64, 2, 0] {
-        memory.extend_from_slice(&cell.to_le_bytes())?;
-    }
+    let ended = replay(alloc, &opens, &log_of(alloc, row), order)?;
+    told_end(alloc, &ended)
+}
+
+/// One of them names threads that are not there.
+const ORDERS: [[u32; 6]; 3] = [[0, 1, 2, 0, 1, 2], [2, 1, 0, 2, 1, 0], [7, 3, 0, 99, 1, 2]];
+
+/// Each log is replayed by three orders.
+#[test]
+fn recorded_logs_are_replayed(rt: HostRuntime) -> Result<(), Fail> {
     for row in ROWS {
-        let log = log_of(alloc, &row);
-        for order in [[0, 1, 2, 0, 1, 2], [2, 1, 0, 2, 1, 0], [7, 3, 0, 99, 1, 2]] {
-            let ended = replay(alloc, &opens, &log, &order)?;
-            assert_eq!(rt; ended.memory(), memory.as_slice());
-            assert_eq!(rt; ended.outcomes().len(), 3);
-            for (outcome, sum) in ended.outcomes().iter().zip(row.sums.iter()) {
-                assert_eq!(rt; *outcome, Outcome::Done(Some(Value::I64(*sum))));
-            }
+        let want = wanted_end(rt.alloc(), &[5, 2, 0], &row.sums)?;
+        for order in ORDERS {
+            let found = end_by(rt.alloc(), &row, &order)?;
+            assert_eq!(rt; found.as_str(), want.as_str(), "{order:?}");
         }
     }
     Ok(())
@@ -254,42 +254,30 @@ const FAULTS: [Fault; 7] = [
     },
 ];
 
-#[test]
-fn replays_are_refused(rt: HostRuntime) -> Result<(), Fail> {
-    let alloc = rt.alloc();
+/// Why the replay is refused.
+fn refusal(alloc: Global, row: &Fault) -> Option<ReplayFault> {
     let scripts = [&SCRIPTS[0][..], &SCRIPTS[1][..], &SCRIPTS[2][..]];
     let opens = Scripts { scripts: &scripts };
-    for row in FAULTS {
-        let mut accesses = FIRST;
-        if row.thread < 3 && row.place < 2 {
-            accesses[row.thread][row.place] = row.claim;
-        }
-        let log = ClaimedLog {
-            alloc,
-            accesses,
-            sums: row.sums,
-        };
-        let answer = replay(alloc, &opens, &log, &row.order);
-        assert_eq!(rt; answer.err(), Some(row.fault));
+    let mut accesses = FIRST;
+    if row.thread < 3 && row.place < 2 {
+        accesses[row.thread][row.place] = row.claim;
     }
-    Ok(())
-}
-
-/// Gates and turns at the opening world, by the second log without place 1 of thread 1 and with a clash at place 1 of
-/// thread 2.
-#[test]
-fn gates_and_turns(rt: HostRuntime) -> Result<(), Fail> {
-    let alloc = rt.alloc();
-    let scripts = [&SCRIPTS[0][..], &SCRIPTS[1][..], &SCRIPTS[2][..]];
-    let world = open_scripts(alloc, &scripts, [0, 0, 0])?;
-    let mut accesses = SECOND;
-    accesses[1][1] = None;
-    accesses[2][1] = Some(None);
     let log = ClaimedLog {
         alloc,
         accesses,
-        sums: [Some(0), Some(2), Some(2)],
+        sums: row.sums,
     };
+    replay(alloc, &opens, &log, &row.order).err()
+}
+
+#[test]
+fn replays_are_refused(rt: HostRuntime) {
+    for row in FAULTS {
+        assert_eq!(rt; refusal(rt.alloc(), &row), Some(row.fault));
+    }
+}
+
+fn compare_gates(rt: &impl Abort, log: &ClaimedLog, world: &World<Script, Cells>) {
     for (thread, place, want) in [
         (0, 0, Gate::Open),
         (1, 0, Gate::Shut),
@@ -298,16 +286,60 @@ fn gates_and_turns(rt: HostRuntime) -> Result<(), Fail> {
         (2, 2, Gate::Done),
         (3, 0, Gate::Missing),
     ] {
-        assert_eq!(rt; gate(&log, world.versions(), thread, place), want);
+        assert_eq!(rt;
+            gate(log, world.versions(), thread, place),
+            want,
+            "{thread} {place}"
+        );
     }
+}
+
+fn compare_turns(rt: &impl Abort, alloc: Global, log: &ClaimedLog, world: &World<Script, Cells>) {
     for (thread, want) in [
         (0, Turn::Event(Input::Go)),
         (1, Turn::Refused(Refusal::Shut)),
         (3, Turn::Done),
     ] {
-        assert_eq!(rt; turn_of(alloc, &world, &log, thread), want);
+        assert_eq!(rt; turn_of(alloc, world, log, thread), want, "{thread}");
     }
+}
+
+/// Gates and turns at the opening world, by the second log without place 1 of thread 1 and with a clash at place 1 of
+/// thread 2.
+#[test]
+fn gates_and_turns(rt: HostRuntime) -> Result<(), Fail> {
+    let alloc = rt.alloc();
+    let mut accesses = SECOND;
+    accesses[1][1] = None;
+    accesses[2][1] = Some(None);
+    let log = ClaimedLog {
+        alloc,
+        accesses,
+        sums: [Some(0), Some(2), Some(2)],
+    };
+    let scripts = [&SCRIPTS[0][..], &SCRIPTS[1][..], &SCRIPTS[2][..]];
+    let world = open_scripts(alloc, &scripts, [0, 0, 0])?;
+    compare_gates(&rt, &log, &world);
+    compare_turns(&rt, alloc, &log, &world);
     Ok(())
+}
+
+fn compare_taken(
+    rt: &impl Abort,
+    alloc: Global,
+    replay: &mut Replay<Script, Cells, ClaimedLog, Scripts<'_>>,
+) {
+    for (thread, want) in [
+        (1, Err(ReplayFault::Shut)),
+        (0, Ok(Turned::Event)),
+        (1, Err(ReplayFault::Shut)),
+        (2, Ok(Turned::Event)),
+        (3, Ok(Turned::Done)),
+    ] {
+        assert_eq!(rt; replay.turn(alloc, thread), want, "{thread}");
+    }
+    let world = replay.world();
+    assert_eq!(rt; (world.places(1), world.places(2)), (Some(0), Some(1)));
 }
 
 /// A replay turn by turn, by the second log: a shut gate refuses and changes nothing, a thread that is not there is done.
@@ -317,16 +349,6 @@ fn turns_are_taken(rt: HostRuntime) -> Result<(), Fail> {
     let scripts = [&SCRIPTS[0][..], &SCRIPTS[1][..], &SCRIPTS[2][..]];
     let opens = Scripts { scripts: &scripts };
     let mut replay = Replay::new(alloc, opens, log_of(alloc, &ROWS[1]))?;
-    for (thread, want) in [
-        (1, Err(ReplayFault::Shut)),
-        (0, Ok(Turned::Event)),
-        (1, Err(ReplayFault::Shut)),
-        (2, Ok(Turned::Event)),
-        (3, Ok(Turned::Done)),
-    ] {
-        assert_eq!(rt; replay.turn(alloc, thread), want);
-    }
-    assert_eq!(rt; replay.world().places(1), Some(0));
-    assert_eq!(rt; replay.world().places(2), Some(1));
+    compare_taken(&rt, alloc, &mut replay);
     Ok(())
 }

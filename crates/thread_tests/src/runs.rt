@@ -30,9 +30,9 @@ fn deliver(alloc: Global, replica: &mut Replica, pieces: &[Piece]) -> Result<(),
     Ok(())
 }
 
-/// What is gathered of the pieces of a recording.
-pub(crate) fn gathered(alloc: Global, recording: &Recording) -> Result<Replica, Fail> {
-    let pieces = recording.pieces(alloc, 1)?;
+/// What is gathered of the pieces of a recording, which have so many entries.
+pub(crate) fn gathered(alloc: Global, recording: &Recording, most: u32) -> Result<Replica, Fail> {
+    let pieces = recording.pieces(alloc, most)?;
     let mut replica = Replica::new(alloc, *recording.key());
     deliver(alloc, &mut replica, &pieces)?;
     Ok(replica)
@@ -63,7 +63,7 @@ pub(crate) fn recorded<T: Timer + Sync, R: Threads + Wait + Sync>(
     let hold = Counting::new();
     let block = Block::least();
     let recording = record_threads(rt, alloc, valid, plan, 0, block, 1_000_000, timer, &hold)?;
-    let replica = gathered(alloc, &recording)?;
+    let replica = gathered(alloc, &recording, 1)?;
     assert_eq!(abort; hold.entered(), events(replica.log()));
     assert!(abort; hold.has_met(), "the threads took turns");
     Ok(recording)
@@ -130,7 +130,7 @@ pub(crate) fn replays<R: Threads + Wait + Sync>(
 ) -> Result<(), Fail>
     requires { IsPlanOf valid.now plan.now }
 {
-    let replica = gathered(alloc, recording)?;
+    let replica = gathered(alloc, recording, 1)?;
     let recorded = recording.recorded().end();
     replay_at_once(rt, abort, alloc, valid, plan, replica.log(), recorded)?;
     for _ in 0..20 {

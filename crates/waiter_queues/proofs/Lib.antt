@@ -3,5 +3,4 @@ pub mod Keeps
 pub mod QueueModes
 pub mod QueueSeen
 pub mod Applies
-pub mod Counting
 pub mod Making

@@ -8,8 +8,3 @@ mod space;
 pub use queue::Queue;
 pub use queues::Queues;
 pub use space::SharedSpace;
-
-#[cfg(test)]
-mod checked;
-#[cfg(test)]
-mod tests;

@@ -6,6 +6,3 @@ mod open;
 
 pub use laws::{opening_worlds_open, plans_open};
 pub use open::{OpeningParts, open_parts, open_world};
-
-#[cfg(test)]
-mod tests;

@@ -1,6 +1,6 @@
 //! Arithmetic and control. How the threads stand was computed apart from the project.
 
-use crate::test_threads::{Row, stand};
+use crate::trials::{Row, stand};
 use std::test::Fail;
 use wasm_types::{Block, Profile};
 

@@ -1,7 +1,7 @@
 //! Accesses: what they ask for, by the tables of the instructions in WebAssembly Core 1.0 and the threads
 //! proposal, and how the threads stand behind the replies.
 
-use crate::test_threads::{AccessRow, Parts, SHARED, UNSHARED, run_alone, run_first, stand_asking};
+use crate::trials::{AccessRow, Parts, SHARED, UNSHARED, run_alone, run_first, stand_asking};
 use std::alloc::Global;
 use std::process::Abort;
 use std::test::Fail;

@@ -1,6 +1,6 @@
 //! Calls and tables. How the threads stand was computed apart from the project.
 
-use crate::test_threads::{CallRow, stand_called};
+use crate::trials::{CallRow, stand_called};
 use std::test::Fail;
 
 /// Of an i32: 0 for 0, and else one more than this function gives for one less.

@@ -1,20 +1,21 @@
 //! Small modules in hex, and how their threads run: what they ask for, and how they stand in the end.
 
-ghost use Rattle.std.specs.Prelude.{◌≡◌};
+ghost use Rattle.std.specs.Prelude.{◌≡◌, IfOk};
 ghost use Rattle.rw_objects.specs.Code.{TakesReply};
 ghost use Rattle.rw_objects.specs.declared.next.Next.TheVariants.{Local};
 ghost use Rattle.thread_code.specs.ThreadCode.{thread_code};
+ghost use Rattle.thread_plan.specs.Plans.{IsPlanOf};
 
-use crate::ThreadState;
-use binary_decoder::decode;
+use crate::modules::valid;
 use event_core::outcome_of;
+use integer_machine::ThreadState;
 use rw_objects::{Machine, Next};
 use std::alloc::Global;
 use std::process::Abort;
 use std::slice;
 use std::test::Fail;
 use thread_plan::Plan;
-use validator::{Valid, validate};
+use validator::Valid;
 use wasm_types::{MOST_STEPS, NoMemory, Op, Profile, Reply};
 
 /// What differs between the modules, in hex. Function 0 is exported as `f`.
@@ -73,8 +74,8 @@ fn counted(alloc: Global, count: usize, content: &str) -> Result<String, Fail> {
     sized(alloc, content.as_str())
 }
 
-/// The bytes of a module.
-fn bytes_of(alloc: Global, parts: Parts) -> Result<Vec<u8>, Fail> {
+/// The digits of a module.
+fn digits_of(alloc: Global, parts: Parts) -> Result<String, Fail> {
     let mut bodies = String::new(alloc);
     for body in parts.bodies {
         bodies.push_str(sized(alloc, body)?.as_str())?;
@@ -86,16 +87,43 @@ fn bytes_of(alloc: Global, parts: Parts) -> Result<Vec<u8>, Fail> {
     let text = format!(in alloc;
         "{HEAD}{imports}03{functions}{TABLE}{memory}{GLOBALS}{segments}0a{code}"
     )?;
-    Ok(hex::decode(alloc, dense(alloc, text.as_str())?.as_str())?)
+    dense(alloc, text.as_str())
 }
 
 /// The module.
 pub(crate) fn module_of(alloc: Global, parts: Parts) -> Result<Valid, Fail> {
-    let bytes = bytes_of(alloc, parts)?;
-    Ok(validate(alloc, decode(alloc, &bytes)?)?)
+    let digits = digits_of(alloc, parts)?;
+    valid(alloc, digits.as_str())
 }
 
-/// A thread of the plan with these lines behind its first. Where memory is wanted for it, it is made again.
+/// The plan with these lines behind its first.
+fn plan_of(alloc: Global, valid: &Valid, lines: &str) -> Result<Plan, Fail>
+    ensures { IfOk result (λ plan. IsPlanOf valid.now plan) }
+{
+    let text = format!(in alloc; "wreplay plan 1\n{lines}")?;
+    Ok(Plan::read(alloc, text.as_bytes(), valid)?)
+}
+
+/// A thread of a plan. Where memory is wanted for it, it is made again.
+fn open_thread<'a>(
+    alloc: Global,
+    valid: &'a Valid,
+    plan: &Plan,
+    thread: u32,
+    profile: Profile,
+) -> Result<ThreadState<'a>, Fail>
+    requires { IsPlanOf valid.now plan.now }
+{
+    if thread >= plan.threads() {
+        return Err(Fail::new("no such thread"));
+    }
+    if let Ok(state) = ThreadState::new(alloc, valid, plan, thread, profile) {
+        return Ok(state);
+    }
+    Ok(ThreadState::new(alloc, valid, plan, thread, profile)?)
+}
+
+/// A thread of the plan with these lines behind its first.
 pub(crate) fn open<'a>(
     alloc: Global,
     valid: &'a Valid,
@@ -103,15 +131,8 @@ pub(crate) fn open<'a>(
     thread: u32,
     profile: Profile,
 ) -> Result<ThreadState<'a>, Fail> {
-    let text = format!(in alloc; "wreplay plan 1\n{lines}")?;
-    let plan = Plan::read(alloc, text.as_bytes(), valid)?;
-    if thread >= plan.threads() {
-        return Err(Fail::new("no such thread"));
-    }
-    if let Ok(state) = ThreadState::new(alloc, valid, &plan, thread, profile) {
-        return Ok(state);
-    }
-    Ok(ThreadState::new(alloc, valid, &plan, thread, profile)?)
+    let plan = plan_of(alloc, valid, lines)?;
+    open_thread(alloc, valid, &plan, thread, profile)
 }
 
 /// Makes a local step. A thread at the greatest number of steps stays.
@@ -194,16 +215,47 @@ pub(crate) fn standing(alloc: Global, state: &ThreadState<'_>) -> Result<String,
     Ok(format!(in alloc; "{} steps, {outcome}", state.steps())?)
 }
 
-/// What is done with threads of a module.
+/// What is done with a thread.
 pub(crate) trait Trial {
     /// Does it, and answers what was seen.
-    fn run(alloc: Global, valid: &Valid) -> Result<String, Fail>;
+    fn run(&self, alloc: Global, state: &mut ThreadState<'_>) -> Result<String, Fail>;
 }
 
-/// The same over the module of these parts. It alone owns a module and may return early, which takes long to prove.
-pub(crate) fn run_over<T: Trial>(alloc: Global, parts: Parts) -> Result<String, Fail> {
+/// The same with a thread of a plan over a module. It alone owns a thread, and the next one a module: who owns one and may
+/// return early takes long to prove.
+fn run_in<T: Trial>(
+    alloc: Global,
+    valid: &Valid,
+    lines: &str,
+    thread: u32,
+    profile: Profile,
+    trial: &T,
+) -> Result<String, Fail> {
+    let mut state = open(alloc, valid, lines, thread, profile)?;
+    trial.run(alloc, &mut state)
+}
+
+/// The same over the module of these parts.
+pub(crate) fn run_over<T: Trial>(
+    alloc: Global,
+    parts: Parts,
+    lines: &str,
+    thread: u32,
+    profile: Profile,
+    trial: &T,
+) -> Result<String, Fail> {
     let valid = module_of(alloc, parts)?;
-    T::run(alloc, &valid)
+    run_in(alloc, &valid, lines, thread, profile, trial)
+}
+
+/// The replies that a thread gets.
+#[derive(Clone, Copy)]
+struct Replies<'a>(&'a [Reply]);
+
+impl Trial for Replies<'_> {
+    fn run(&self, alloc: Global, state: &mut ThreadState<'_>) -> Result<String, Fail> {
+        play(alloc, state, self.0)
+    }
 }
 
 /// Runs a thread of a plan.
@@ -215,9 +267,7 @@ pub(crate) fn run_thread(
     profile: Profile,
     replies: &[Reply],
 ) -> Result<String, Fail> {
-    let valid = module_of(alloc, parts)?;
-    let mut state = open(alloc, &valid, lines, thread, profile)?;
-    play(alloc, &mut state, replies)
+    run_over(alloc, parts, lines, thread, profile, &Replies(replies))
 }
 
 /// Runs the first thread of a plan.

@@ -1,6 +1,6 @@
 //! Traps before accesses, and waits. How the threads stand was computed apart from the project.
 
-use crate::test_threads::{AccessRow, SHARED, UNSHARED, stand_asking};
+use crate::trials::{AccessRow, SHARED, UNSHARED, stand_asking};
 use std::test::Fail;
 use wasm_types::{Reply, Trap, Value};
 

@@ -1,7 +1,9 @@
 //! Threads of plans with two threads, runs of local steps, and the numbers that operations carry.
 
-use crate::ThreadState;
-use crate::test_threads::{Parts, SHARED, Trial, open, play, run_over, run_thread, standing, take};
+use crate::trials::{
+    Parts, SHARED, Trial, module_of, open, play, run_over, run_thread, standing, take,
+};
+use integer_machine::ThreadState;
 use rw_objects::{Machine, Next};
 use std::alloc::Global;
 use std::test::Fail;
@@ -67,25 +69,42 @@ fn take_turns(first: &mut ThreadState<'_>, second: &mut ThreadState<'_>) -> Resu
     Ok(())
 }
 
-/// Two threads that add to the global in turn.
-struct Turns;
+/// How the two threads stand that took turns.
+fn turned(
+    alloc: Global,
+    first: &mut ThreadState<'_>,
+    second: &mut ThreadState<'_>,
+) -> Result<String, Fail> {
+    take_turns(first, second)?;
+    let first = play(alloc, first, &[])?;
+    let second = play(alloc, second, &[])?;
+    Ok(format!(in alloc; "{first}; {second}")?)
+}
 
-impl Trial for Turns {
-    fn run(alloc: Global, valid: &Valid) -> Result<String, Fail> {
-        let lines = "thread f 1\nthread f 10";
-        let mut first = open(alloc, valid, lines, 0, Profile::One)?;
-        let mut second = open(alloc, valid, lines, 1, Profile::One)?;
-        take_turns(&mut first, &mut second)?;
-        let first = play(alloc, &mut first, &[])?;
-        let second = play(alloc, &mut second, &[])?;
-        Ok(format!(in alloc; "{first}; {second}")?)
-    }
+const ADDING_LINES: &str = "thread f 1\nthread f 10";
+
+/// The same, of which the second is opened here.
+fn turned_with(alloc: Global, valid: &Valid, first: &mut ThreadState<'_>) -> Result<String, Fail> {
+    let mut second = open(alloc, valid, ADDING_LINES, 1, Profile::One)?;
+    turned(alloc, first, &mut second)
+}
+
+/// The same, of which both are opened here.
+fn turns(alloc: Global, valid: &Valid) -> Result<String, Fail> {
+    let mut first = open(alloc, valid, ADDING_LINES, 0, Profile::One)?;
+    turned_with(alloc, valid, &mut first)
+}
+
+/// Two threads that add to the global in turn.
+fn adding(alloc: Global) -> Result<String, Fail> {
+    let valid = module_of(alloc, ADDING)?;
+    turns(alloc, &valid)
 }
 
 /// Each thread has globals of its own, also where they take turns.
 #[test]
 fn globals_are_a_threads_own(rt: HostRuntime) -> Result<(), Fail> {
-    let text = run_over::<Turns>(rt.alloc(), ADDING)?;
+    let text = adding(rt.alloc())?;
     assert_eq!(rt; text.as_str(), "6 steps, i32 8; 6 steps, i32 17");
     Ok(())
 }
@@ -124,43 +143,32 @@ const MEASURING: Parts<'static> = Parts {
 };
 
 /// The numbers of the memory that the first operation of a thread carries.
-fn numbers(alloc: Global, state: &ThreadState<'_>) -> Result<String, Fail> {
-    match state.next() {
-        Next::Ask(op) => {
-            let Extent { initial, block } = op.extent;
-            Ok(format!(in alloc; "{initial} of {}", block.size())?)
+struct Numbers;
+
+impl Trial for Numbers {
+    fn run(&self, alloc: Global, state: &mut ThreadState<'_>) -> Result<String, Fail> {
+        match state.next() {
+            Next::Ask(op) => {
+                let Extent { initial, block } = op.extent;
+                Ok(format!(in alloc; "{initial} of {}", block.size())?)
+            }
+            _ => Err(Fail::new("no access")),
         }
-        _ => Err(Fail::new("no access")),
     }
 }
 
-/// The first operation in profile 1.
-struct Small;
-
-impl Trial for Small {
-    fn run(alloc: Global, valid: &Valid) -> Result<String, Fail> {
-        let state = open(alloc, valid, "thread f", 0, Profile::One)?;
-        numbers(alloc, &state)
-    }
-}
-
-/// The same in profile 2, with blocks of 4,096 bytes.
-struct Large;
-
-impl Trial for Large {
-    fn run(alloc: Global, valid: &Valid) -> Result<String, Fail> {
-        let block = Block::of_power(12).ok_or("4096")?;
-        let state = open(alloc, valid, "thread f", 0, Profile::Two(block))?;
-        numbers(alloc, &state)
-    }
+/// The same in a profile.
+fn memory_numbers(alloc: Global, profile: Profile) -> Result<String, Fail> {
+    run_over(alloc, MEASURING, "thread f", 0, profile, &Numbers)
 }
 
 /// An operation carries the initial length of the memory, and the size of the profile's blocks.
 #[test]
 fn operations_carry_the_memorys_numbers(rt: HostRuntime) -> Result<(), Fail> {
-    let small = run_over::<Small>(rt.alloc(), MEASURING)?;
+    let small = memory_numbers(rt.alloc(), Profile::One)?;
     assert_eq!(rt; small.as_str(), "1 of 64");
-    let large = run_over::<Large>(rt.alloc(), MEASURING)?;
+    let block = Block::of_power(12).ok_or("4096")?;
+    let large = memory_numbers(rt.alloc(), Profile::Two(block))?;
     assert_eq!(rt; large.as_str(), "1 of 4096");
     Ok(())
 }
@@ -203,11 +211,10 @@ fn runs_around(text: &mut String, state: &mut ThreadState<'_>) -> Result<(), Fai
 struct Around;
 
 impl Trial for Around {
-    fn run(alloc: Global, valid: &Valid) -> Result<String, Fail> {
+    fn run(&self, alloc: Global, state: &mut ThreadState<'_>) -> Result<String, Fail> {
         let mut text = String::new(alloc);
-        let mut state = open(alloc, valid, "thread f", 0, Profile::One)?;
-        runs_around(&mut text, &mut state)?;
-        let end = standing(alloc, &state)?;
+        runs_around(&mut text, state)?;
+        let end = standing(alloc, state)?;
         text.push_str(end.as_str())?;
         Ok(text)
     }
@@ -216,7 +223,7 @@ impl Trial for Around {
 /// A run makes as many local steps as it may, and none from an access on.
 #[test]
 fn runs_of_local_steps(rt: HostRuntime) -> Result<(), Fail> {
-    let text = run_over::<Around>(rt.alloc(), STEPPING)?;
+    let text = run_over(rt.alloc(), STEPPING, "thread f", 0, Profile::One, &Around)?;
     assert_eq!(rt;
         text.as_str(),
         "0 of 0, 2 of 2, 2 of 4, 0 of 4, 1 of 6, 2 of 8, 0 of 8, 8 steps, none"

@@ -1,12 +1,11 @@
 //! Want of memory. `rt try --test --fail-alloc N` refuses the Nth growth; without it none is refused, and the tests pass,
 //! too. What was refused is tried again, and the thread then ends as without the refusal.
 
-use crate::ThreadState;
-use crate::test_threads::{Parts, SHARED, Trial, open, run_over, standing, step, take};
+use crate::trials::{Parts, SHARED, Trial, run_over, standing, step, take};
+use integer_machine::ThreadState;
 use rw_objects::{Machine, Next};
 use std::alloc::Global;
 use std::test::Fail;
-use validator::Valid;
 use wasm_types::{NoMemory, Op, Profile, Reply, Value};
 
 /// The length of the memory and what function 1 gives for 12; which calls itself from inside three blocks, down to 0, with
@@ -55,22 +54,26 @@ fn step_again(state: &mut ThreadState<'_>) -> Result<(), Fail> {
     Ok(())
 }
 
+/// Tries the first thread of such a module.
+fn grown<T: Trial>(alloc: Global, trial: &T) -> Result<String, Fail> {
+    run_over(alloc, GROWING, "thread f", 0, Profile::One, trial)
+}
+
 /// Each step is made again where memory was wanted.
 struct Steps;
 
 impl Trial for Steps {
-    fn run(alloc: Global, valid: &Valid) -> Result<String, Fail> {
-        let mut state = open(alloc, valid, "thread f", 0, Profile::One)?;
+    fn run(&self, alloc: Global, state: &mut ThreadState<'_>) -> Result<String, Fail> {
         for _ in 0..STEPS {
-            step_again(&mut state)?;
+            step_again(state)?;
         }
-        standing(alloc, &state)
+        standing(alloc, state)
     }
 }
 
 #[test]
 fn refused_steps_are_made_again(rt: HostRuntime) -> Result<(), Fail> {
-    let text = run_over::<Steps>(rt.alloc(), GROWING)?;
+    let text = grown(rt.alloc(), &Steps)?;
     assert_eq!(rt; text.as_str(), ENDED);
     Ok(())
 }
@@ -90,19 +93,18 @@ fn run_again(state: &mut ThreadState<'_>) -> Result<(), Fail> {
 struct Runs;
 
 impl Trial for Runs {
-    fn run(alloc: Global, valid: &Valid) -> Result<String, Fail> {
-        let mut state = open(alloc, valid, "thread f", 0, Profile::One)?;
+    fn run(&self, alloc: Global, state: &mut ThreadState<'_>) -> Result<String, Fail> {
         for _ in 0..STEPS {
-            run_again(&mut state)?;
-            step_again(&mut state)?;
+            run_again(state)?;
+            step_again(state)?;
         }
-        standing(alloc, &state)
+        standing(alloc, state)
     }
 }
 
 #[test]
 fn refused_runs_go_on(rt: HostRuntime) -> Result<(), Fail> {
-    let text = run_over::<Runs>(rt.alloc(), GROWING)?;
+    let text = grown(rt.alloc(), &Runs)?;
     assert_eq!(rt; text.as_str(), ENDED);
     Ok(())
 }
@@ -127,18 +129,17 @@ fn step_in_room(state: &mut ThreadState<'_>) -> Result<(), Fail> {
 struct InRoom;
 
 impl Trial for InRoom {
-    fn run(alloc: Global, valid: &Valid) -> Result<String, Fail> {
-        let mut state = open(alloc, valid, "thread f", 0, Profile::One)?;
+    fn run(&self, alloc: Global, state: &mut ThreadState<'_>) -> Result<String, Fail> {
         for _ in 0..STEPS {
-            step_in_room(&mut state)?;
+            step_in_room(state)?;
         }
-        standing(alloc, &state)
+        standing(alloc, state)
     }
 }
 
 #[test]
 fn steps_in_room_want_no_memory(rt: HostRuntime) -> Result<(), Fail> {
-    let text = run_over::<InRoom>(rt.alloc(), GROWING)?;
+    let text = grown(rt.alloc(), &InRoom)?;
     assert_eq!(rt; text.as_str(), ENDED);
     Ok(())
 }

@@ -1,7 +1,7 @@
 -- One more touched object can be counted.
 use Rattle.std.proofs.Common.{arith}
-use Rattle.waiter_queues.proofs.Counting.{counted_more}
-use Rattle.waiter_queues.proofs.checked.can_count.Goals as goal
+use Rattle.parts_tests.proofs.Counting.{counted_more}
+use Rattle.parts_tests.proofs.checked.can_count.Goals as goal
 
 pub loop-i-preserved : goal.loop-i-preserved
 loop-i-preserved c =

@@ -1,15 +1,17 @@
-use crate::*;
+//! Why lines of schedules are refused.
+
+use line_reasons::schedule_reason;
 use pick_schedule::{ScheduleFault, schedule};
 use std::alloc::Global;
 use std::test::Fail;
 
-// The fault of a text and the words of its reason; None where it is a schedule.
-fn refused(alloc: Global, text: &[u8]) -> Result<Option<(ScheduleFault, String)>, Fail> {
+// Why a text is refused, or that it is a schedule.
+fn told(alloc: Global, text: &[u8]) -> Result<String, Fail> {
     match schedule(alloc, text) {
-        Ok(_) => Ok(None),
+        Ok(_) => Ok(format!(in alloc; "a schedule")?),
         Err(fault) => {
             let reason = schedule_reason(text, &fault);
-            Ok(Some((fault, format!(in alloc; "{reason}")?)))
+            Ok(format!(in alloc; "{fault:?}: {reason}")?)
         }
     }
 }
@@ -98,20 +100,12 @@ static REFUSED: &[(&[u8], u64, &str)] = &[
     ),
 ];
 
-// Whether a text is refused at that line, for a reason of these words.
-fn tells(alloc: Global, text: &[u8], line: u64, words: &str) -> Result<bool, Fail> {
-    match refused(alloc, text)? {
-        Some((fault, told)) => {
-            Ok(fault == ScheduleFault::BadLine { line } && told.as_str() == words)
-        }
-        None => Ok(false),
-    }
-}
-
 #[test]
 fn lines_that_are_none_of_a_schedule_are_told(rt: HostRuntime) -> Result<(), Fail> {
     for (text, line, words) in REFUSED {
-        assert!(rt; tells(rt.alloc(), text, *line, words)?, "{words}");
+        let found = told(rt.alloc(), text)?;
+        let want = format!(in rt.alloc(); "BadLine {{ line: {line} }}: {words}")?;
+        assert_eq!(rt; found.as_str(), want.as_str());
     }
     Ok(())
 }
@@ -120,6 +114,6 @@ fn lines_that_are_none_of_a_schedule_are_told(rt: HostRuntime) -> Result<(), Fai
 fn a_fault_of_no_line_keeps_its_words(rt: HostRuntime) -> Result<(), Fail> {
     let reason = schedule_reason(b"", &ScheduleFault::NoMemory);
     let text = format!(in rt.alloc(); "{reason}")?;
-    assert!(rt; text.as_str() == "out of memory");
+    assert_eq!(rt; text.as_str(), "out of memory");
     Ok(())
 }

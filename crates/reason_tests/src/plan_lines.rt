@@ -1,6 +1,9 @@
-use crate::*;
+//! Why lines of plans are refused.
+
 use binary_decoder::decode;
+use line_reasons::plan_reason;
 use std::alloc::Global;
+use std::process::Abort;
 use std::test::Fail;
 use thread_plan::{Plan, PlanFault};
 use validator::{Valid, validate};
@@ -19,164 +22,181 @@ fn valid(alloc: Global) -> Result<Valid, Fail> {
     Ok(validate(alloc, decode(alloc, &bytes)?)?)
 }
 
-// The fault of a text and the words of its reason; None where it is a plan.
-fn refused(alloc: Global, text: &[u8]) -> Result<Option<(PlanFault, String)>, Fail> {
-    let valid = valid(alloc)?;
-    match Plan::read(alloc, text, &valid) {
-        Ok(_) => Ok(None),
+// Why a text is refused for a module, or that it is a plan.
+fn told_over(alloc: Global, text: &[u8], valid: &Valid) -> Result<String, Fail> {
+    match Plan::read(alloc, text, valid) {
+        Ok(_) => Ok(format!(in alloc; "a plan")?),
         Err(fault) => {
-            let reason = plan_reason(text, &valid, &fault);
-            Ok(Some((fault, format!(in alloc; "{reason}")?)))
+            let reason = plan_reason(text, valid, &fault);
+            Ok(format!(in alloc; "{fault:?}: {reason}")?)
         }
     }
 }
 
-// Whether a text is refused with this fault, for a reason of these words.
-fn tells(alloc: Global, text: &[u8], fault: PlanFault, words: &str) -> Result<bool, Fail> {
-    match refused(alloc, text)? {
-        Some((found, told)) => Ok(found == fault && told.as_str() == words),
-        None => Ok(false),
-    }
+// The same for the module of above. It alone owns a module.
+fn told(alloc: Global, text: &[u8]) -> Result<String, Fail> {
+    let valid = valid(alloc)?;
+    told_over(alloc, text, &valid)
 }
 
-// Texts, the lines that are none of a plan, and the words.
-static FORMS: &[(&[u8], u64, &str)] = &[
-    (b"", 1, "the first line is empty, and not `wreplay plan 1`"),
+// A text, its fault, and the words of its reason.
+type Row = (&'static [u8], PlanFault, &'static str);
+
+// Each of these texts is refused so.
+fn all_told(rt: &impl Abort, alloc: Global, rows: &[Row]) -> Result<(), Fail> {
+    for (text, fault, words) in rows {
+        let found = told(alloc, text)?;
+        let want = format!(in alloc; "{fault:?}: {words}")?;
+        assert_eq!(rt; found.as_str(), want.as_str());
+    }
+    Ok(())
+}
+
+// Texts with a line that is none of a plan.
+static FORMS: &[Row] = &[
+    (
+        b"",
+        PlanFault::BadLine { line: 1 },
+        "the first line is empty, and not `wreplay plan 1`",
+    ),
     (
         b"wreplay plan 2\nthread i 0\n",
-        1,
+        PlanFault::BadLine { line: 1 },
         "the first line is `wreplay plan 2`, and not `wreplay plan 1`",
     ),
     (
         b"wreplay plan 1\r\nthread i 0\r\n",
-        1,
+        PlanFault::BadLine { line: 1 },
         "the line ends in a carriage return",
     ),
     (
         b"wreplay plan 1\n",
-        2,
+        PlanFault::BadLine { line: 2 },
         "no line `thread NAME ARG ..` stands in the plan",
     ),
-    (b"wreplay plan 1\n\n", 2, "the line is empty"),
-    (b"wreplay plan 1\nthread i 0\n\n", 3, "the line is empty"),
+    (
+        b"wreplay plan 1\n\n",
+        PlanFault::BadLine { line: 2 },
+        "the line is empty",
+    ),
+    (
+        b"wreplay plan 1\nthread i 0\n\n",
+        PlanFault::BadLine { line: 3 },
+        "the line is empty",
+    ),
     (
         b"wreplay plan 1\nthread i 0\r\n",
-        2,
+        PlanFault::BadLine { line: 2 },
         "the line ends in a carriage return",
     ),
     (
         b"wreplay plan 1\n thread i 0\n",
-        2,
+        PlanFault::BadLine { line: 2 },
         "the line begins with a space",
     ),
     (
         b"wreplay plan 1\nthread i 0 \n",
-        2,
+        PlanFault::BadLine { line: 2 },
         "the line ends in a space",
     ),
     (
         b"wreplay plan 1\nthread two 0  7\n",
-        2,
+        PlanFault::BadLine { line: 2 },
         "two spaces stand side by side",
     ),
     (
         b"wreplay plan 1\nthreads i 0\n",
-        2,
+        PlanFault::BadLine { line: 2 },
         "the first word is `threads`, and not `thread`",
     ),
     (
         b"wreplay plan 1\nthread\n",
-        2,
+        PlanFault::BadLine { line: 2 },
         "no name of a function stands behind `thread`",
     ),
     (
         b"wreplay plan 1\nthread a\xffb 0\n",
-        2,
+        PlanFault::BadLine { line: 2 },
         "the name `a?b` is not in utf-8",
     ),
     (
         b"wreplay plan 1\nthread two 0 x1\n",
-        2,
+        PlanFault::BadLine { line: 2 },
         "argument 2, `x1`, is no integer in decimal",
     ),
     (
         b"wreplay plan 1\nthread i 00",
-        2,
+        PlanFault::BadLine { line: 2 },
         "argument 1, `00`, is no integer in decimal",
     ),
     (
         b"\0\x1b[31m\x7f",
-        1,
+        PlanFault::BadLine { line: 1 },
         "the first line is `??[31m?`, and not `wreplay plan 1`",
     ),
     (
         b"0123456789012345678901234567890123456789x",
-        1,
+        PlanFault::BadLine { line: 1 },
         "the first line is `0123456789012345678901234567890123456789..`, and not `wreplay plan 1`",
     ),
 ];
 
 #[test]
 fn lines_that_are_none_of_a_plan_are_told(rt: HostRuntime) -> Result<(), Fail> {
-    for (text, line, words) in FORMS {
-        let fault = PlanFault::BadLine { line: *line };
-        assert!(rt; tells(rt.alloc(), text, fault, words)?, "{words}");
-    }
-    Ok(())
+    all_told(&rt, rt.alloc(), FORMS)
 }
 
-// Texts that name no function in line 2, and the words.
-static NAMES: &[(&[u8], &str)] = &[
+// Texts that name no function in line 2.
+static NAMES: &[Row] = &[
     (
         b"wreplay plan 1\nthread j 0\n",
+        PlanFault::NoExport { line: 2 },
         "the module exports no function with the name `j`",
     ),
     (
         b"wreplay plan 1\nthread m\n",
+        PlanFault::NoExport { line: 2 },
         "the module exports no function with the name `m`",
     ),
     (
         b"wreplay plan 1\nthread i\r\n",
+        PlanFault::NoExport { line: 2 },
         "the line ends in a carriage return",
     ),
 ];
 
 #[test]
 fn names_of_no_function_are_told(rt: HostRuntime) -> Result<(), Fail> {
-    for (text, words) in NAMES {
-        let fault = PlanFault::NoExport { line: 2 };
-        assert!(rt; tells(rt.alloc(), text, fault, words)?, "{words}");
-    }
-    Ok(())
+    all_told(&rt, rt.alloc(), NAMES)
 }
 
-// Texts of wrong arguments in line 2, and the words.
-static ARGUMENTS: &[(&[u8], &str)] = &[
+// Texts of wrong arguments in line 2.
+static ARGUMENTS: &[Row] = &[
     (
         b"wreplay plan 1\nthread i\n",
+        PlanFault::WrongArguments { line: 2 },
         "the number of arguments that the function takes is 1, and that of the line is 0",
     ),
     (
         b"wreplay plan 1\nthread two 1 2 3\n",
+        PlanFault::WrongArguments { line: 2 },
         "the number of arguments that the function takes is 2, and that of the line is 3",
     ),
     (
         b"wreplay plan 1\nthread i 4294967296\n",
+        PlanFault::WrongArguments { line: 2 },
         "argument 1, `4294967296`, is not from -2147483648 to 4294967295, as an i32 is",
     ),
     (
         b"wreplay plan 1\nthread two 0 -9223372036854775809\n",
+        PlanFault::WrongArguments { line: 2 },
         "argument 2, `-9223372036854775809`, is not from -9223372036854775808 to 18446744073709551615, as an i64 is",
     ),
 ];
 
 #[test]
 fn wrong_arguments_are_told(rt: HostRuntime) -> Result<(), Fail> {
-    for (text, words) in ARGUMENTS {
-        let fault = PlanFault::WrongArguments { line: 2 };
-        assert!(rt; tells(rt.alloc(), text, fault, words)?, "{words}");
-    }
-    Ok(())
+    all_told(&rt, rt.alloc(), ARGUMENTS)
 }
 
 // A plan of so many threads.
@@ -191,17 +211,29 @@ fn threads(alloc: Global, count: u32) -> Result<String, Fail> {
 #[test]
 fn a_seventeenth_thread_is_told(rt: HostRuntime) -> Result<(), Fail> {
     let text = threads(rt.alloc(), 17)?;
-    let fault = PlanFault::BadLine { line: 18 };
-    let words = "a plan has no more than 16 threads";
-    assert!(rt; tells(rt.alloc(), text.as_bytes(), fault, words)?);
+    let found = told(rt.alloc(), text.as_bytes())?;
+    assert_eq!(rt;
+        found.as_str(),
+        "BadLine { line: 18 }: a plan has no more than 16 threads"
+    );
     Ok(())
+}
+
+// The words of a fault's reason.
+fn words_over(alloc: Global, valid: &Valid, fault: &PlanFault) -> Result<String, Fail> {
+    let reason = plan_reason(b"", valid, fault);
+    Ok(format!(in alloc; "{reason}")?)
+}
+
+// The same for the module of above.
+fn words(alloc: Global, fault: &PlanFault) -> Result<String, Fail> {
+    let valid = valid(alloc)?;
+    words_over(alloc, &valid, fault)
 }
 
 #[test]
 fn faults_of_no_line_keep_their_words(rt: HostRuntime) -> Result<(), Fail> {
-    let valid = valid(rt.alloc())?;
-    let reason = plan_reason(b"", &valid, &PlanFault::NotShared);
-    let text = format!(in rt.alloc(); "{reason}")?;
-    assert!(rt; text.as_str() == "the memory is not shared");
+    let text = words(rt.alloc(), &PlanFault::NotShared)?;
+    assert_eq!(rt; text.as_str(), "the memory is not shared");
     Ok(())
 }

@@ -1,6 +1,6 @@
 use Rattle.std.proofs.Common.{ℕ, ◌≡◌, take, true}
 use Rattle.rw_objects.specs.Counts.{is_touched, CanCount, count_at}
-use Rattle.waiter_queues.proofs.checked.can_count.Given as goal
+use Rattle.parts_tests.proofs.checked.can_count.Given as goal
 
 abbrev pub invariant-loop-i : goal.invariant-loop-i
 invariant-loop-i l = (o : ℕ) → is_touched (take l.i l.touches) o ≡ true → CanCount (count_at l.versions o)

@@ -3,22 +3,16 @@
 ghost use Rattle.std.specs.Prelude.{IsTrue};
 ghost use Rattle.debug_views.specs.Text.{IsShown};
 
-use crate::{bytes, thread_view, versions, view, write_break};
-use binary_decoder::decode;
-use event_core::{Input, Pick, World};
-use integer_machine::{ThreadState, memory_limits};
+use crate::modules::{Threads, open, valid};
+use debug_views::{bytes, thread_view, versions, view, write_break};
+use event_core::{Input, Pick};
+use integer_machine::memory_limits;
 use replay_breaks::{Break, Every, ObjectRange, Stopped};
 use std::alloc::Global;
 use std::process::Abort;
 use std::test::Fail;
-use thread_plan::Plan;
-use validator::{Valid, validate};
-use waiter_queues::SharedSpace;
+use validator::Valid;
 use wasm_types::{Block, Profile};
-use wasm_world::open_world;
-
-/// The world of threads over a shared memory.
-type Threads<'a> = World<ThreadState<'a>, SharedSpace>;
 
 /// A shared memory of one page, and a function `w` that adds 1 at address 0 twice and answers the second old value: 8
 /// steps, 2 of them events.
@@ -47,20 +41,6 @@ struct Row {
     moves: &'static [(u32, u32)],
     look: Look,
     want: &'static str,
-}
-
-fn valid(alloc: Global, module: &str) -> Result<Valid, Fail> {
-    let bytes = hex::decode(alloc, module)?;
-    Ok(validate(alloc, decode(alloc, &bytes)?)?)
-}
-
-// The world before the first step.
-fn open<'a>(alloc: Global, valid: &'a Valid) -> Result<Threads<'a>, Fail> {
-    let plan = Plan::read(alloc, b"wreplay plan 1\nthread w\nthread w\n", valid)?;
-    if !valid.fits(&Profile::One) {
-        return Err("the module does not fit profile 1".into());
-    }
-    Ok(open_world(alloc, valid, &plan, Profile::One)?)
 }
 
 // Lets a thread make so many steps.
@@ -157,7 +137,7 @@ fn seen(alloc: Global, valid: &Valid, world: &mut Threads<'_>, row: &Row) -> Res
 
 // It alone owns a world, and the next one a module.
 fn seen_over(alloc: Global, valid: &Valid, row: &Row) -> Result<String, Fail> {
-    let mut world = open(alloc, valid)?;
+    let mut world = open(alloc, valid, "wreplay plan 1\nthread w\nthread w\n")?;
     seen(alloc, valid, &mut world, row)
 }
 

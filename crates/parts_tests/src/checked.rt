@@ -5,9 +5,9 @@ ghost use Rattle.rw_objects.specs.Space.{AllBelow, Fits};
 ghost use Rattle.rw_objects.specs.Counts.{CanCountAll};
 ghost use Rattle.block_objects.specs.SharedMemory.{shared_memory};
 
-use crate::SharedSpace;
 use rw_objects::{Entry, Few, ObjectSpace, Touch, Versioned, Versions};
 use std::alloc::Global;
+use waiter_queues::SharedSpace;
 use wasm_types::{Op, Reply};
 
 /// Whether all touches are of the first `count` objects.

@@ -1,0 +1,24 @@
+//! Tests of the thread machine, of worlds of threads and of their views. A crate with tests is proved twice, so they stand
+//! here, over what those crates offer.
+#![tactic(auto)]
+
+#[cfg(test)]
+mod accesses;
+#[cfg(test)]
+mod arithmetic;
+#[cfg(test)]
+mod calls;
+#[cfg(test)]
+mod growths;
+#[cfg(test)]
+mod modules;
+#[cfg(test)]
+mod threads;
+#[cfg(test)]
+mod trials;
+#[cfg(test)]
+mod views;
+#[cfg(test)]
+mod waits;
+#[cfg(test)]
+mod worlds;

@@ -1,0 +1,30 @@
+//! Modules in hex, and worlds of their threads.
+
+use binary_decoder::decode;
+use event_core::World;
+use integer_machine::ThreadState;
+use std::alloc::Global;
+use std::test::Fail;
+use thread_plan::Plan;
+use validator::{Valid, validate};
+use waiter_queues::SharedSpace;
+use wasm_types::Profile;
+use wasm_world::open_world;
+
+/// The valid module of these digits.
+pub(crate) fn valid(alloc: Global, module: &str) -> Result<Valid, Fail> {
+    let bytes = hex::decode(alloc, module)?;
+    Ok(validate(alloc, decode(alloc, &bytes)?)?)
+}
+
+/// The world of threads over a shared memory.
+pub(crate) type Threads<'a> = World<ThreadState<'a>, SharedSpace>;
+
+/// The world of a plan before the first step.
+pub(crate) fn open<'a>(alloc: Global, valid: &'a Valid, plan: &str) -> Result<Threads<'a>, Fail> {
+    if !valid.fits(&Profile::One) {
+        return Err("the module does not fit profile 1".into());
+    }
+    let plan = Plan::read(alloc, plan.as_bytes(), valid)?;
+    Ok(open_world(alloc, valid, &plan, Profile::One)?)
+}
