@@ -8,11 +8,13 @@ do the same, and of four programs of one thread each that run side by side, the 
 times the steps a second of one thread the four make. The four programs share nothing, so they are what the machine has to give.
 Threads that share a counter: four of them make EVENTS accesses (10,000,000 by default) between them, and the greatest
 resident memory, less that of a recording of few events, is given for each event, once where the report is written and once
-where the pieces are. The log of a tenth of these events, and that of threads that compute alone, are replayed by threads, and the
-seconds are set beside those of the recording of the report. Seconds are those of the clock, so nothing else should run.
+where the pieces are. Then ROUNDS logs of a tenth of these events are recorded, and as many of threads that compute alone. The pieces of
+each are replayed by threads, and the seconds are set beside those of just that recording: the medians of both, and the least and
+the greatest of the ratios. Seconds are those of the clock, so nothing else should run.
 """
 
 import os
+import statistics
 import subprocess
 import sys
 import tempfile
@@ -43,17 +45,15 @@ def recorded(wreplay, folder, wasm, threads, *more):
 
 
 def replayed(wreplay, folder, wasm, threads):
-    """The least seconds of a recording by threads of the report, and of the replay by threads of a recording's pieces."""
-    pieces = os.path.join(folder, "pieces")
-    recorded(wreplay, folder, wasm, threads)
-    os.replace(os.path.join(folder, "out"), pieces)
-    record = replay = float("inf")
+    """For each of some logs, the seconds of its recording by threads, with its pieces, and of the replay by threads of these."""
+    pieces, pairs = os.path.join(folder, "pieces"), []
     for _ in range(ROUNDS):
-        record = min(record, recorded(wreplay, folder, wasm, threads, "--report")[0])
+        record = recorded(wreplay, folder, wasm, threads)[0]
+        os.replace(os.path.join(folder, "out"), pieces)
         start = time.monotonic()
         subprocess.run([wreplay, "replay", wasm, plan_of(folder, threads), pieces, "--threads"], stdout=subprocess.DEVNULL, check=True)
-        replay = min(replay, time.monotonic() - start)
-    return record, replay
+        pairs.append((record, time.monotonic() - start))
+    return pairs
 
 
 def least(wreplay, folder, wasm, threads):
@@ -103,8 +103,10 @@ def main():
         print("| four threads | recording, s | replay by threads, s | times the recording's speed |")
         print("|---|---:|---:|---:|")
         for name, path in [("that compute alone", wasm), (f"of {events // 10:,} events on one counter", tenth)]:
-            record, replay = replayed(wreplay, folder, path, 4)
-            print(f"| {name} | {record:.2f} | {replay:.2f} | {record / replay:.2f} |")
+            pairs = replayed(wreplay, folder, path, 4)
+            record, replay = (statistics.median(seconds) for seconds in zip(*pairs))
+            ratios = [record / replay for record, replay in pairs]
+            print(f"| {name} | {record:.2f} | {replay:.2f} | {min(ratios):.2f} to {max(ratios):.2f} |")
 
 
 if __name__ == "__main__":

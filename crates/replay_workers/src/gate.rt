@@ -19,8 +19,8 @@ use striped_objects::Striped;
 use wasm_types::NoMemory;
 
 /// Rests before the gate of an event, which was found shut, until it can be open, and enters the event. Answers whether it did: it
-/// stops where the gate can not open any more, and once no seat can go on. The number of calls is read before each try, so that no
-/// call that opens the gate is missed.
+/// stops where the gate can not open any more, and once no seat can go on. How many calls were entered is known before each try, so
+/// that no call that opens the gate is missed.
 fn wait_to_enter<M: Machine<S>, S: Striped, J: Opening<S, S::Value, S::Fixed>, R: Wait, H: Hold>(
     rt: &R,
     alloc: Global,
@@ -41,10 +41,10 @@ fn wait_to_enter<M: Machine<S>, S: Striped, J: Opening<S, S::Value, S::Fixed>, R
 {
     let mut seen = 0;
     for _ in rt.forever() {
-        if !shared.rest_before(rt, seat, item, seen) {
-            return Ok(false);
+        match shared.rest_before(rt, seat, item, seen) {
+            Some(length) => seen = length,
+            None => return Ok(false),
         }
-        seen = shared.length(rt);
         match enter_at(rt, alloc, shared, thread, seat, op, item, hold) {
             Ok(true) => return Ok(true),
             Ok(false) => {}

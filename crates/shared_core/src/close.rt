@@ -104,6 +104,7 @@ impl<S: Striped + Drop, J: Opening<S, S::Value, S::Fixed>> Shared<S, J> {
             journal,
             changed: _,
             to_begin: _,
+            passed: _,
         } = self;
         let Journal { held, resting: _ } = journal.into_inner();
         end(held, alloc, parts, seats)

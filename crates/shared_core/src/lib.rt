@@ -4,6 +4,7 @@
 mod close;
 mod hold;
 mod journal;
+mod looking;
 mod missing;
 mod opened;
 mod parts;

@@ -191,6 +191,7 @@ impl<S: Striped + Drop, J: Opening<S, S::Value, S::Fixed>> Shared<S, J> {
             journal: Mutex::new(Journal { held, resting }),
             changed: array::from_fn(|_| Condvar::new()),
             to_begin: AtomicU64::new(u64::from(threads)),
+            passed: AtomicU64::new(0),
         };
         Ok((shared, seats))
     }

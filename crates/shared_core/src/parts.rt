@@ -7,6 +7,7 @@ ghost use Rattle.shared_parts.specs.Calls.{memory_after_calls};
 ghost use Rattle.shared_parts.specs.Writes.{writes};
 ghost use Rattle.shared_parts.specs.Eights.{IsKept, Covers, totals_by};
 
+use crate::looking::{read, write};
 use call_chain::{Latest, SecondHalf};
 use rw_objects::{Few, ObjectSpace, Touch};
 use shared_parts::{Call, KeptPart, KeptParts, Lane, Opening, Stripe, Written, lane_writes};
@@ -44,13 +45,13 @@ fn wait_for<'a, S: Striped, J: Opening<S, S::Value, S::Fixed>, R: Wait, const I:
     }
     if lane_writes(I, touches) == 0 {
         KeptPart {
-            read: Some(lock.read(rt)),
+            read: Some(read(rt, lock)),
             write: None,
         }
     } else {
         KeptPart {
             read: None,
-            write: Some(lock.write(rt)),
+            write: Some(write(rt, lock)),
         }
     }
 }

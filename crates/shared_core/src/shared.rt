@@ -7,6 +7,7 @@ ghost use Rattle.shared_journal.specs.Tries.{IfDone, IfShut, IsDone};
 
 use crate::hold::Hold;
 use crate::journal::Journal;
+use crate::looking::lock;
 use crate::missing::opens_at;
 use crate::parts::Parts;
 use crate::resting::Wakes;
@@ -23,6 +24,9 @@ use wasm_types::{MOST_THREADS, NoMemory};
 /// How often a thread that is to rest looks whether all have begun.
 const MOST_LOOKS: u32 = 100_000;
 
+/// How often a thread before a gate looks whether enough calls have passed theirs, before it rests: for some ten microseconds.
+const MOST_LOOKS_AT_GATES: u32 = 100;
+
 /// A space shared by threads, each of which has a seat: its parts, the journal of all calls, and what wakes those that rest.
 #[derive(Drop)]
 pub struct Shared<S: Striped, J: Opening<S, S::Value, S::Fixed>> {
@@ -31,6 +35,8 @@ pub struct Shared<S: Striped, J: Opening<S, S::Value, S::Fixed>> {
     pub(crate) changed: [Condvar; MOST_THREADS],
     /// How many seats have not begun.
     pub(crate) to_begin: AtomicU64,
+    /// How many calls have passed the gates of their entries, and given back their locks.
+    pub(crate) passed: AtomicU64,
 }
 
 impl<S: Striped, J: Opening<S, S::Value, S::Fixed>> Shared<S, J> {
@@ -82,7 +88,7 @@ impl<S: Striped, J: Opening<S, S::Value, S::Fixed>> Shared<S, J> {
                 return Err(error);
             }
         };
-        let mut journal = self.journal.lock(rt);
+        let mut journal = lock(rt, &self.journal);
         let answer = journal
             .held
             .enter(alloc, seat, op, expected, &touches, &mut kept, &decision);
@@ -137,19 +143,23 @@ impl<S: Striped, J: Opening<S, S::Value, S::Fixed>> Shared<S, J> {
         ensures kept { (IsDone result ≡ false) → seat.new ≡ seat.old }
         ensures thread { seat.new.thread ≡ seat.old.thread }
     {
-        self.try_call(rt, alloc, seat, op, Some(expected), hold)
+        let tried = self.try_call(rt, alloc, seat, op, Some(expected), hold);
+        if matches!(&tried, Ok(Tried::Done(..))) {
+            self.passed.fetch_add(1, Ordering::SeqCst);
+        }
+        tried
     }
 
     /// How many calls were entered.
     pub fn length<R: Wait>(&self, rt: &R) -> u64 {
-        self.journal.lock(rt).length()
+        lock(rt, &self.journal).length()
     }
 
     /// The seat begins: others that rest may wait for its calls. To be called once for a seat, before its first call.
     pub fn begin<R: Wait>(&self, rt: &R, seat: &mut Seat<S, J>)
         ensures { seat.new ≡ seat.old }
     {
-        self.journal.lock(rt).resting.goes_on(seat.thread());
+        lock(rt, &self.journal).resting.goes_on(seat.thread());
         self.to_begin.fetch_sub(1, Ordering::SeqCst);
     }
 
@@ -169,7 +179,7 @@ impl<S: Striped, J: Opening<S, S::Value, S::Fixed>> Shared<S, J> {
     fn rest_until<R: Wait>(&self, rt: &R, seat: &Seat<S, J>, until: u64) -> u64 {
         self.wait_for_beginnings();
         let number = seat.thread();
-        let mut journal = self.journal.lock(rt);
+        let mut journal = lock(rt, &self.journal);
         let length = journal.length();
         if length >= until {
             return length;
@@ -192,23 +202,37 @@ impl<S: Striped, J: Opening<S, S::Value, S::Fixed>> Shared<S, J> {
         self.rest_until(rt, seat, seen.saturating_add(1))
     }
 
+    /// Looks for a while, with no lock, until so many calls have passed their gates, and gives up its turn after each look. Answers
+    /// whether they have.
+    fn look_until(&self, until: u64) -> bool {
+        for _ in 0..MOST_LOOKS_AT_GATES {
+            if self.passed.load(Ordering::SeqCst) >= until {
+                return true;
+            }
+            thread::yield_now();
+        }
+        false
+    }
+
     /// Waits before the gate of a call whose entry is to be this one, and which could not be entered when `seen` calls were.
-    /// Answers whether it is to be tried again: it is not where an object has passed what the entry met, where nothing is
-    /// missing and no call was entered since, or where no seat can go on.
+    /// Answers how many were entered then, at the least, where it is to be tried again: it is not where an object has passed what
+    /// the entry met, where nothing is missing and no call was entered since, or where no seat can go on.
     pub fn rest_before<R: Wait>(
         &self,
         rt: &R,
         seat: &Seat<S, J>,
         expected: &Entry,
         seen: u64,
-    ) -> bool {
-        let journal = self.journal.lock(rt);
+    ) -> Option<u64> {
+        let journal = lock(rt, &self.journal);
         let opens_at = opens_at(&journal.held.versions, journal.length(), expected, seen);
         drop(journal);
-        match opens_at {
-            Some(until) => self.rest_until(rt, seat, until) >= until,
-            None => false,
+        let until = opens_at?;
+        if self.look_until(until) {
+            return Some(until);
         }
+        let length = self.rest_until(rt, seat, until);
+        if length < until { None } else { Some(length) }
     }
 
     /// The seat enters no more calls, so nobody waits for it. To be called once for a seat.
@@ -216,7 +240,7 @@ impl<S: Striped, J: Opening<S, S::Value, S::Fixed>> Shared<S, J> {
         ensures { seat.new ≡ seat.old }
     {
         let number = seat.thread();
-        let mut journal = self.journal.lock(rt);
+        let mut journal = lock(rt, &self.journal);
         let length = journal.length();
         let is_over = journal.resting.leave(number, length);
         drop(journal);

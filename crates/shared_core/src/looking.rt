@@ -1,0 +1,37 @@
+//! Locks for which a thread looks for a while before it sleeps. What is done under the locks of a shared space takes less time than to
+//! sleep and to be woken, and the standard library's own locks look for some tens of nanoseconds only.
+
+use std::sync::{Mutex, MutexGuard, RwLock, RwLockReadGuard, RwLockWriteGuard, Wait};
+
+/// How often a thread tries a lock before it sleeps: for some microseconds.
+const MOST_TRIES: u32 = 200;
+
+/// Takes a lock.
+pub(crate) fn lock<'a, T, R: Wait>(rt: &R, lock: &'a Mutex<T>) -> MutexGuard<'a, T> {
+    for _ in 0..MOST_TRIES {
+        if let Some(guard) = lock.try_lock() {
+            return guard;
+        }
+    }
+    lock.lock(rt)
+}
+
+/// Takes a lock for reading.
+pub(crate) fn read<'a, T, R: Wait>(rt: &R, lock: &'a RwLock<T>) -> RwLockReadGuard<'a, T> {
+    for _ in 0..MOST_TRIES {
+        if let Some(guard) = lock.try_read() {
+            return guard;
+        }
+    }
+    lock.read(rt)
+}
+
+/// Takes a lock for writing.
+pub(crate) fn write<'a, T, R: Wait>(rt: &R, lock: &'a RwLock<T>) -> RwLockWriteGuard<'a, T> {
+    for _ in 0..MOST_TRIES {
+        if let Some(guard) = lock.try_write() {
+            return guard;
+        }
+    }
+    lock.write(rt)
+}
