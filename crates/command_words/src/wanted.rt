@@ -86,6 +86,7 @@ fn block(matches: &ArgMatches<'_>) -> Option<Block>
 {
     match Block::new(small_number(matches, "block", u32::MAX)?) {
         Ok(block) => {
+            // A fact for the prover: blocks have at most 4,096 bytes.
             let _power = block.power();
             Some(block)
         }

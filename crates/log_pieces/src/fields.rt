@@ -15,6 +15,7 @@ fn put<const MOST: usize>(fields: &mut ArrayVec<u8, MOST>, field: &[u8])
     ensures put { fields.new.items ≡ fields.old.items ++ field.now }
     ensures len { array_vec_len fields.new ≡ array_vec_len fields.old + length field.now }
 {
+    // There is room for them.
     let _fits = fields.try_extend_from_slice(field);
 }
 

@@ -90,6 +90,7 @@ impl Striped for StripedMemory {
 
     fn split(self, alloc: Global) -> Result<Eight<Box<MemoryPart>>, NoMemory> {
         let (blocks, queues) = self.space.into_parts();
+        // A fact for the prover: the blocks are sound.
         let _sound = blocks.limits();
         split_parts(alloc, &blocks, &queues)
     }

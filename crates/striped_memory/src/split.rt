@@ -71,6 +71,7 @@ fn block_part(
     requires { row < 4 }
     ensures { IfOk result (λ part. IsPart memory_lane memory_fixed memory_held (1 + 2 * row) blocks.now.limits (shared_values blocks.now queues.now) (box_value part)) }
 {
+    // Clauses alone speak of the queues: their values stand in parts of other rows.
     let _ = queues;
     let part = deal_blocks(alloc, blocks, row)?;
     Ok(Box::new(alloc, MemoryPart::Blocks(part))?)

@@ -349,6 +349,7 @@ impl ObjectSpace for SharedSpace {
     }
 
     fn image(&self, alloc: Global) -> Result<Vec<u8>, NoMemory> {
+        // A fact for the prover: the blocks are sound.
         let _sound = self.blocks.limits();
         self.blocks.image(alloc)
     }

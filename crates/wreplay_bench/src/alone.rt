@@ -61,6 +61,7 @@ impl<'a> Alone<'a> {
         ensures opening { IfOk result (λ alone. IsOpening valid.now plan.now block (alone_of alone)) }
         ensures sound { IfOk result (λ alone. IsSoundAlone thread_code (alone_of alone)) }
     {
+        // A fact for the prover: blocks have at most 4,096 bytes.
         let _small = block.power();
         let module = valid.module();
         let limits = memory_limits(module, Profile::Two(block));

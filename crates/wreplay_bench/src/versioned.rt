@@ -31,6 +31,7 @@ fn load_at(limits: &MemoryLimits, access: u32) -> Op
     ensures kind { op_kind result ≡ kinds.Access }
 {
     let address = address_of(access);
+    // A fact for the prover: blocks have at most 4,096 bytes.
     let _small = limits.block.power();
     Op {
         extent: extent_of(limits),
@@ -48,6 +49,7 @@ fn load_of(limits: &MemoryLimits, load: Load, access: u32) -> Op
     ensures kind { op_kind result ≡ kinds.Access }
 {
     let address = address_of(access).min(65_528);
+    // A fact for the prover: blocks have at most 4,096 bytes.
     let _small = limits.block.power();
     Op {
         extent: extent_of(limits),
@@ -62,6 +64,7 @@ fn store_at(limits: &MemoryLimits, access: u32) -> Op
     ensures kind { op_kind result ≡ kinds.Access }
 {
     let address = address_of(access);
+    // A fact for the prover: blocks have at most 4,096 bytes.
     let _small = limits.block.power();
     Op {
         extent: extent_of(limits),
