@@ -48,6 +48,7 @@ fn hand_in<S: Striped, J: Opening<S, S::Value, S::Fixed>>(
         share,
         reached,
         seen: _,
+        left: _,
     } = seat;
     latest.meet(&reached);
     all.merge(share);

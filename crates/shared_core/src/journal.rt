@@ -3,7 +3,8 @@
 ghost use Rattle.std.specs.Prelude.{◌≡◌, ◌&&◌, nat_lt, not, length};
 
 use crate::resting::Resting;
-use shared_journal::Held;
+use rw_objects::{Few, Touch};
+use shared_journal::{Held, Left};
 use shared_parts::Opening;
 use striped_objects::Striped;
 
@@ -20,6 +21,21 @@ impl<S: Striped, J: Opening<S, S::Value, S::Fixed>> Journal<S, J> {
         ensures { result ≡ length self.now.held }
     {
         self.held.length() as u64
+    }
+
+    /// What a call that was just entered leaves: what the last of the objects that it touched counts now.
+    pub(crate) fn left_by(&self, touches: &Few<Touch>) -> Left
+        ensures { result.length ≡ length self.now.held }
+    {
+        let object = match touches.as_slice() {
+            [.., last] => last.object,
+            [] => 0,
+        };
+        Left {
+            length: self.length(),
+            object,
+            count: self.held.versions.at(object),
+        }
     }
 
     /// Whether a seat that rests until so many calls goes on resting: fewer were entered, and some seat can go on.

@@ -5,6 +5,7 @@ ghost use Rattle.rw_objects.specs.Counts.{count_at};
 ghost use Rattle.shared_core.specs.Missing.{missing_touch, missing_calls, opens_at};
 
 use rw_objects::{Count, Entry, Found, Versions};
+use shared_journal::Left;
 
 /// How many calls are missing until a touch finds what it found, at the least: none where the object has passed that.
 fn missing_touch(found: &Found, here: Count) -> Option<u64>
@@ -39,6 +40,21 @@ fn missing_calls(versions: &Versions, expected: &Entry) -> Option<u64>
         }
     }
     Some(most)
+}
+
+/// With how many calls, at the least, a call can be entered whose entry is to be this one, by what its seat's last call left: none where
+/// that tells of no call that is missing.
+pub(crate) fn opens_behind(left: &Left, expected: &Entry) -> Option<u64> {
+    let mut most = 0;
+    for found in expected.found.as_slice() {
+        if found.object() == left.object {
+            most = missing_touch(found, left.count).unwrap_or(0).max(most);
+        }
+    }
+    if most == 0 {
+        return None;
+    }
+    Some(left.length.saturating_add(most))
 }
 
 /// With how many calls a call can be entered whose entry is to be this one, where `length` were entered, and it could not be when

@@ -15,7 +15,7 @@ use crate::shared::Shared;
 use call_chain::{Pile, Reached, SecondHalf, Unnamed, UnnamedNumber};
 use packed_entries::PackedEntries;
 use rw_objects::{ObjectSpace, Versions};
-use shared_journal::{Held, Seat};
+use shared_journal::{Held, Left, Seat};
 use shared_parts::{Call, Count, Lane, Opening, Stripe, Written};
 use std::alloc::Global;
 use std::array;
@@ -148,6 +148,7 @@ fn seats<S: Striped, J: Opening<S, S::Value, S::Fixed>>(
             share: own,
             reached: reached.again(),
             seen: Vec::new(alloc),
+            left: Left::nothing(),
         })?;
     }
     Ok((seats, share))

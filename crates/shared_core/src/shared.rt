@@ -8,7 +8,7 @@ ghost use Rattle.shared_journal.specs.Tries.{IfDone, IfShut, IsDone};
 use crate::hold::Hold;
 use crate::journal::Journal;
 use crate::looking::lock;
-use crate::missing::opens_at;
+use crate::missing::{opens_at, opens_behind};
 use crate::parts::Parts;
 use crate::resting::Wakes;
 use rw_objects::Entry;
@@ -94,6 +94,9 @@ impl<S: Striped, J: Opening<S, S::Value, S::Fixed>> Shared<S, J> {
             .enter(alloc, seat, op, expected, &touches, &mut kept, &decision);
         let is_entered = matches!(&answer, Ok(Tried::Done(..)));
         let wakes = if is_entered {
+            if expected.is_some() {
+                seat.note(journal.left_by(&touches));
+            }
             journal.resting.entered(journal.length())
         } else {
             Wakes::Nobody
@@ -143,6 +146,9 @@ impl<S: Striped, J: Opening<S, S::Value, S::Fixed>> Shared<S, J> {
         ensures kept { (IsDone result ≡ false) → seat.new ≡ seat.old }
         ensures thread { seat.new.thread ≡ seat.old.thread }
     {
+        if let Some(until) = opens_behind(&seat.left, expected) {
+            self.look_until(until);
+        }
         let tried = self.try_call(rt, alloc, seat, op, Some(expected), hold);
         if matches!(&tried, Ok(Tried::Done(..))) {
             self.passed.fetch_add(1, Ordering::SeqCst);

@@ -2,9 +2,11 @@
 #![tactic(auto)]
 
 mod held;
+mod left;
 mod seat;
 mod tried;
 
 pub use held::Held;
+pub use left::Left;
 pub use seat::Seat;
 pub use tried::Tried;

@@ -6,6 +6,7 @@ ghost use Rattle.striped_objects.specs.Cut.{sights, decision_at};
 ghost use Rattle.shared_parts.specs.Eights.{AreHere, Covers};
 ghost use Rattle.shared_parts.specs.Calls.{entries_in};
 
+use crate::left::Left;
 use call_chain::{Pile, Reached};
 use packed_entries::PackedEntries;
 use rw_objects::{Few, ObjectSpace, Touch};
@@ -26,6 +27,8 @@ pub struct Seat<S: Striped, J: Opening<S, S::Value, S::Fixed>> {
     pub reached: Reached<Call<S::Op, S::Reply>, J>,
     /// What the last call saw of each object, a list that is used again.
     pub seen: Vec<S::Seen>,
+    /// What the last call left, where its entry was known before.
+    pub left: Left,
 }
 
 impl<S: Striped, J: Opening<S, S::Value, S::Fixed>> Model for Seat<S, J> {
@@ -82,6 +85,13 @@ impl<S: Striped, J: Opening<S, S::Value, S::Fixed>> Seat<S, J> {
         self.seen.clear();
         look(kept, touches, op, &mut self.seen)?;
         Ok(S::decide(op, self.seen.as_slice()))
+    }
+
+    /// Notes what its last call left.
+    pub fn note(&mut self, left: Left)
+        ensures { self.new ≡ self.old }
+    {
+        self.left = left;
     }
 
     /// The entries of its calls.
