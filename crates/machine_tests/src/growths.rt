@@ -1,24 +1,33 @@
 //! Want of memory. `rt try --test --fail-alloc N` refuses the Nth growth; without it none is refused, and the tests pass,
 //! too. What was refused is tried again, and the thread then ends as without the refusal.
 
-use crate::trials::{Parts, SHARED, Trial, run_over, standing, step, take};
+use crate::trials::{Case, SHARED, Way, advance, check};
 use integer_machine::ThreadState;
 use rw_objects::{Machine, Next};
-use std::alloc::Global;
 use std::test::Fail;
 use wasm_types::{NoMemory, Op, Profile, Reply, Value};
 
+/// What is done again where memory was wanted.
+#[derive(Clone, Copy, Debug)]
+pub(crate) enum Refused {
+    /// Each step.
+    Steps,
+    /// Runs of local steps, and a step behind each.
+    Runs,
+    /// Room for each step. The step then wants no memory.
+    Room,
+}
+
 /// The length of the memory and what function 1 gives for 12; which calls itself from inside three blocks, down to 0, with
 /// three lengths on its operands, and has two locals. All stacks grow, and the first word is a reply's.
-const GROWING: Parts<'static> = Parts {
+const GROWING: Case<'static> = Case {
     imports: "",
     memory: SHARED,
-    functions: "00 03",
+    functions: "0003",
     segments: "",
-    bodies: &[
-        "00 3f00 410c 1001 6a 0b",
-        "01027e 0240 0240 0240 2000 45 0d00 3f00 3f00 3f00 6a 6a 2000 4101 6b 1001 6a 0f 0b 0b 0b 4100 0b",
-    ],
+    bodies: "00 3f00 410c 1001 6a 0b / \
+        01027e 0240 0240 0240 2000 45 0d00 3f00 3f00 3f00 6a 6a 2000 4101 6b 1001 6a 0f 0b 0b 0b 4100 0b",
+    lines: "thread f",
 };
 
 /// How a thread of it ends, with replies of 1 throughout.
@@ -26,15 +35,11 @@ const ENDED: &str = "219 steps, i32 37";
 
 const STEPS: u32 = 219;
 
-const ONE: Reply = Reply::Value(Value::I32(1));
-
 /// Makes the next step, if there is one.
 fn try_step(state: &mut ThreadState<'_>) -> Result<(), NoMemory> {
-    match state.next() {
-        Next::Local => step(state),
-        Next::Ask(_) | Next::Asleep { .. } => take(state, ONE),
-        Next::Halted(_) => Ok(()),
-    }
+    let next = state.next();
+    advance(state, next, Some(Reply::Value(Value::I32(1))))?;
+    Ok(())
 }
 
 /// Whether a thread does next what it would do, and made so many steps.
@@ -54,30 +59,6 @@ fn step_again(state: &mut ThreadState<'_>) -> Result<(), Fail> {
     Ok(())
 }
 
-/// Tries the first thread of such a module.
-fn grown<T: Trial>(alloc: Global, trial: &T) -> Result<String, Fail> {
-    run_over(alloc, GROWING, "thread f", 0, Profile::One, trial)
-}
-
-/// Each step is made again where memory was wanted.
-struct Steps;
-
-impl Trial for Steps {
-    fn run(&self, alloc: Global, state: &mut ThreadState<'_>) -> Result<String, Fail> {
-        for _ in 0..STEPS {
-            step_again(state)?;
-        }
-        standing(alloc, state)
-    }
-}
-
-#[test]
-fn refused_steps_are_made_again(rt: HostRuntime) -> Result<(), Fail> {
-    let text = grown(rt.alloc(), &Steps)?;
-    assert_eq!(rt; text.as_str(), ENDED);
-    Ok(())
-}
-
 /// Makes up to seven local steps. Where memory was wanted, the next step is local, and the run goes on from there.
 fn run_again(state: &mut ThreadState<'_>) -> Result<(), Fail> {
     if state.local_run(7).is_err() {
@@ -86,26 +67,6 @@ fn run_again(state: &mut ThreadState<'_>) -> Result<(), Fail> {
         };
         state.local_run(7)?;
     }
-    Ok(())
-}
-
-/// Runs of local steps, and a step behind each.
-struct Runs;
-
-impl Trial for Runs {
-    fn run(&self, alloc: Global, state: &mut ThreadState<'_>) -> Result<String, Fail> {
-        for _ in 0..STEPS {
-            run_again(state)?;
-            step_again(state)?;
-        }
-        standing(alloc, state)
-    }
-}
-
-#[test]
-fn refused_runs_go_on(rt: HostRuntime) -> Result<(), Fail> {
-    let text = grown(rt.alloc(), &Runs)?;
-    assert_eq!(rt; text.as_str(), ENDED);
     Ok(())
 }
 
@@ -125,21 +86,32 @@ fn step_in_room(state: &mut ThreadState<'_>) -> Result<(), Fail> {
     Ok(())
 }
 
-/// Steps behind room for each.
-struct InRoom;
-
-impl Trial for InRoom {
-    fn run(&self, alloc: Global, state: &mut ThreadState<'_>) -> Result<String, Fail> {
-        for _ in 0..STEPS {
-            step_in_room(state)?;
+/// Makes the steps of such a thread.
+pub(crate) fn grow(state: &mut ThreadState<'_>, refused: Refused) -> Result<(), Fail> {
+    for _ in 0..STEPS {
+        match refused {
+            Refused::Steps => step_again(state)?,
+            Refused::Runs => {
+                run_again(state)?;
+                step_again(state)?;
+            }
+            Refused::Room => step_in_room(state)?,
         }
-        standing(alloc, state)
     }
+    Ok(())
 }
 
 #[test]
-fn steps_in_room_want_no_memory(rt: HostRuntime) -> Result<(), Fail> {
-    let text = grown(rt.alloc(), &InRoom)?;
-    assert_eq!(rt; text.as_str(), ENDED);
+fn what_was_refused_is_done_again(rt: HostRuntime) -> Result<(), Fail> {
+    for refused in [Refused::Steps, Refused::Runs, Refused::Room] {
+        check(
+            &rt,
+            rt.alloc(),
+            &GROWING,
+            &Profile::One,
+            Way::Refused(refused),
+            ENDED,
+        )?;
+    }
     Ok(())
 }

@@ -20,5 +20,3 @@ mod trials;
 mod views;
 #[cfg(test)]
 mod waits;
-#[cfg(test)]
-mod worlds;

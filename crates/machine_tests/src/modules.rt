@@ -11,9 +11,10 @@ use waiter_queues::SharedSpace;
 use wasm_types::Profile;
 use wasm_world::open_world;
 
-/// The valid module of these digits.
+/// The valid module of these digits, between which there may be spaces.
 pub(crate) fn valid(alloc: Global, module: &str) -> Result<Valid, Fail> {
-    let bytes = hex::decode(alloc, module)?;
+    let digits = module.replace(alloc, ' ', "")?;
+    let bytes = hex::decode(alloc, digits.as_str())?;
     Ok(validate(alloc, decode(alloc, &bytes)?)?)
 }
 

@@ -451,93 +451,95 @@ fn comparisons(rt: HostRuntime) {
     }
 }
 
+/// An operation on one integer, its operand and what it gives.
+static ONE_OPERAND: [(Numeric, Value, Value); 17] = [
+    (Numeric::IsZero(ValType::I32), Value::I32(0), Value::I32(1)),
+    (
+        Numeric::IsZero(ValType::I64),
+        Value::I64(0x1_0000_0000),
+        Value::I32(0),
+    ),
+    (
+        Numeric::Unary(ValType::I32, UnaryOp::LeadingZeros),
+        Value::I32(0),
+        Value::I32(32),
+    ),
+    (
+        Numeric::Unary(ValType::I64, UnaryOp::LeadingZeros),
+        Value::I64(1),
+        Value::I64(63),
+    ),
+    (
+        Numeric::Unary(ValType::I32, UnaryOp::TrailingZeros),
+        Value::I32(8),
+        Value::I32(3),
+    ),
+    (
+        Numeric::Unary(ValType::I64, UnaryOp::TrailingZeros),
+        Value::I64(0),
+        Value::I64(64),
+    ),
+    (
+        Numeric::Unary(ValType::I32, UnaryOp::CountOnes),
+        Value::I32(0xF0F0),
+        Value::I32(8),
+    ),
+    (
+        Numeric::Unary(ValType::I64, UnaryOp::CountOnes),
+        Value::I64(u64::MAX),
+        Value::I64(64),
+    ),
+    (
+        Numeric::Wrap,
+        Value::I64(0x1_2345_6789),
+        Value::I32(0x2345_6789),
+    ),
+    (
+        Numeric::Extend(Extension::Signed),
+        Value::I32(0x8000_0000),
+        Value::I64(0xFFFF_FFFF_8000_0000),
+    ),
+    (
+        Numeric::Extend(Extension::Unsigned),
+        Value::I32(0x8000_0000),
+        Value::I64(0x8000_0000),
+    ),
+    (
+        Numeric::ExtendLow(Narrow::I32Of8),
+        Value::I32(128),
+        Value::I32(0xFFFF_FF80),
+    ),
+    (
+        Numeric::ExtendLow(Narrow::I32Of8),
+        Value::I32(383),
+        Value::I32(127),
+    ),
+    (
+        Numeric::ExtendLow(Narrow::I32Of16),
+        Value::I32(32768),
+        Value::I32(0xFFFF_8000),
+    ),
+    (
+        Numeric::ExtendLow(Narrow::I64Of8),
+        Value::I64(0x80),
+        Value::I64(0xFFFF_FFFF_FFFF_FF80),
+    ),
+    (
+        Numeric::ExtendLow(Narrow::I64Of16),
+        Value::I64(0x1_7FFF),
+        Value::I64(0x7FFF),
+    ),
+    (
+        Numeric::ExtendLow(Narrow::I64Of32),
+        Value::I64(2147483648),
+        Value::I64(0xFFFF_FFFF_8000_0000),
+    ),
+];
+
 #[test]
 fn operations_on_one_integer(rt: HostRuntime) {
-    let rows = [
-        (Numeric::IsZero(ValType::I32), Value::I32(0), Value::I32(1)),
-        (
-            Numeric::IsZero(ValType::I64),
-            Value::I64(0x1_0000_0000),
-            Value::I32(0),
-        ),
-        (
-            Numeric::Unary(ValType::I32, UnaryOp::LeadingZeros),
-            Value::I32(0),
-            Value::I32(32),
-        ),
-        (
-            Numeric::Unary(ValType::I64, UnaryOp::LeadingZeros),
-            Value::I64(1),
-            Value::I64(63),
-        ),
-        (
-            Numeric::Unary(ValType::I32, UnaryOp::TrailingZeros),
-            Value::I32(8),
-            Value::I32(3),
-        ),
-        (
-            Numeric::Unary(ValType::I64, UnaryOp::TrailingZeros),
-            Value::I64(0),
-            Value::I64(64),
-        ),
-        (
-            Numeric::Unary(ValType::I32, UnaryOp::CountOnes),
-            Value::I32(0xF0F0),
-            Value::I32(8),
-        ),
-        (
-            Numeric::Unary(ValType::I64, UnaryOp::CountOnes),
-            Value::I64(u64::MAX),
-            Value::I64(64),
-        ),
-        (
-            Numeric::Wrap,
-            Value::I64(0x1_2345_6789),
-            Value::I32(0x2345_6789),
-        ),
-        (
-            Numeric::Extend(Extension::Signed),
-            Value::I32(0x8000_0000),
-            Value::I64(0xFFFF_FFFF_8000_0000),
-        ),
-        (
-            Numeric::Extend(Extension::Unsigned),
-            Value::I32(0x8000_0000),
-            Value::I64(0x8000_0000),
-        ),
-        (
-            Numeric::ExtendLow(Narrow::I32Of8),
-            Value::I32(128),
-            Value::I32(0xFFFF_FF80),
-        ),
-        (
-            Numeric::ExtendLow(Narrow::I32Of8),
-            Value::I32(383),
-            Value::I32(127),
-        ),
-        (
-            Numeric::ExtendLow(Narrow::I32Of16),
-            Value::I32(32768),
-            Value::I32(0xFFFF_8000),
-        ),
-        (
-            Numeric::ExtendLow(Narrow::I64Of8),
-            Value::I64(0x80),
-            Value::I64(0xFFFF_FFFF_FFFF_FF80),
-        ),
-        (
-            Numeric::ExtendLow(Narrow::I64Of16),
-            Value::I64(0x1_7FFF),
-            Value::I64(0x7FFF),
-        ),
-        (
-            Numeric::ExtendLow(Narrow::I64Of32),
-            Value::I64(2147483648),
-            Value::I64(0xFFFF_FFFF_8000_0000),
-        ),
-    ];
-    for (op, a, wanted) in rows {
+    for (op, a, wanted) in &ONE_OPERAND {
         // The second operand has no effect.
-        same(&rt, compute(op, a, a), Ok(wanted));
+        same(&rt, compute(*op, *a, *a), Ok(*wanted));
     }
 }

@@ -62,19 +62,7 @@ static TARGETS: [Option<Target>; 13] = [
     None,
 ];
 
-#[test]
-fn each_block_has_its_else_and_its_end(rt: HostRuntime) -> Result<(), Fail> {
-    let Some(targets) = Targets::new(rt.alloc(), &CODE)? else {
-        return Err(Fail::new("blocks that nest"));
-    };
-    for (at, want) in (0u32..).zip(&TARGETS) {
-        assert!(rt; targets.after(at) == *want, "at {at}");
-    }
-    assert!(rt; targets.after(13).is_none());
-    assert!(rt; targets.after(u32::MAX).is_none());
-    Ok(())
-}
-
+/// Blocks that do not nest.
 static LISTS: [&[Instr]; 9] = [
     &[],
     &[NOP],
@@ -88,9 +76,17 @@ static LISTS: [&[Instr]; 9] = [
 ];
 
 #[test]
-fn blocks_that_do_not_nest_have_no_targets(rt: HostRuntime) -> Result<(), Fail> {
+fn blocks_that_nest_have_their_else_and_their_end(rt: HostRuntime) -> Result<(), Fail> {
     for code in &LISTS {
         assert!(rt; Targets::new(rt.alloc(), code)?.is_none());
     }
+    let Some(targets) = Targets::new(rt.alloc(), &CODE)? else {
+        return Err(Fail::new("blocks that nest"));
+    };
+    for (at, want) in (0u32..).zip(&TARGETS) {
+        assert!(rt; targets.after(at) == *want, "at {at}");
+    }
+    assert!(rt; targets.after(13).is_none());
+    assert!(rt; targets.after(u32::MAX).is_none());
     Ok(())
 }

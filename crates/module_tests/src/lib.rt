@@ -15,6 +15,8 @@ mod decoding;
 #[cfg(test)]
 mod plans;
 #[cfg(test)]
+mod refused_memory;
+#[cfg(test)]
 mod validation;
 #[cfg(test)]
 mod validation_rows;

@@ -1,412 +1,522 @@
 //! Plans, of small modules in hex.
 
-use binary_decoder::decode;
+use crate::validation::valid_of;
 use std::alloc::Global;
 use std::process::Abort;
-use std::test::Fail;
+use thread_plan::PlanFault::{BadLine, NoExport, NotShared, SegmentOutOfBounds, WrongArguments};
 use thread_plan::{Plan, PlanFault};
-use validator::{Valid, validate};
+use validator::Valid;
+use wasm_types::Value;
 
-const PREAMBLE: &str = "0061736d01000000";
-
-// A shared memory `m`, and functions: `i` takes an i32, `l` an i64, `two` both; one that takes nothing has the empty name,
-// `zwölf`, and a name with a carriage return.
-const FUNCTIONS: &str = "\
+/// A shared memory `m`, and functions: `i` takes an i32, `l` an i64, `two` both; one that takes nothing has the empty name,
+/// `zwölf`, and a name with a carriage return.
+pub(crate) const FUNCTIONS: &str = "\
+    0061736d01000000\
     01110460017f0060017e0060000060027f7e00\
     03050400010203050401030101\
     07250701690000016c0001000002067a77c3b66c66000203610d6200020374776f0003016d0200\
     0a0d0402000b02000b02000b02000b";
 
-// The counter: a shared memory, and a function `w` that takes nothing.
+/// The counter: a shared memory, and a function `w` that takes nothing.
 const COUNTER: &str = "\
+    0061736d01000000\
     0105016000017f0302010005040103010107050101770000\
     0a1501130041004101fe1e02001a41004101fe1e02000b";
 
-const FIRST: &str = "wreplay plan 1\n";
+/// A function `f` that takes nothing, and no memory.
+const NO_MEMORY: &str = "0061736d0100000001040160000003020100070501016600000a040102000b";
 
-fn valid(alloc: Global, sections: &str) -> Result<Valid, Fail> {
-    let text = format!(in alloc; "{PREAMBLE}{sections}")?;
-    let bytes = hex::decode(alloc, text.as_str())?;
-    Ok(validate(alloc, decode(alloc, &bytes)?)?)
-}
+/// The same with a memory, imported or its own, shared or not.
+const IMPORTED: &str =
+    "0061736d010000000104016000000208010161016202000103020100070501016600000a040102000b";
 
-// The fault of a text for the module of these sections; None where it is a plan.
-fn fault(alloc: Global, sections: &str, text: &[u8]) -> Result<Option<PlanFault>, Fail> {
-    let valid = valid(alloc, sections)?;
-    Ok(Plan::read(alloc, text, &valid).err())
-}
+const IMPORTED_SHARED: &str =
+    "0061736d01000000010401600000020901016101620203010103020100070501016600000a040102000b";
 
-// The fault of these lines behind the first.
-fn fault_of(alloc: Global, lines: &str) -> Result<Option<PlanFault>, Fail> {
-    let text = format!(in alloc; "{FIRST}{lines}")?;
-    fault(alloc, FUNCTIONS, text.as_bytes())
-}
+const UNSHARED: &str = "0061736d01000000010401600000030201000503010001070501016600000a040102000b";
 
-// The threads of a plan: each function, and its arguments.
-fn threads_of(alloc: Global, plan: &Plan) -> Result<String, Fail> {
-    let mut text = String::new(alloc);
-    for number in 0..plan.threads() {
-        let thread = plan.thread(number).ok_or("a thread is missing")?;
-        write!(text, "{}", thread.function)?;
-        for argument in thread.arguments.as_slice() {
-            write!(text, " {argument}")?;
-        }
-        write!(text, ";")?;
+const SHARED: &str = "0061736d0100000001040160000003020100050401030101070501016600000a040102000b";
+
+/// The same with a memory that is not shared, and a byte behind its first page.
+const UNSHARED_PAST: &str =
+    "0061736d01000000010401600000030201000503010001070501016600000a040102000b0b090100418080040b0178";
+
+/// The functions of a plan's threads, with their arguments.
+type Threads<'a> = &'a [(u32, &'a [Value])];
+
+const ONE: Threads<'static> = &[(0, &[])];
+
+const TWO: Threads<'static> = &[(0, &[]), (0, &[])];
+
+const SIXTEEN: Threads<'static> = &[
+    (2, &[]),
+    (2, &[]),
+    (2, &[]),
+    (2, &[]),
+    (2, &[]),
+    (2, &[]),
+    (2, &[]),
+    (2, &[]),
+    (2, &[]),
+    (2, &[]),
+    (2, &[]),
+    (2, &[]),
+    (2, &[]),
+    (2, &[]),
+    (2, &[]),
+    (2, &[]),
+];
+
+/// Plans of modules.
+static PLANS: &[(&str, &str, Threads<'static>)] = &[
+    (
+        FUNCTIONS,
+        "wreplay plan 1\nthread two 7 -1\nthread \nthread zwölf\nthread a\rb\nthread l 0",
+        &[
+            (3, &[Value::I32(7), Value::I64(u64::MAX)]),
+            (2, &[]),
+            (2, &[]),
+            (2, &[]),
+            (1, &[Value::I64(0)]),
+        ],
+    ),
+    (FUNCTIONS, "wreplay plan 1\nthread \n", &[(2, &[])]),
+    (
+        FUNCTIONS,
+        "wreplay plan 1\nthread i 7",
+        &[(0, &[Value::I32(7)])],
+    ),
+    // The counter runs by two threads.
+    (COUNTER, "wreplay plan 1\nthread w\nthread w\n", TWO),
+    // Arguments have the range of both readings.
+    (
+        FUNCTIONS,
+        "wreplay plan 1\nthread i 0",
+        &[(0, &[Value::I32(0)])],
+    ),
+    (
+        FUNCTIONS,
+        "wreplay plan 1\nthread i -1",
+        &[(0, &[Value::I32(u32::MAX)])],
+    ),
+    (
+        FUNCTIONS,
+        "wreplay plan 1\nthread i -2147483648",
+        &[(0, &[Value::I32(0x8000_0000)])],
+    ),
+    (
+        FUNCTIONS,
+        "wreplay plan 1\nthread i 2147483648",
+        &[(0, &[Value::I32(0x8000_0000)])],
+    ),
+    (
+        FUNCTIONS,
+        "wreplay plan 1\nthread i 4294967295",
+        &[(0, &[Value::I32(u32::MAX)])],
+    ),
+    (
+        FUNCTIONS,
+        "wreplay plan 1\nthread l -9223372036854775808",
+        &[(1, &[Value::I64(0x8000_0000_0000_0000)])],
+    ),
+    (
+        FUNCTIONS,
+        "wreplay plan 1\nthread l 18446744073709551615",
+        &[(1, &[Value::I64(u64::MAX)])],
+    ),
+    // Sixteen threads.
+    (
+        FUNCTIONS,
+        "wreplay plan 1\n\
+        thread \nthread \nthread \nthread \nthread \nthread \nthread \nthread \n\
+        thread \nthread \nthread \nthread \nthread \nthread \nthread \nthread ",
+        SIXTEEN,
+    ),
+    // One thread wants no shared memory, and several want one if there is one.
+    (NO_MEMORY, "wreplay plan 1\nthread f", ONE),
+    (IMPORTED, "wreplay plan 1\nthread f", ONE),
+    (IMPORTED_SHARED, "wreplay plan 1\nthread f", ONE),
+    (UNSHARED, "wreplay plan 1\nthread f", ONE),
+    (SHARED, "wreplay plan 1\nthread f", ONE),
+    (NO_MEMORY, "wreplay plan 1\nthread f\nthread f", TWO),
+    (IMPORTED_SHARED, "wreplay plan 1\nthread f\nthread f", TWO),
+    (SHARED, "wreplay plan 1\nthread f\nthread f", TWO),
+    // The last byte of a memory; nothing behind it; the same of a memory that is imported.
+    (
+        "0061736d0100000001040160000003020100050401030101070501016600000a040102000b0b09010041ffff030b0178",
+        "wreplay plan 1\nthread f",
+        ONE,
+    ),
+    (
+        "0061736d0100000001040160000003020100050401030101070501016600000a040102000b0b080100418080040b00",
+        "wreplay plan 1\nthread f",
+        ONE,
+    ),
+    (
+        "0061736d010000000104016000000208010161016202000103020100070501016600000a040102000b0b09010041ffff030b0178",
+        "wreplay plan 1\nthread f",
+        ONE,
+    ),
+    (
+        "0061736d010000000104016000000208010161016202000103020100070501016600000a040102000b0b080100418080040b00",
+        "wreplay plan 1\nthread f",
+        ONE,
+    ),
+    // The last element of a table; nothing behind it.
+    (
+        "0061736d0100000001040160000003020100040401700002070501016600000907010041010b01000a040102000b",
+        "wreplay plan 1\nthread f",
+        ONE,
+    ),
+    (
+        "0061736d0100000001040160000003020100040401700002070501016600000906010041020b000a040102000b",
+        "wreplay plan 1\nthread f",
+        ONE,
+    ),
+];
+
+/// Texts that are no plans of modules, with their faults.
+static FAULTS: &[(&str, &str, PlanFault)] = &[
+    // Other first lines, and none behind it.
+    (FUNCTIONS, "", BadLine { line: 1 }),
+    (FUNCTIONS, "\n", BadLine { line: 1 }),
+    (FUNCTIONS, "wreplay plan 1", BadLine { line: 2 }),
+    (FUNCTIONS, "wreplay plan 1\n", BadLine { line: 2 }),
+    (FUNCTIONS, "wreplay plan 2\nthread \n", BadLine { line: 1 }),
+    (FUNCTIONS, "wreplay plan 1 \nthread \n", BadLine { line: 1 }),
+    (
+        FUNCTIONS,
+        "wreplay plan 1\r\nthread \n",
+        BadLine { line: 1 },
+    ),
+    (
+        FUNCTIONS,
+        "\nwreplay plan 1\nthread \n",
+        BadLine { line: 1 },
+    ),
+    // Other lines.
+    (FUNCTIONS, "wreplay plan 1\n\n", BadLine { line: 2 }),
+    (FUNCTIONS, "wreplay plan 1\nthread", BadLine { line: 2 }),
+    (FUNCTIONS, "wreplay plan 1\nthreads ", BadLine { line: 2 }),
+    (FUNCTIONS, "wreplay plan 1\n thread ", BadLine { line: 2 }),
+    (FUNCTIONS, "wreplay plan 1\nThread ", BadLine { line: 2 }),
+    (FUNCTIONS, "wreplay plan 1\nthread\t", BadLine { line: 2 }),
+    (FUNCTIONS, "wreplay plan 1\nthread i ", BadLine { line: 2 }),
+    (
+        FUNCTIONS,
+        "wreplay plan 1\nthread i 1 ",
+        BadLine { line: 2 },
+    ),
+    (
+        FUNCTIONS,
+        "wreplay plan 1\nthread i  1",
+        BadLine { line: 2 },
+    ),
+    (
+        FUNCTIONS,
+        "wreplay plan 1\nthread i 1\r",
+        BadLine { line: 2 },
+    ),
+    // Other arguments.
+    (
+        FUNCTIONS,
+        "wreplay plan 1\nthread i -0",
+        BadLine { line: 2 },
+    ),
+    (
+        FUNCTIONS,
+        "wreplay plan 1\nthread i 00",
+        BadLine { line: 2 },
+    ),
+    (
+        FUNCTIONS,
+        "wreplay plan 1\nthread i 01",
+        BadLine { line: 2 },
+    ),
+    (
+        FUNCTIONS,
+        "wreplay plan 1\nthread i -01",
+        BadLine { line: 2 },
+    ),
+    (
+        FUNCTIONS,
+        "wreplay plan 1\nthread i +1",
+        BadLine { line: 2 },
+    ),
+    (FUNCTIONS, "wreplay plan 1\nthread i -", BadLine { line: 2 }),
+    (
+        FUNCTIONS,
+        "wreplay plan 1\nthread i --1",
+        BadLine { line: 2 },
+    ),
+    (
+        FUNCTIONS,
+        "wreplay plan 1\nthread i 1-",
+        BadLine { line: 2 },
+    ),
+    (
+        FUNCTIONS,
+        "wreplay plan 1\nthread i 1a",
+        BadLine { line: 2 },
+    ),
+    (
+        FUNCTIONS,
+        "wreplay plan 1\nthread i 0x1",
+        BadLine { line: 2 },
+    ),
+    (
+        FUNCTIONS,
+        "wreplay plan 1\nthread i 1\t",
+        BadLine { line: 2 },
+    ),
+    // Names of no function.
+    (FUNCTIONS, "wreplay plan 1\nthread x", NoExport { line: 2 }),
+    (FUNCTIONS, "wreplay plan 1\nthread m", NoExport { line: 2 }),
+    (FUNCTIONS, "wreplay plan 1\nthread \r", NoExport { line: 2 }),
+    (
+        FUNCTIONS,
+        "wreplay plan 1\nthread I 1",
+        NoExport { line: 2 },
+    ),
+    // Two spaces stand round an empty name, which no function of the counter has; `f` is no number.
+    (
+        COUNTER,
+        "wreplay plan 1\nthread  f 1\n",
+        BadLine { line: 2 },
+    ),
+    (COUNTER, "wreplay plan 1\nthread  1\n", NoExport { line: 2 }),
+    // Other numbers of arguments, and the limits of an i64 for an i32.
+    (
+        FUNCTIONS,
+        "wreplay plan 1\nthread i",
+        WrongArguments { line: 2 },
+    ),
+    (
+        FUNCTIONS,
+        "wreplay plan 1\nthread i 1 2",
+        WrongArguments { line: 2 },
+    ),
+    (
+        FUNCTIONS,
+        "wreplay plan 1\nthread  0",
+        WrongArguments { line: 2 },
+    ),
+    (
+        FUNCTIONS,
+        "wreplay plan 1\nthread two 1",
+        WrongArguments { line: 2 },
+    ),
+    (
+        FUNCTIONS,
+        "wreplay plan 1\nthread two 4294967296 0",
+        WrongArguments { line: 2 },
+    ),
+    (
+        FUNCTIONS,
+        "wreplay plan 1\nthread two 0 18446744073709551616",
+        WrongArguments { line: 2 },
+    ),
+    (
+        FUNCTIONS,
+        "wreplay plan 1\nthread i -2147483648 4294967295",
+        WrongArguments { line: 2 },
+    ),
+    // Arguments out of their range.
+    (
+        FUNCTIONS,
+        "wreplay plan 1\nthread i 4294967296",
+        WrongArguments { line: 2 },
+    ),
+    (
+        FUNCTIONS,
+        "wreplay plan 1\nthread i -2147483649",
+        WrongArguments { line: 2 },
+    ),
+    (
+        FUNCTIONS,
+        "wreplay plan 1\nthread l 18446744073709551616",
+        WrongArguments { line: 2 },
+    ),
+    (
+        FUNCTIONS,
+        "wreplay plan 1\nthread l -9223372036854775809",
+        WrongArguments { line: 2 },
+    ),
+    (
+        FUNCTIONS,
+        "wreplay plan 1\nthread i 99999999999999999999999999999999999999999999",
+        WrongArguments { line: 2 },
+    ),
+    (
+        FUNCTIONS,
+        "wreplay plan 1\nthread l -99999999999999999999999999999999999999999999",
+        WrongArguments { line: 2 },
+    ),
+    // The first faulty line, and its form, its name and its arguments in that order.
+    (
+        FUNCTIONS,
+        "wreplay plan 1\nthread \nthread \n\n",
+        BadLine { line: 4 },
+    ),
+    (
+        FUNCTIONS,
+        "wreplay plan 1\nthread x 01",
+        BadLine { line: 2 },
+    ),
+    (
+        FUNCTIONS,
+        "wreplay plan 1\nthread i 4294967296 01",
+        BadLine { line: 2 },
+    ),
+    (
+        FUNCTIONS,
+        "wreplay plan 1\nthread x 4294967296",
+        NoExport { line: 2 },
+    ),
+    (
+        FUNCTIONS,
+        "wreplay plan 1\nthread x\nthread",
+        NoExport { line: 2 },
+    ),
+    (
+        FUNCTIONS,
+        "wreplay plan 1\nthread i\nthread\nthread x",
+        WrongArguments { line: 2 },
+    ),
+    (
+        FUNCTIONS,
+        "wreplay plan 1\nthread \nthread i\nthread x",
+        WrongArguments { line: 3 },
+    ),
+    // More than sixteen threads.
+    (
+        FUNCTIONS,
+        "wreplay plan 1\n\
+        thread \nthread \nthread \nthread \nthread \nthread \nthread \nthread \n\
+        thread \nthread \nthread \nthread \nthread \nthread \nthread \nthread \nthread ",
+        BadLine { line: 18 },
+    ),
+    (
+        FUNCTIONS,
+        "wreplay plan 1\n\
+        thread \nthread \nthread \nthread \nthread \nthread \nthread \nthread \n\
+        thread \nthread \nthread \nthread \nthread \nthread \nthread \nthread \nthread x",
+        BadLine { line: 18 },
+    ),
+    (
+        FUNCTIONS,
+        "wreplay plan 1\n\
+        thread \nthread \nthread \nthread \nthread \nthread \nthread \nthread \n\
+        thread \nthread \nthread \nthread \nthread \nthread \nthread \nthread x\nthread",
+        NoExport { line: 17 },
+    ),
+    // Several threads, and a memory that is not shared.
+    (IMPORTED, "wreplay plan 1\nthread f\nthread f", NotShared),
+    (UNSHARED, "wreplay plan 1\nthread f\nthread f", NotShared),
+    // Lines go before the memory, and the memory before segments.
+    (
+        UNSHARED_PAST,
+        "wreplay plan 1\nthread f\nthread",
+        BadLine { line: 3 },
+    ),
+    (
+        UNSHARED_PAST,
+        "wreplay plan 1\nthread f\nthread f",
+        NotShared,
+    ),
+    (
+        UNSHARED_PAST,
+        "wreplay plan 1\nthread f",
+        SegmentOutOfBounds,
+    ),
+    // A byte behind the memory; nothing at the greatest offset; the same of a memory that is imported.
+    (
+        "0061736d0100000001040160000003020100050401030101070501016600000a040102000b0b090100418080040b0178",
+        "wreplay plan 1\nthread f",
+        SegmentOutOfBounds,
+    ),
+    (
+        "0061736d0100000001040160000003020100050401030101070501016600000a040102000b0b060100417f0b00",
+        "wreplay plan 1\nthread f",
+        SegmentOutOfBounds,
+    ),
+    (
+        "0061736d010000000104016000000208010161016202000103020100070501016600000a040102000b0b090100418080040b0178",
+        "wreplay plan 1\nthread f",
+        SegmentOutOfBounds,
+    ),
+    (
+        "0061736d010000000104016000000208010161016202000103020100070501016600000a040102000b0b060100417f0b00",
+        "wreplay plan 1\nthread f",
+        SegmentOutOfBounds,
+    ),
+    // An element behind the table.
+    (
+        "0061736d0100000001040160000003020100040401700002070501016600000907010041020b01000a040102000b",
+        "wreplay plan 1\nthread f",
+        SegmentOutOfBounds,
+    ),
+];
+
+fn is_as_wanted(plan: &Plan, text: &[u8], wanted: Threads<'_>) -> bool {
+    let mut same = plan.bytes() == text && plan.threads() as usize == wanted.len();
+    for (number, (function, arguments)) in (0u32..).zip(wanted) {
+        same &= match plan.thread(number) {
+            Some(thread) => {
+                thread.function == *function && thread.arguments.as_slice() == *arguments
+            }
+            None => false,
+        };
     }
-    Ok(text)
+    same
 }
 
-// The threads of a text for this module.
-fn threads_in(alloc: Global, text: &[u8], valid: &Valid) -> Result<String, Fail> {
-    let plan = Plan::read(alloc, text, valid)?;
-    threads_of(alloc, &plan)
-}
-
-// The threads of these lines behind the first.
-fn threads(alloc: Global, lines: &str) -> Result<String, Fail> {
-    let text = format!(in alloc; "{FIRST}{lines}")?;
-    let valid = valid(alloc, FUNCTIONS)?;
-    threads_in(alloc, text.as_bytes(), &valid)
-}
-
-const fn bad(line: u64) -> Option<PlanFault> {
-    Some(PlanFault::BadLine { line })
-}
-
-const fn unknown(line: u64) -> Option<PlanFault> {
-    Some(PlanFault::NoExport { line })
-}
-
-const fn wrong(line: u64) -> Option<PlanFault> {
-    Some(PlanFault::WrongArguments { line })
-}
-
-fn same(rt: &impl Abort, found: Option<PlanFault>, want: Option<PlanFault>, row: &str) {
-    assert_eq!(rt; found, want, "{row}");
-}
-
-// Each of these lines behind the first has this fault.
-fn all_have(
-    rt: &impl Abort,
+fn is_read(
     alloc: Global,
-    lines: &[&str],
-    want: Option<PlanFault>,
-) -> Result<(), Fail> {
-    for line in lines {
-        same(rt, fault_of(alloc, line)?, want, line);
+    text: &[u8],
+    valid: &Valid,
+    wanted: Threads<'_>,
+) -> Result<bool, PlanFault> {
+    let plan = Plan::read(alloc, text, valid)?;
+    Ok(is_as_wanted(&plan, text, wanted))
+}
+
+/// Whether a text is a plan that keeps its bytes and has these threads, for the module that these digits spell. Where a
+/// growth of the test's own is refused it is answered as one of `read` is.
+pub(crate) fn is_plan(
+    alloc: Global,
+    digits: &str,
+    text: &[u8],
+    wanted: Threads<'_>,
+) -> Result<bool, PlanFault> {
+    let Ok(valid) = valid_of(alloc, digits) else {
+        return Err(PlanFault::NoMemory);
+    };
+    is_read(alloc, text, &valid, wanted)
+}
+
+fn same(
+    rt: &impl Abort,
+    found: Result<bool, PlanFault>,
+    want: Result<bool, PlanFault>,
+    text: &str,
+) {
+    assert_eq!(rt; found, want, "{text}");
+}
+
+#[test]
+fn plans_are_read_or_refused_at_their_first_fault(rt: HostRuntime) {
+    let plans = PLANS;
+    for (digits, text, wanted) in plans {
+        let found = is_plan(rt.alloc(), digits, text.as_bytes(), wanted);
+        same(&rt, found, Ok(true), text);
     }
-    Ok(())
-}
-
-#[test]
-fn a_plan_is_read(rt: HostRuntime) -> Result<(), Fail> {
-    let lines = "thread two 7 -1\nthread \nthread zwölf\nthread a\rb\nthread l 0";
-    let text = threads(rt.alloc(), lines)?;
-    assert_eq!(rt; text.as_str(), "3 i32 7 i64 -1;2;2;2;1 i64 0;");
-    Ok(())
-}
-
-// Whether a plan keeps this text, and has one thread.
-fn keeps(alloc: Global, text: &str) -> Result<bool, Fail> {
-    let valid = valid(alloc, FUNCTIONS)?;
-    let plan = Plan::read(alloc, text.as_bytes(), &valid)?;
-    Ok(plan.bytes() == text.as_bytes() && plan.threads() == 1 && plan.thread(1).is_none())
-}
-
-#[test]
-fn a_plan_keeps_its_bytes(rt: HostRuntime) -> Result<(), Fail> {
-    assert!(rt; keeps(rt.alloc(), "wreplay plan 1\nthread \n")?);
-    assert!(rt; keeps(rt.alloc(), "wreplay plan 1\nthread i 7")?);
-    Ok(())
-}
-
-#[test]
-fn other_texts_are_refused(rt: HostRuntime) -> Result<(), Fail> {
-    for (text, line) in [
-        ("", 1),
-        ("\n", 1),
-        ("wreplay plan 1", 2),
-        ("wreplay plan 1\n", 2),
-        ("wreplay plan 2\nthread \n", 1),
-        ("wreplay plan 1 \nthread \n", 1),
-        ("wreplay plan 1\r\nthread \n", 1),
-        ("\nwreplay plan 1\nthread \n", 1),
-    ] {
-        same(
-            &rt,
-            fault(rt.alloc(), FUNCTIONS, text.as_bytes())?,
-            bad(line),
-            text,
-        );
+    let faults = FAULTS;
+    for (digits, text, fault) in faults {
+        let found = is_plan(rt.alloc(), digits, text.as_bytes(), &[]);
+        same(&rt, found, Err(*fault), text);
     }
-    Ok(())
-}
-
-#[test]
-fn other_lines_are_refused(rt: HostRuntime) -> Result<(), Fail> {
-    let lines = [
-        "",
-        "\n",
-        "thread",
-        "threads ",
-        " thread ",
-        "Thread ",
-        "thread\t",
-        "thread i ",
-        "thread i 1 ",
-        "thread i  1",
-        "thread i 1\r",
-    ];
-    all_have(&rt, rt.alloc(), &lines, bad(2))
-}
-
-#[test]
-fn other_arguments_are_refused(rt: HostRuntime) -> Result<(), Fail> {
-    for argument in [
-        "-0", "00", "01", "-01", "+1", "-", "--1", "1-", "1a", "0x1", "1\t",
-    ] {
-        let line = format!(in rt.alloc(); "thread i {argument}")?;
-        same(&rt, fault_of(rt.alloc(), line.as_str())?, bad(2), argument);
-    }
-    Ok(())
-}
-
-#[test]
-fn a_name_is_utf8(rt: HostRuntime) -> Result<(), Fail> {
-    let text = b"wreplay plan 1\nthread \xff\n";
-    same(
-        &rt,
-        fault(rt.alloc(), FUNCTIONS, text.as_slice())?,
-        bad(2),
-        "utf-8",
-    );
-    Ok(())
-}
-
-#[test]
-fn a_name_is_a_functions(rt: HostRuntime) -> Result<(), Fail> {
-    let lines = ["thread x", "thread m", "thread \r", "thread I 1"];
-    all_have(&rt, rt.alloc(), &lines, unknown(2))
-}
-
-// The counter runs by two threads. Two spaces stand round an empty name, which no function of it has; `f` is no
-// number.
-#[test]
-fn the_counter_has_a_plan(rt: HostRuntime) -> Result<(), Fail> {
-    for (text, wanted) in [
-        ("wreplay plan 1\nthread w\nthread w\n", None),
-        ("wreplay plan 1\nthread  f 1\n", bad(2)),
-        ("wreplay plan 1\nthread  1\n", unknown(2)),
-    ] {
-        same(
-            &rt,
-            fault(rt.alloc(), COUNTER, text.as_bytes())?,
-            wanted,
-            text,
-        );
-    }
-    Ok(())
-}
-
-#[test]
-fn arguments_are_the_functions(rt: HostRuntime) -> Result<(), Fail> {
-    let lines = [
-        "thread i",
-        "thread i 1 2",
-        "thread  0",
-        "thread two 1",
-        "thread two 4294967296 0",
-        "thread two 0 18446744073709551616",
-        "thread i -2147483648 4294967295",
-    ];
-    all_have(&rt, rt.alloc(), &lines, wrong(2))
-}
-
-#[test]
-fn arguments_are_in_range(rt: HostRuntime) -> Result<(), Fail> {
-    let lines = [
-        "thread i 4294967296",
-        "thread i -2147483649",
-        "thread l 18446744073709551616",
-        "thread l -9223372036854775809",
-        "thread i 99999999999999999999999999999999999999999999",
-        "thread l -99999999999999999999999999999999999999999999",
-    ];
-    all_have(&rt, rt.alloc(), &lines, wrong(2))
-}
-
-#[test]
-fn arguments_have_the_range_of_both_readings(rt: HostRuntime) -> Result<(), Fail> {
-    for (line, wanted) in [
-        ("thread i 0", "0 i32 0;"),
-        ("thread i -1", "0 i32 -1;"),
-        ("thread i -2147483648", "0 i32 -2147483648;"),
-        ("thread i 2147483648", "0 i32 -2147483648;"),
-        ("thread i 4294967295", "0 i32 -1;"),
-        (
-            "thread l -9223372036854775808",
-            "1 i64 -9223372036854775808;",
-        ),
-        ("thread l 18446744073709551615", "1 i64 -1;"),
-    ] {
-        let text = threads(rt.alloc(), line)?;
-        assert_eq!(rt; text.as_str(), wanted);
-    }
-    Ok(())
-}
-
-#[test]
-fn the_first_fault_is_answered(rt: HostRuntime) -> Result<(), Fail> {
-    for (lines, wanted) in [
-        ("thread \nthread \n\n", bad(4)),
-        ("thread x 01", bad(2)),
-        ("thread i 4294967296 01", bad(2)),
-        ("thread x 4294967296", unknown(2)),
-        ("thread x\nthread", unknown(2)),
-        ("thread i\nthread\nthread x", wrong(2)),
-        ("thread \nthread i\nthread x", wrong(3)),
-    ] {
-        same(&rt, fault_of(rt.alloc(), lines)?, wanted, lines);
-    }
-    Ok(())
-}
-
-// So many thread lines, and this one behind them.
-fn many(alloc: Global, count: u32, last: &str) -> Result<Option<PlanFault>, Fail> {
-    let mut lines = String::new(alloc);
-    for _ in 0..count {
-        lines.push_str("thread \n")?;
-    }
-    lines.push_str(last)?;
-    fault_of(alloc, lines.as_str())
-}
-
-#[test]
-fn sixteen_threads_are_the_most(rt: HostRuntime) -> Result<(), Fail> {
-    same(&rt, many(rt.alloc(), 15, "thread ")?, None, "thread ");
-    same(&rt, many(rt.alloc(), 16, "thread ")?, bad(18), "thread ");
-    same(&rt, many(rt.alloc(), 16, "thread x")?, bad(18), "thread x");
-    same(
-        &rt,
-        many(rt.alloc(), 15, "thread x\nthread")?,
-        unknown(17),
-        "thread x\nthread",
-    );
-    Ok(())
-}
-
-// A module with one function without parameters, exported as `f`: these sections stand before its exports, before its
-// code and behind it.
-fn small(alloc: Global, sections: [&str; 4], lines: &str) -> Result<Option<PlanFault>, Fail> {
-    let [imports, sizes, elements, data] = sections;
-    let parts = format!(in alloc;
-        "010401600000{imports}03020100{sizes}07050101660000{elements}0a040102000b{data}"
-    )?;
-    let text = format!(in alloc; "{FIRST}{lines}")?;
-    fault(alloc, parts.as_str(), text.as_bytes())
-}
-
-const IMPORTED: &str = "02080101610162020001";
-
-const IMPORTED_SHARED: &str = "0209010161016202030101";
-
-const UNSHARED: &str = "0503010001";
-
-const SHARED: &str = "050401030101";
-
-const TABLE: &str = "040401700002";
-
-// A byte behind the first page.
-const PAST: &str = "0b090100418080040b0178";
-
-const OUTSIDE: Option<PlanFault> = Some(PlanFault::SegmentOutOfBounds);
-
-#[test]
-fn several_threads_want_a_shared_memory(rt: HostRuntime) -> Result<(), Fail> {
-    let refused = Some(PlanFault::NotShared);
-    for (imports, memories, wanted) in [
-        (IMPORTED, "", refused),
-        (IMPORTED_SHARED, "", None),
-        ("", UNSHARED, refused),
-        ("", SHARED, None),
-        ("", "", None),
-    ] {
-        let sections = [imports, memories, "", ""];
-        same(
-            &rt,
-            small(rt.alloc(), sections, "thread f")?,
-            None,
-            "thread f",
-        );
-        same(
-            &rt,
-            small(rt.alloc(), sections, "thread f\nthread f")?,
-            wanted,
-            "thread f\nthread f",
-        );
-    }
-    Ok(())
-}
-
-#[test]
-fn lines_go_before_the_memory_and_the_memory_before_segments(rt: HostRuntime) -> Result<(), Fail> {
-    let sections = ["", UNSHARED, "", PAST];
-    same(
-        &rt,
-        small(rt.alloc(), sections, "thread f\nthread")?,
-        bad(3),
-        "thread f\nthread",
-    );
-    let refused = Some(PlanFault::NotShared);
-    same(
-        &rt,
-        small(rt.alloc(), sections, "thread f\nthread f")?,
-        refused,
-        "thread f\nthread f",
-    );
-    same(
-        &rt,
-        small(rt.alloc(), sections, "thread f")?,
-        OUTSIDE,
-        "thread f",
-    );
-    Ok(())
-}
-
-#[test]
-fn data_is_within_the_initial_memory(rt: HostRuntime) -> Result<(), Fail> {
-    for (data, wanted) in [
-        // The last byte; nothing behind it; a byte behind it; nothing at the greatest offset.
-        ("0b09010041ffff030b0178", None),
-        ("0b080100418080040b00", None),
-        (PAST, OUTSIDE),
-        ("0b060100417f0b00", OUTSIDE),
-    ] {
-        let found = small(rt.alloc(), ["", SHARED, "", data], "thread f")?;
-        same(&rt, found, wanted, data);
-        let found = small(rt.alloc(), [IMPORTED, "", "", data], "thread f")?;
-        same(&rt, found, wanted, data);
-    }
-    Ok(())
-}
-
-#[test]
-fn elements_are_within_the_initial_table(rt: HostRuntime) -> Result<(), Fail> {
-    for (elements, wanted) in [
-        ("0907010041010b0100", None),
-        ("0906010041020b00", None),
-        ("0907010041020b0100", OUTSIDE),
-    ] {
-        let found = small(rt.alloc(), ["", TABLE, elements, ""], "thread f")?;
-        same(&rt, found, wanted, elements);
-    }
-    Ok(())
-}
-
-// Each growth of `read` is refused in turn by `rt try --test --fail-alloc N`.
-#[test]
-fn a_refused_growth_is_answered(rt: HostRuntime) -> Result<(), Fail> {
-    let found = fault_of(rt.alloc(), "thread two 7 -1\nthread i 5")?;
-    assert!(rt; found.is_none() || found == Some(PlanFault::NoMemory));
-    Ok(())
+    // A name is UTF-8.
+    let found = is_plan(rt.alloc(), FUNCTIONS, b"wreplay plan 1\nthread \xff\n", &[]);
+    same(&rt, found, Err(BadLine { line: 2 }), "UTF-8");
 }

@@ -1,20 +1,20 @@
-//! Functions of parameters i32 and i64 and a local i64, by their instructions: well typed ones, and others with the place
-//! of their fault. Their labels are 9, 1 and 2.
+//! Functions of parameters i32 and i64 and of locals i64, none of i32, two i32 and i64, by their instructions: well typed
+//! ones, and others with the place of their fault. Their labels are 9, 1 and 2.
 
 use wasm_types::{
-    Access, AtomicOp, BlockKind, IndexOp, Instr, LabelRange, MemArg, Numeric, PagesOp, Plain,
-    RmwOp, ValType, Value,
+    Access, AtomicOp, BinaryOp, BlockKind, Comparison, Extension, IndexOp, Instr, LabelRange, Load,
+    MemArg, MemoryOp, Narrow, Numeric, PagesOp, Plain, RmwOp, UnaryOp, ValType, Value,
 };
 
-pub(crate) const I32: ValType = ValType::I32;
+const I32: ValType = ValType::I32;
 
-pub(crate) const I64: ValType = ValType::I64;
+const I64: ValType = ValType::I64;
 
 pub(crate) const END: Instr = Instr::Plain(Plain::End);
 
-pub(crate) const ELSE: Instr = Instr::Plain(Plain::Else);
+const ELSE: Instr = Instr::Plain(Plain::Else);
 
-pub(crate) const NOP: Instr = Instr::Plain(Plain::Nop);
+const NOP: Instr = Instr::Plain(Plain::Nop);
 
 pub(crate) const DROP: Instr = Instr::Plain(Plain::Discard);
 
@@ -24,11 +24,11 @@ const RETURN: Instr = Instr::Plain(Plain::Return);
 
 const UNREACHABLE: Instr = Instr::Plain(Plain::Unreachable);
 
-pub(crate) const WORD: Instr = Instr::Const(Value::I32(0));
+const WORD: Instr = Instr::Const(Value::I32(0));
 
-pub(crate) const ONE: Instr = Instr::Const(Value::I32(1));
+const ONE: Instr = Instr::Const(Value::I32(1));
 
-pub(crate) const LONG: Instr = Instr::Const(Value::I64(0));
+const LONG: Instr = Instr::Const(Value::I64(0));
 
 const LOOPING: Instr = Instr::Block(BlockKind::Loop, Some(I32));
 
@@ -39,6 +39,22 @@ const MAYBE: Instr = Instr::Block(BlockKind::If, None);
 const DEFAULT_ONLY: Instr = Instr::BranchTable(LabelRange { first: 0, count: 0 }, 1);
 
 const TABLE: Instr = Instr::BranchTable(LabelRange { first: 1, count: 2 }, 0);
+
+const BYTE_ARG: MemArg = MemArg {
+    align: 0,
+    offset: 0,
+};
+
+/// The same at another offset.
+const FAR_ARG: MemArg = MemArg {
+    align: 0,
+    offset: 9,
+};
+
+const HALF_ARG: MemArg = MemArg {
+    align: 1,
+    offset: 0,
+};
 
 const WORD_ARG: MemArg = MemArg {
     align: 2,
@@ -51,19 +67,72 @@ const LONG_ARG: MemArg = MemArg {
 };
 
 /// An addition at an aligned address.
-pub(crate) const ADD: Instr = Instr::Atomic(
-    AtomicOp::Rmw(RmwOp::Add, Access::Whole(I32)),
-    WORD_ARG,
-);
+const ADD: Instr = Instr::Atomic(AtomicOp::Rmw(RmwOp::Add, Access::Whole(I32)), WORD_ARG);
 
 /// The same, with the alignment of half a word.
-const ADD_HALF: Instr = Instr::Atomic(
-    AtomicOp::Rmw(RmwOp::Add, Access::Whole(I32)),
-    MemArg {
-        align: 1,
-        offset: 0,
-    },
-);
+const ADD_HALF: Instr = Instr::Atomic(AtomicOp::Rmw(RmwOp::Add, Access::Whole(I32)), HALF_ARG);
+
+/// Operations of one type, and a sum that is left over.
+macro_rules! numerics {
+    ($of:expr, $operand:expr) => {
+        &[
+            $operand,
+            Instr::Numeric(Numeric::IsZero($of)),
+            DROP,
+            $operand,
+            $operand,
+            Instr::Numeric(Numeric::Compare($of, Comparison::Equal)),
+            DROP,
+            $operand,
+            Instr::Numeric(Numeric::Unary($of, UnaryOp::CountOnes)),
+            $operand,
+            Instr::Numeric(Numeric::Binary($of, BinaryOp::Add)),
+            Instr::Numeric(Numeric::Binary($of, BinaryOp::Add)),
+            END,
+        ]
+    };
+}
+
+/// Accesses of one width by this operand and argument, and a store whose alignment is too wide.
+macro_rules! accesses {
+    ($narrow:expr, $operand:expr, $argument:expr, $too_wide:expr) => {
+        &[
+            WORD,
+            Instr::Memory(
+                MemoryOp::Load(Load::Narrow($narrow, Extension::Unsigned)),
+                $argument,
+            ),
+            Instr::Numeric(Numeric::ExtendLow($narrow)),
+            DROP,
+            WORD,
+            $operand,
+            Instr::Memory(MemoryOp::Store(Access::Narrow($narrow)), FAR_ARG),
+            WORD,
+            WORD,
+            Instr::Atomic(AtomicOp::Load(Access::Narrow($narrow)), $argument),
+            Instr::Atomic(AtomicOp::Store(Access::Narrow($narrow)), $argument),
+            WORD,
+            $operand,
+            Instr::Atomic(
+                AtomicOp::Rmw(RmwOp::Exchange, Access::Narrow($narrow)),
+                $argument,
+            ),
+            DROP,
+            WORD,
+            $operand,
+            $operand,
+            Instr::Atomic(
+                AtomicOp::CompareExchange(Access::Narrow($narrow)),
+                $argument,
+            ),
+            DROP,
+            WORD,
+            $operand,
+            Instr::Memory(MemoryOp::Store(Access::Narrow($narrow)), $too_wide),
+            END,
+        ]
+    };
+}
 
 pub(crate) static WELL_TYPED: &[&[Instr]] = &[
     &[
@@ -173,6 +242,28 @@ pub(crate) static WELL_TYPED: &[&[Instr]] = &[
         DROP,
         END,
     ],
+    // The locals are found in their groups.
+    &[
+        Instr::Index(IndexOp::LocalGet, 0),
+        Instr::Numeric(Numeric::IsZero(I32)),
+        DROP,
+        Instr::Index(IndexOp::LocalGet, 1),
+        Instr::Numeric(Numeric::IsZero(I64)),
+        DROP,
+        Instr::Index(IndexOp::LocalGet, 2),
+        Instr::Numeric(Numeric::IsZero(I64)),
+        DROP,
+        Instr::Index(IndexOp::LocalGet, 3),
+        Instr::Numeric(Numeric::IsZero(I32)),
+        DROP,
+        Instr::Index(IndexOp::LocalGet, 4),
+        Instr::Numeric(Numeric::IsZero(I32)),
+        DROP,
+        Instr::Index(IndexOp::LocalGet, 5),
+        Instr::Numeric(Numeric::IsZero(I64)),
+        DROP,
+        END,
+    ],
 ];
 
 pub(crate) static FAULTY: &[(&[Instr], u32)] = &[
@@ -222,7 +313,7 @@ pub(crate) static FAULTY: &[(&[Instr], u32)] = &[
         ],
         3,
     ),
-    (&[Instr::Index(IndexOp::LocalGet, 3), END], 0),
+    (&[Instr::Index(IndexOp::LocalGet, 6), DROP, END], 0),
     (&[LONG, Instr::Index(IndexOp::LocalTee, 0), END], 1),
     (&[LONG, Instr::Index(IndexOp::GlobalSet, 0), END], 1),
     (&[Instr::Index(IndexOp::GlobalGet, 2), END], 0),
@@ -237,4 +328,22 @@ pub(crate) static FAULTY: &[(&[Instr], u32)] = &[
         ],
         3,
     ),
+    (numerics!(I32, WORD), 11),
+    (numerics!(I64, LONG), 11),
+    // A number that is extended twice.
+    (
+        &[
+            LONG,
+            Instr::Numeric(Numeric::Wrap),
+            Instr::Numeric(Numeric::Extend(Extension::Signed)),
+            Instr::Numeric(Numeric::Extend(Extension::Signed)),
+            END,
+        ],
+        3,
+    ),
+    (accesses!(Narrow::I32Of8, WORD, BYTE_ARG, HALF_ARG), 22),
+    (accesses!(Narrow::I32Of16, WORD, HALF_ARG, WORD_ARG), 22),
+    (accesses!(Narrow::I64Of8, LONG, BYTE_ARG, HALF_ARG), 22),
+    (accesses!(Narrow::I64Of16, LONG, HALF_ARG, WORD_ARG), 22),
+    (accesses!(Narrow::I64Of32, LONG, WORD_ARG, LONG_ARG), 22),
 ];
