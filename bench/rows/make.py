@@ -321,6 +321,39 @@ keep('queue_whole.pieces', EAST + b''.join(WEST))
 script += of_hunt('commands').decode().splitlines()
 expected.append(of_hunt('outputs').decode())
 
+# words that are not understood, and files that are not there: the texts of usage are open, so they are what the program says, read by hand
+def usage(line, errors): command(line, '', 'error: %s\n' % errors, 2)
+def unexpected(line, word, usage_line, tip=False):
+    told = "\n\n  tip: to pass '%s' as a value, use '-- %s'" % (word, word) if tip else ''
+    usage(line, "unexpected argument '%s' found%s\n\nUsage: wreplay %s\n\nFor more information, try '--help'." % (word, told, usage_line))
+RECORD = 'record counter.wasm counter.plan'
+REPORT = RECORD + ' --schedule first.schedule --report'
+REPLAY = 'replay counter.wasm counter.plan first.pieces'
+for more in (' --report', ' --report --run 1', ' --schedule first.schedule --threads'):
+    usage(RECORD + more, "'record' takes either '--schedule <FILE>' or '--threads'")
+for size in (96, 32): usage(REPORT + ' --block %d' % size, "'--block <N>' takes 64, 128, 256, 512, 1024, 2048 or 4096")
+usage(REPORT + ' --steps 1000000001', "'--steps <N>' takes a number from 0 to 1000000000")
+unexpected(REPORT + ' --size -1', '-1', 'record [OPTIONS] <MODULE> <PLAN>', True)
+usage(REPORT + ' --run 18446744073709551616', "'--run <N>' takes a number from 0 to 18446744073709551615")
+usage(REPORT + ' --timeouts later', "'--timeouts <WHEN>' takes never or now")
+for files in ('none.wasm none.plan --schedule none', 'counter.wasm none.plan --schedule none', 'counter.wasm counter.plan --schedule none'):
+    command('record %s.schedule --size 0 --report' % files, '', 'refused 44 SourceFailed\n', 1)
+command(RECORD + ' --schedule first.schedule --size 4097 --report', '', 'refused 32 TooMany\n', 1)
+usage(REPLAY + ' --order 1,0 --threads', "'replay' takes either '--order <LIST>' or '--threads'")
+for order in ('=', ' 1,', ' +1', ' 4294967296'):
+    usage(REPLAY + ' --order' + order, "'--order <LIST>' takes 1 to 1000000 thread numbers, joined by commas")
+unexpected('view counter.wasm counter.plan first.pieces --threads', '--threads', 'view <MODULE> <PLAN> <PIECES>', True)
+STOOD = ''.join('thread %d steps 0 places 0 running at 0+0\n' % thread for thread in (0, 1))
+ZEROS = ''.join('%08x %s\n' % (at, '00' * 16) for at in range(0, 64, 16))
+command('view counter.wasm counter.plan empty --step 0.0 --names', 'stuck\n' + STOOD + 'object 1 version 0 reads 0\n' + ZEROS)
+command('gather', NO_PIECES)
+for word in ('--fast', 'first.pieces'): unexpected('gather ' + word, word, 'gather [OPTIONS]')
+# which bytes the objects are, in blocks of 64
+TOLD = [line + '; 1: bytes 0..63' if ' access ' in line else line for line in expected[script.index('gather < first.pieces')].split('\n')[1:]]
+command('gather --objects < first.pieces', '\n'.join(TOLD))
+command('gather --skip --objects < first.pieces', '\n'.join(TOLD), 'skipped 0 0\n')
+command('--version', 'wreplay 0.1.0\n')
+
 keep('commands', '\n'.join(script) + '\n')
 with open(os.path.join(TARGET, 'stdout'), 'w') as file: file.write(''.join(expected))
 print(len(script), 'commands', len(os.listdir(DATA)), 'files', len(''.join(expected)), 'bytes')

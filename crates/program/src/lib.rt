@@ -7,6 +7,4 @@ mod refusing;
 pub use answering::{OddWord, refuse_words, run};
 
 #[cfg(test)]
-mod command_tests;
-#[cfg(test)]
-mod gather_tests;
+mod tests;

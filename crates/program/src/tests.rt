@@ -1,0 +1,374 @@
+//! Runs of the program whose input or output fails, by threads, and on words that are no text. What it writes and refuses on files that
+//! can be read is shown by `worked_rows`.
+
+ghost use Rattle.std.specs.Prelude.{IfOk, ◌<◌};
+ghost use Rattle.commands.specs.Files.{IsRead};
+
+use crate::answering::{OddWord, refuse_words, run};
+use commands::{FileFault, FileState, Files};
+use log::sink::{Lines, Memory};
+use replica::{MemorySink, MemorySource};
+use std::alloc::Global;
+use std::io::{self, ErrorKind};
+use std::sync::Wait;
+use std::test::Fail;
+use std::thread::Threads;
+
+/// A module of one shared page and one function `w`, which adds 1 at address 0 twice.
+const COUNTER: [u8; 55] = [
+    0x00, 0x61, 0x73, 0x6D, 0x01, 0x00, 0x00, 0x00, 0x01, 0x05, 0x01, 0x60, 0x00, 0x01, 0x7F, 0x03,
+    0x02, 0x01, 0x00, 0x05, 0x04, 0x01, 0x03, 0x01, 0x01, 0x07, 0x05, 0x01, 0x01, 0x77, 0x00, 0x00,
+    0x0A, 0x15, 0x01, 0x13, 0x00, 0x41, 0x00, 0x41, 0x01, 0xFE, 0x1E, 0x02, 0x00, 0x1A, 0x41, 0x00,
+    0x41, 0x01, 0xFE, 0x1E, 0x02, 0x00, 0x0B,
+];
+
+/// Two threads of it.
+const PLAN: &str = "wreplay plan 1\nthread w\nthread w\n";
+
+/// A schedule of all their steps.
+const PICKS: &str = "go 0 3\ngo 1 8\ngo 0 5\n";
+
+/// A line that is no piece, the piece of a thread that made three steps and no access, the piece of another run, and once more a line that
+/// is no piece.
+const MIXED: &str = "zz\n\
+    49525001aaaaaaaaaaaaaaaaaaaaaaaaaaaaaaaaaaaaaaaaaaaaaaaaaaaaaaaaaaaaaaaa01000000000000000300000000000001030000000000000002\n\
+    49525001bbbbbbbbbbbbbbbbbbbbbbbbbbbbbbbbbbbbbbbbbbbbbbbbbbbbbbbbbbbbbbbb01000000000000000300000000000001030000000000000002\n\
+    \n";
+
+/// The files `m`, `p`, `s` and `l`: a module, a plan, a schedule and piece lines.
+#[derive(Drop)]
+struct MemoryFiles<'a> {
+    lines: &'a str,
+}
+
+/// What is read of a file of these bytes.
+fn copied(alloc: Global, bytes: &[u8], most: Option<usize>) -> Result<Vec<u8>, FileFault>
+    ensures { IfOk result (λ copy. IsRead (λ whole. Unit {0}) most copy.items) }
+{
+    let Ok(mut copy) = Vec::from_slice(alloc, bytes) else {
+        return Err(FileFault::NoMemory);
+    };
+    let Some(most) = most else {
+        return Ok(copy);
+    };
+    copy.truncate(most);
+    Ok(copy)
+}
+
+impl<'a> MemoryFiles<'a> {
+    /// The bytes of the file at that path.
+    fn bytes_at(&self, path: &str) -> Result<&'a [u8], FileFault> {
+        match path {
+            "m" => Ok(&COUNTER),
+            "p" => Ok(PLAN.as_bytes()),
+            "s" => Ok(PICKS.as_bytes()),
+            "l" => Ok(self.lines.as_bytes()),
+            _ => Err(FileFault::NotRead),
+        }
+    }
+}
+
+impl<'a> Files for MemoryFiles<'a> {
+    type Stream = MemorySource<'a>;
+
+    ghost holds = { λ files path bytes. Unit {0} };
+
+    ghost fails = { λ files path. Unit {0} };
+
+    fn read(
+        &mut self,
+        alloc: Global,
+        path: &str,
+        most: Option<usize>,
+    ) -> Result<Vec<u8>, FileFault> {
+        let bytes = self.bytes_at(path)?;
+        copied(alloc, bytes, most)
+    }
+
+    fn state(&mut self, path: &str) -> FileState {
+        match self.bytes_at(path) {
+            Ok(_) => FileState::Regular,
+            Err(_) => FileState::NotThere,
+        }
+    }
+
+    fn open(&mut self, _alloc: Global, path: &str) -> Result<MemorySource<'a>, FileFault> {
+        // A few bytes a call, so that lines stand over the borders of calls.
+        Ok(MemorySource::new(self.bytes_at(path)?, 7, None))
+    }
+}
+
+/// What the program is run on: words, piece lines for the file `l` and for the standard input, and at which call that fails, and the
+/// output, which takes so many bytes at a call.
+#[derive(Clone, Copy, Drop)]
+struct Case<'a> {
+    words: &'a [&'a str],
+    lines: &'a str,
+    read_fails_at: Option<u64>,
+    most: usize,
+    write_fails_at: Option<u64>,
+}
+
+/// What the program did, and the paths that it noted, one behind the other.
+#[derive(Drop)]
+struct Done {
+    status: u8,
+    output: MemorySink,
+    errors: MemorySink,
+    noted: Vec<u8>,
+}
+
+/// What a sink took, as text.
+fn text(sink: &MemorySink) -> &str {
+    str::from_utf8(sink.taken()).unwrap_or("not UTF-8")
+}
+
+/// The paths in the lines of a log, one behind the other.
+fn paths(alloc: Global, lines: &Lines) -> Vec<u8> {
+    let mut paths = Vec::new(alloc);
+    for line in lines.as_slice() {
+        if let Some((_, path)) = line.as_str().split_once("] reads ") {
+            let _ = paths.extend_from_slice(path.as_bytes());
+        }
+    }
+    paths
+}
+
+/// Runs the program.
+fn run_on<T: Threads + Wait + Sync>(threads: &T, alloc: Global, case: Case<'_>) -> Done
+    requires { 0 < case.most }
+{
+    let notes = Memory::new(alloc);
+    let mut files = MemoryFiles { lines: case.lines };
+    let mut source = MemorySource::new(case.lines.as_bytes(), 65536, case.read_fails_at);
+    let mut output = MemorySink::new(alloc, case.most, case.write_fails_at);
+    let mut errors = MemorySink::new(alloc, 65536, None);
+    let status = run(
+        &notes,
+        threads,
+        alloc,
+        case.words,
+        &mut files,
+        &mut source,
+        &mut output,
+        &mut errors,
+    );
+    Done {
+        status,
+        output,
+        errors,
+        noted: paths(alloc, &notes.into_lines()),
+    }
+}
+
+/// Whether the program did this.
+fn is_done(done: &Done, status: u8, output: &str, errors: &str, noted: &str) -> bool {
+    done.status == status
+        && text(&done.output) == output
+        && text(&done.errors) == errors
+        && done.noted.as_slice() == noted.as_bytes()
+}
+
+/// A case without files: words, piece lines, at which call reading them fails, and at which call the output, which takes 8 bytes at one.
+/// Behind it what the program is to write, and to say on standard error.
+type Failing = (
+    &'static [&'static str],
+    &'static str,
+    Option<u64>,
+    Option<u64>,
+    &'static str,
+    &'static str,
+);
+
+const FAILING: &[Failing] = &[
+    (
+        &["wreplay", "gather"],
+        "",
+        Some(1),
+        None,
+        "",
+        "refused 44 SourceFailed\n",
+    ),
+    (
+        &["wreplay", "gather"],
+        "",
+        None,
+        Some(2),
+        "run none",
+        "refused 45 SinkFailed\n",
+    ),
+    (
+        &["wreplay", "gather", "--why"],
+        "",
+        Some(1),
+        None,
+        "",
+        "refused 44 SourceFailed\nstandard input: reading it failed\n",
+    ),
+    (
+        &["wreplay", "gather", "--why"],
+        "",
+        None,
+        Some(1),
+        "",
+        "refused 45 SinkFailed\nstandard output: writing failed, after a beginning was written\n",
+    ),
+    (
+        &["wreplay", "gather", "--skip"],
+        MIXED,
+        Some(2),
+        None,
+        "",
+        "refused 44 SourceFailed\n",
+    ),
+    (
+        &["wreplay", "gather", "--skip"],
+        "zz\n",
+        None,
+        Some(2),
+        "run none",
+        "refused 45 SinkFailed\n",
+    ),
+    (
+        &["wreplay", "--version"],
+        "",
+        None,
+        Some(1),
+        "",
+        "refused 45 SinkFailed\n",
+    ),
+    (
+        &["wreplay", "--help"],
+        "",
+        None,
+        Some(1),
+        "",
+        "refused 45 SinkFailed\n",
+    ),
+];
+
+#[test]
+fn refuses_where_reading_or_writing_fails(rt: HostRuntime) {
+    let rows = FAILING;
+    for (words, lines, read_fails_at, write_fails_at, output, errors) in rows {
+        let case = Case {
+            words: *words,
+            lines: *lines,
+            read_fails_at: *read_fails_at,
+            most: 8,
+            write_fails_at: *write_fails_at,
+        };
+        let done = run_on(&rt, rt.alloc(), case);
+        assert!(rt; is_done(&done, 1, *output, *errors, ""), "{errors}");
+    }
+}
+
+/// Two threads in turn, in pieces of one entry: the output fails at one of five calls, or at none.
+#[test]
+fn writes_a_beginning_of_the_pieces_where_writing_fails(rt: HostRuntime) {
+    let words = [
+        "wreplay",
+        "record",
+        "m",
+        "p",
+        "--schedule",
+        "s",
+        "--size",
+        "1",
+    ];
+    let case = Case {
+        words: words.as_slice(),
+        lines: "",
+        read_fails_at: None,
+        most: 100,
+        write_fails_at: None,
+    };
+    let whole = run_on(&rt, rt.alloc(), case);
+    // In each thread a piece of 76 bytes and one of 89, which has the end: two digits a byte, and the line ends.
+    assert!(rt; whole.status == 0 && whole.output.taken().len() == 664);
+    for call in 0..5 {
+        let failing = Case {
+            write_fails_at: Some(call + 1),
+            ..case
+        };
+        let cut = run_on(&rt, rt.alloc(), failing);
+        let begun = text(&cut.output);
+        assert!(rt; is_done(&cut, 1, begun, "refused 45 SinkFailed\n", "mps"));
+        assert!(rt; begun.len() as u64 == 100 * call && text(&whole.output).starts_with(begun));
+    }
+}
+
+#[test]
+fn records_by_threads(rt: HostRuntime) {
+    // Four additions of 1, whichever thread makes them when, and the values from before are one of four pairs.
+    let ends = [
+        "thread 0 i32 1\nthread 1 i32 3\n",
+        "thread 0 i32 3\nthread 1 i32 1\n",
+        "thread 0 i32 2\nthread 1 i32 3\n",
+        "thread 0 i32 3\nthread 1 i32 2\n",
+    ];
+    let words = ["wreplay", "record", "m", "p", "--threads", "--report"];
+    let case = Case {
+        words: words.as_slice(),
+        lines: "",
+        read_fails_at: None,
+        most: 65536,
+        write_fails_at: None,
+    };
+    let done = run_on(&rt, rt.alloc(), case);
+    let report = text(&done.output);
+    assert!(rt; is_done(&done, 0, report, "", "mp"));
+    assert!(rt; report.starts_with("pages 1\n00000000 04000000000000000000000000000000\n"));
+    let mut known = false;
+    for end in ends {
+        known = known || report.ends_with(end);
+    }
+    assert!(rt; known);
+}
+
+#[test]
+fn names_a_word_that_is_not_text(rt: HostRuntime) {
+    let mut errors = MemorySink::new(rt.alloc(), 8, None);
+    let odd = OddWord {
+        number: 2,
+        bytes: b"m\xFF.wasm".as_slice(),
+    };
+    let error = io::Error::from(ErrorKind::InvalidInput);
+    let status = refuse_words(&mut errors, &error, Some(odd));
+    assert_eq!(rt; status, 2);
+    assert_eq!(rt;
+        text(&errors),
+        "error: word 2 of the command line is not UTF-8: m?.wasm\n"
+    );
+}
+
+/// The pages of help.
+const HELP: &[&[&str]] = &[
+    &["wreplay", "--help"],
+    &["wreplay", "help"],
+    &["wreplay", "gather", "--help"],
+    &["wreplay", "check", "--help"],
+    &["wreplay", "record", "--help"],
+    &["wreplay", "replay", "--help"],
+    &["wreplay", "view", "--help"],
+];
+
+#[test]
+fn explains_itself_in_short_lines(rt: HostRuntime) {
+    let rows = HELP;
+    for words in rows {
+        let case = Case {
+            words: *words,
+            lines: "zz",
+            read_fails_at: None,
+            most: 65536,
+            write_fails_at: None,
+        };
+        let shown = run_on(&rt, rt.alloc(), case);
+        let page = text(&shown.output);
+        assert!(rt; page.len() > 100 && is_done(&shown, 0, page, "", ""));
+        for line in page.lines() {
+            assert!(rt; line.len() <= 80, "{line}");
+        }
+    }
+}
