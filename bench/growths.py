@@ -2,13 +2,15 @@
 """Refuses each growth of `wreplay` in turn, and looks at what it answers.
 
 usage: growths.py PATH_OF_WREPLAY [WORD..]
+       growths.py PATH_OF_WREPLAY_BENCH
 
 The commands are those of `crates/worked_rows/data/commands` that have one of the words, and recordings by threads that come to the
 same each time; without a word those of the counter's first run, those of five waiting threads, and these recordings. A small library, made by the C compiler and loaded before the system's, answers
 one of the program's calls for memory with none: the first, then the second, and so on until a run asks for no more. Each time
 the program must do one of two things: exactly what it does with ample memory, or exit with 1, the output empty, and on
 standard error one line `refused N NoMemory`, with `--why` and one more line. Behind each such run the same command is run again with ample memory and must
-write the same bytes as before. It prints, for each command, how many growths were refused and with which lines.
+write the same bytes as before. Of `wreplay_bench` it is the run of a thread alone, which ends with another status than 0, the output
+empty, where memory was wanted. It prints, for each command, how many growths were refused and with which lines.
 """
 
 import collections
@@ -21,6 +23,8 @@ import tempfile
 
 HERE = os.path.dirname(os.path.abspath(__file__))
 ROWS = os.path.join(HERE, "..", "crates", "worked_rows", "data")
+BENCH_ROWS = os.path.join(HERE, "..", "crates", "wreplay_bench", "data")
+ALONE = "machine sieve.wasm sieve.plan"
 # Threads that share nothing, so that each recording of them is as the others.
 BY_THREADS = ["record alone.wasm alone2.plan --threads --report", "record alone.wasm alone2.plan --threads", "record far.wasm farf.plan --threads"]
 # Commands that are to say why: what is refused has one more line.
@@ -80,6 +84,8 @@ def commands(words):
 def is_refusal(words, usual, answer):
     """Whether memory is wanted, with nothing on the output; or a command that is refused does not say its usual reason."""
     status, output, errors = answer
+    if words == ALONE.split():
+        return status != 0 and output == b""
     if status != 1 or output != b"":
         return False
     if "--why" not in words:
@@ -135,11 +141,15 @@ def main():
     path, wanted = os.path.abspath(sys.argv[1]), sys.argv[2:] or USUAL
     with tempfile.TemporaryDirectory() as folder:
         data = os.path.join(folder, "data")
-        shutil.copytree(ROWS, data)
+        is_bench = os.path.basename(path) == "wreplay_bench"
+        shutil.copytree(BENCH_ROWS if is_bench else ROWS, data)
         with open(os.path.join(folder, "refuse.c"), "w") as file:
             file.write(LIBRARY)
         library = os.path.join(folder, "refuse.so")
         subprocess.run(["cc", "-shared", "-fPIC", "-O1", "-o", library, os.path.join(folder, "refuse.c")], check=True)
+        if is_bench:
+            refuse_each(path, library, data, ALONE, ALONE.split(), "")
+            return
         for line, words, source, kept, is_wanted in commands(wanted):
             if kept:
                 usual, _ = run(path, library, data, words, source, 0)

@@ -14,8 +14,6 @@ mod rounds;
 mod scripts;
 mod stages;
 mod steps;
-#[cfg(test)]
-mod tests;
 mod versioned;
 mod whole;
 
