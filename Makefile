@@ -5,7 +5,7 @@ JOBS ?= $(shell nproc)
 PROGRAM = crates/wreplay/out/wreplay
 BENCH = crates/wreplay_bench/out/wreplay_bench
 
-.PHONY: build try test pages bench growths install clean
+.PHONY: build try test pages bench growths wrong-bodies install clean
 
 # Proves the program and what it stands on, crate by crate, and builds it: minutes the first time, seconds after that.
 build: $(PROGRAM)
@@ -39,9 +39,14 @@ bench: $(PROGRAM) $(BENCH)
 	python3 bench/recordings.py $(PROGRAM)
 	python3 bench/threads.py $(PROGRAM)
 
-# Refuses each growth of the program in turn, on recordings, replays and listings of the worked rows.
-growths: $(PROGRAM)
+# Refuses each growth of the programs in turn, on recordings, replays and listings of the worked rows, and on a thread alone.
+growths: $(PROGRAM) $(BENCH)
 	python3 bench/growths.py $(PROGRAM)
+	python3 bench/growths.py $(BENCH)
+
+# The wrong bodies that the gate leaves out: the prover must refuse each. It takes hours.
+wrong-bodies:
+	python3 scripts/wrong_bodies.py
 
 $(BENCH): crates.txt $(wildcard crates/*/src/*.rt crates/*/specs/*.antt)
 	cd crates/wreplay_bench && rt run -- machine data/sieve.wasm data/sieve.plan >/dev/null
