@@ -3,10 +3,10 @@
 
 usage: gate.py [LOG]
 
-Runs `rt ci` at the top of the repository, hands its output on to LOG (build/gate.log by default), and looks at the running checks
-four times a second. It prints a row a crate: its proof, the proof of its tests, and its must-fail edits with their number; then the
-sums, the processor time of the whole gate as the system counts it, and the seconds of the clock. The last quarter of a second of a
-check can be missed, so the rows come to a little less than the whole.
+Runs `rt ci --anew` at the top of the repository, so that all is proved from nothing, hands its output on to LOG (build/gate.log by
+default), and looks at the running checks four times a second. It prints a row a crate: its proof, the proof of its tests, and its
+must-fail edits with their number; then the sums, the processor time of the whole gate as the system counts it, and the seconds of the
+clock. The last quarter of a second of a check can be missed, so the rows come to a little less than the whole.
 """
 
 import glob
@@ -68,7 +68,7 @@ def main():
     os.makedirs(os.path.dirname(log) or ".", exist_ok=True)
     begin, seconds = time.monotonic(), {}
     with open(log, "wb") as out:
-        gate = subprocess.Popen(["rt", "ci"], stdin=subprocess.DEVNULL, stdout=out, stderr=subprocess.STDOUT)
+        gate = subprocess.Popen(["rt", "ci", "--anew"], stdin=subprocess.DEVNULL, stdout=out, stderr=subprocess.STDOUT)
         while gate.poll() is None:
             found = processes()
             for pid, (parent, _, words) in found.items():
