@@ -1,227 +1,244 @@
 //! Why lines are no piece lines.
 
-use crate::examples::{BLOCK_64, FIRST, ONLY_END, WHOLE};
-use line_faults::line_fault;
-use log_pieces::read_line;
+use crate::replicas::{BLOCK_64, FIRST, WHOLE};
+use line_faults::{BytesFault, EntryFault, LineFault, line_fault};
+use log_pieces::{DecodeFault, PieceFault, read_line};
 use std::alloc::Global;
 use std::test::Fail;
+use wasm_types::NoMemory;
 
-/// The digits of a piece, those from the first place until the second left out; what stands in their place; and what ends
-/// the line.
-type Edit = (&'static str, usize, usize, &'static str, &'static str);
-
-/// The line that an edit makes.
-fn edited(alloc: Global, edit: &Edit) -> Result<String, Fail> {
-    let (digits, from, until, other, end) = *edit;
-    let front = digits.get(..from).ok_or("no beginning")?;
-    let rest = digits.get(until..).ok_or("no rest")?;
-    Ok(format!(in alloc; "{front}{other}{rest}{end}")?)
-}
-
-/// Whether that line is a piece line, and why it is none.
-fn told(alloc: Global, edit: &Edit) -> Result<String, Fail> {
-    let line = edited(alloc, edit)?;
-    let reason = line_fault(line.as_bytes());
+/// Why a line of these parts is no piece line; None where it is one.
+fn refused(alloc: Global, parts: &[&str]) -> Result<Option<LineFault>, NoMemory> {
+    let mut line = String::new(alloc);
+    for part in parts {
+        line.push_str(part)?;
+    }
     match read_line(alloc, line.as_bytes()) {
-        Ok(_) => Ok(format!(in alloc; "a piece: {reason}")?),
-        Err(fault) => Ok(format!(in alloc; "{fault}: {reason}")?),
+        Ok(_) => Ok(None),
+        Err(DecodeFault::NotAPiece) => Ok(Some(line_fault(line.as_bytes()))),
+        Err(DecodeFault::NoMemory) => Err(NoMemory),
     }
 }
 
-/// Whether that line is told in these words.
-fn is_told(alloc: Global, edit: &Edit, words: &str) -> Result<bool, Fail> {
-    let text = told(alloc, edit)?;
-    Ok(text.as_str() == words)
-}
-
-/// Edits, and what is told of the lines that they make. The first is a piece line, of which no reason is asked but here.
-static EDITED: &[(Edit, &str)] = &[
-    ((WHOLE, 0, 0, "", "\n"), "a piece: no piece is written so"),
+/// Digits that stand in `WHOLE` in place of those of that byte, and why it is then no piece line.
+static EDITED: &[(usize, &str, BytesFault)] = &[
+    (0, "48", BytesFault::NoMark),
+    (3, "03", BytesFault::BadFormat { format: 3 }),
     (
-        (WHOLE, 0, 2, "48", "\n"),
-        "not a piece: it does not begin with 495250",
+        44,
+        "10",
+        BytesFault::Rule {
+            rule: PieceFault::BadThread,
+        },
     ),
     (
-        (WHOLE, 6, 8, "03", "\n"),
-        "not a piece: its format is 3, not 1 or 2",
+        48,
+        "ff",
+        BytesFault::Rule {
+            rule: PieceFault::PastEnd,
+        },
+    ),
+    (50, "10", BytesFault::TooMany { entries: 4098 }),
+    (51, "00", BytesFault::LeftOver { bytes: 13 }),
+    (51, "02", BytesFault::BadFlag { flag: 2 }),
+    (
+        52,
+        "03",
+        BytesFault::Entry {
+            entry: 1,
+            fault: EntryFault::BadKind { kind: 3 },
+        },
     ),
     (
-        (WHOLE, 88, 90, "10", "\n"),
-        "not a piece: it breaks a rule: a thread above 15",
+        53,
+        "00",
+        BytesFault::Entry {
+            entry: 1,
+            fault: EntryFault::BadCount { touches: 0 },
+        },
     ),
     (
-        (WHOLE, 96, 98, "ff", "\n"),
-        "not a piece: it breaks a rule: entries, places or steps past their limit",
+        53,
+        "04",
+        BytesFault::Entry {
+            entry: 1,
+            fault: EntryFault::BadCount { touches: 4 },
+        },
     ),
     (
-        (WHOLE, 100, 102, "10", "\n"),
-        "not a piece: it has 4098 entries, above 4096",
+        56,
+        "01",
+        BytesFault::Entry {
+            entry: 1,
+            fault: EntryFault::BadObject {
+                object: 65_537,
+                greatest: 32_768,
+            },
+        },
     ),
     (
-        (WHOLE, 102, 104, "00", "\n"),
-        "not a piece: 13 bytes stand behind the piece",
+        81,
+        "02",
+        BytesFault::Entry {
+            entry: 2,
+            fault: EntryFault::BadMode { mode: 2 },
+        },
     ),
     (
-        (WHOLE, 102, 104, "02", "\n"),
-        "not a piece: its end has the flag 2, not 0 or 1",
+        98,
+        "01",
+        BytesFault::Rule {
+            rule: PieceFault::PastEnd,
+        },
     ),
-    (
-        (WHOLE, 104, 106, "03", "\n"),
-        "not a piece: entry 1 is bad: its kind is 3, not 0, 1 or 2",
-    ),
-    (
-        (WHOLE, 106, 108, "00", "\n"),
-        "not a piece: entry 1 is bad: it has 0 touches, not one to three",
-    ),
-    (
-        (WHOLE, 106, 108, "04", "\n"),
-        "not a piece: entry 1 is bad: it has 4 touches, not one to three",
-    ),
-    (
-        (WHOLE, 112, 114, "01", "\n"),
-        "not a piece: entry 1 is bad: the object 65537 is above the greatest, 32768",
-    ),
-    (
-        (WHOLE, 162, 164, "02", "\n"),
-        "not a piece: entry 2 is bad: a touch has the mode 2, not 0 or 1",
-    ),
-    (
-        (WHOLE, 196, 198, "01", "\n"),
-        "not a piece: it breaks a rule: entries, places or steps past their limit",
-    ),
-    (
-        (WHOLE, 212, 214, "06", "\n"),
-        "not a piece: its outcome is 6, above 5",
-    ),
-    (
-        (WHOLE, 212, 214, "05", "\n"),
-        "not a piece: 3 bytes stand behind the piece",
-    ),
-    (
-        (WHOLE, 212, 214, "05ff", "\n"),
-        "not a piece: no trap has the number 255",
-    ),
-    (
-        (WHOLE, 212, 214, "", "\n"),
-        "not a piece: 3 bytes stand behind the piece",
-    ),
-    (
-        (WHOLE, 222, 222, "00", "\n"),
-        "not a piece: 1 bytes stand behind the piece",
-    ),
-    (
-        (WHOLE, 98, 222, "000000", "\n"),
-        "not a piece: it breaks a rule: no entry and no end",
-    ),
-    (
-        (WHOLE, 120, 222, "", "\n"),
-        "not a piece: entry 1 is bad: the line ends within it",
-    ),
-    ((WHOLE, 220, 222, "", "\n"), "not a piece: it ends early"),
-    (
-        (ONLY_END, 120, 122, "06", "\n"),
-        "not a piece: its outcome is 6, above 5",
-    ),
-    (
-        (ONLY_END, 120, 122, "0500", "\n"),
-        "not a piece: no trap has the number 0",
-    ),
-    (
-        (ONLY_END, 120, 122, "050b", "\n"),
-        "not a piece: no trap has the number 11",
-    ),
-    (
-        (BLOCK_64, 88, 90, "05", "\n"),
-        "not a piece: its blocks have 2^5 bytes, not 2^6 to 2^12",
-    ),
-    (
-        (BLOCK_64, 88, 90, "0d", "\n"),
-        "not a piece: its blocks have 2^13 bytes, not 2^6 to 2^12",
-    ),
-    (
-        // Two touches of object 5.
-        (
-            FIRST,
-            104,
-            150,
-            "00020500000000000000000000000005000000000000000000000000",
-            "\n",
-        ),
-        "not a piece: entry 1 is bad: the object 5 is not above the one before it",
-    ),
-    (
-        (WHOLE, 0, 222, "", ""),
-        "not a piece: it lacks its line end",
-    ),
-    ((WHOLE, 0, 0, "", ""), "not a piece: it lacks its line end"),
-    ((WHOLE, 0, 222, "", "\n"), "not a piece: it is empty"),
-    (
-        (WHOLE, 0, 222, "", "\r\n"),
-        "not a piece: it ends in a carriage return",
-    ),
-    (
-        (WHOLE, 0, 0, "", "\r\n"),
-        "not a piece: it ends in a carriage return",
-    ),
-    (
-        (WHOLE, 0, 0, "", "\n\n"),
-        "not a piece: the byte 10 at column 223 is no digit 0 to 9 or a to f",
-    ),
-    (
-        (WHOLE, 0, 0, " ", "\n"),
-        "not a piece: the byte 32 at column 1 is no digit 0 to 9 or a to f",
-    ),
-    (
-        (WHOLE, 0, 222, "4g", "\n"),
-        "not a piece: `g` at column 2 is no digit 0 to 9 or a to f",
-    ),
-    (
-        (WHOLE, 0, 222, "49", "\n\n"),
-        "not a piece: the byte 10 at column 3 is no digit 0 to 9 or a to f",
-    ),
-    (
-        (WHOLE, 0, 222, "495\r0", "\n"),
-        "not a piece: the byte 13 at column 4 is no digit 0 to 9 or a to f",
-    ),
-    (
-        (WHOLE, 0, 222, "495F", "\n"),
-        "not a piece: the digit at column 4 is in upper case",
-    ),
-    (
-        (WHOLE, 8, 10, "AA", "\n"),
-        "not a piece: the digit at column 9 is in upper case",
-    ),
-    (
-        (WHOLE, 0, 222, "495", "\n"),
-        "not a piece: it has 3 digits, which is odd",
-    ),
-    (
-        (WHOLE, 222, 222, "0", "\n"),
-        "not a piece: it has 223 digits, which is odd",
-    ),
-    (
-        (WHOLE, 0, 222, "00", "\n"),
-        "not a piece: it does not begin with 495250",
-    ),
-    (
-        (WHOLE, 0, 222, "495250", "\n"),
-        "not a piece: it ends early",
-    ),
+    (106, "06", BytesFault::BadOutcome { outcome: 6 }),
+    (106, "05", BytesFault::LeftOver { bytes: 3 }),
+    (106, "05ff", BytesFault::BadTrap { trap: 255 }),
+    (106, "", BytesFault::LeftOver { bytes: 3 }),
 ];
 
-/// How many edits are told in these words, up to the first that is not.
-fn count_told(alloc: Global, edits: &[(Edit, &str)]) -> Result<usize, Fail> {
-    for (row, (edit, words)) in edits.iter().enumerate() {
-        if !is_told(alloc, edit, words)? {
-            return Ok(row);
-        }
+#[test]
+fn edited_bytes_are_told(rt: HostRuntime) -> Result<(), Fail> {
+    for (at, digits, fault) in EDITED {
+        let parts = [&WHOLE[..2 * at], *digits, &WHOLE[2 * at + 2..], "\n"];
+        let found = refused(rt.alloc(), &parts)?;
+        assert!(rt; found == Some(LineFault::Bytes(*fault)), "{at}");
     }
-    Ok(edits.len())
+    Ok(())
+}
+
+/// A touch of object 5 that reads.
+const READ_5: &str = "05000000000000000000000000";
+
+/// The parts of a line, and why it is no piece line.
+static LINES: &[(&[&str], LineFault)] = &[
+    (&["\n"], LineFault::Empty),
+    (&[WHOLE], LineFault::NoEnd),
+    (&["\r\n"], LineFault::CarriageReturn),
+    (&[WHOLE, "\r\n"], LineFault::CarriageReturn),
+    (
+        &["4g\n"],
+        LineFault::NotADigit {
+            column: 2,
+            byte: b'g',
+        },
+    ),
+    (
+        &["49\n\n"],
+        LineFault::NotADigit {
+            column: 3,
+            byte: b'\n',
+        },
+    ),
+    (
+        &["495\r0\n"],
+        LineFault::NotADigit {
+            column: 4,
+            byte: b'\r',
+        },
+    ),
+    (&["495F\n"], LineFault::UpperCase { column: 4 }),
+    (&["495\n"], LineFault::OddDigits { digits: 3 }),
+    (&["00\n"], LineFault::Bytes(BytesFault::NoMark)),
+    (&["495250\n"], LineFault::Bytes(BytesFault::TooShort)),
+];
+
+#[test]
+fn lines_are_told(rt: HostRuntime) -> Result<(), Fail> {
+    for (parts, fault) in LINES {
+        assert_eq!(rt; refused(rt.alloc(), parts)?, Some(*fault));
+    }
+    assert!(rt; refused(rt.alloc(), &[WHOLE, "\n"])?.is_none());
+    Ok(())
+}
+
+/// Whether a line of these parts is no piece line for that reason.
+fn tells(alloc: Global, parts: &[&str], fault: BytesFault) -> Result<bool, NoMemory> {
+    Ok(refused(alloc, parts)? == Some(LineFault::Bytes(fault)))
 }
 
 #[test]
-fn bad_lines_are_told(rt: HostRuntime) -> Result<(), Fail> {
-    let edits = EDITED;
-    assert_eq!(rt; count_told(rt.alloc(), edits)?, edits.len());
+fn cut_lines_are_told(rt: HostRuntime) -> Result<(), Fail> {
+    let empty = BytesFault::Rule {
+        rule: PieceFault::Empty,
+    };
+    assert!(rt; tells(rt.alloc(), &[&WHOLE[..98], "000000\n"], empty)?);
+    let cut = BytesFault::Entry {
+        entry: 1,
+        fault: EntryFault::EndsEarly,
+    };
+    assert!(rt; tells(rt.alloc(), &[&WHOLE[..120], "\n"], cut)?);
+    Ok(())
+}
+
+#[test]
+fn bad_blocks_and_objects_are_told(rt: HostRuntime) -> Result<(), Fail> {
+    let power = BytesFault::BadBlock { power: 5 };
+    let parts = [&BLOCK_64[..88], "05", &BLOCK_64[90..], "\n"];
+    assert!(rt; tells(rt.alloc(), &parts, power)?);
+    let falls = BytesFault::Entry {
+        entry: 1,
+        fault: EntryFault::NotRising { object: 5 },
+    };
+    let parts = [&FIRST[..104], "0002", READ_5, READ_5, "\n"];
+    assert!(rt; tells(rt.alloc(), &parts, falls)?);
+    Ok(())
+}
+
+/// Reasons and their words.
+static WORDS: &[(LineFault, &str)] = &[
+    (LineFault::TooLong, "it is longer than any piece line"),
+    (LineFault::CarriageReturn, "it ends in a carriage return"),
+    (
+        LineFault::UpperCase { column: 4 },
+        "the digit at column 4 is in upper case",
+    ),
+    (
+        LineFault::NotADigit {
+            column: 2,
+            byte: b'g',
+        },
+        "`g` at column 2 is no digit 0 to 9 or a to f",
+    ),
+    (
+        LineFault::NotADigit {
+            column: 4,
+            byte: 13,
+        },
+        "the byte 13 at column 4 is no digit 0 to 9 or a to f",
+    ),
+    (
+        LineFault::OddDigits { digits: 3 },
+        "it has 3 digits, which is odd",
+    ),
+    (
+        LineFault::Bytes(BytesFault::LeftOver { bytes: 3 }),
+        "3 bytes stand behind the piece",
+    ),
+    (
+        LineFault::Bytes(BytesFault::Entry {
+            entry: 2,
+            fault: EntryFault::BadMode { mode: 2 },
+        }),
+        "entry 2 is bad: a touch has the mode 2, not 0 or 1",
+    ),
+    (
+        LineFault::Bytes(BytesFault::Rule {
+            rule: PieceFault::BadThread,
+        }),
+        "it breaks a rule: a thread above 15",
+    ),
+    (
+        LineFault::Bytes(BytesFault::Spelling),
+        "no piece is written so",
+    ),
+];
+
+#[test]
+fn reasons_have_words(rt: HostRuntime) -> Result<(), Fail> {
+    for (fault, words) in WORDS {
+        let text = format!(in rt.alloc(); "{fault}")?;
+        assert!(rt; text.as_str() == *words, "{text}");
+    }
     Ok(())
 }

@@ -8,6 +8,12 @@ use std::alloc::Global;
 use std::test::Fail;
 use wasm_types::{NoMemory, Same};
 
+fn joined<T: Join>(alloc: Global, left: &T, right: &T) -> Result<T, NoMemory> {
+    let mut both = left.copy(alloc)?;
+    both.join_from(alloc, right)?;
+    Ok(both)
+}
+
 struct Seven;
 
 struct Eight;
@@ -31,103 +37,90 @@ fn seven_and_eight_clash()
     agreed_joined::<u32, Seven, Eight>()
 }
 
-/// Two claims of two items.
-type Pair = Both<Flat<u32>, Flat<u64>>;
-
-fn joined(alloc: Global, left: &Pair, right: &Pair) -> Result<Pair, NoMemory> {
-    let mut both = left.copy(alloc)?;
-    both.join_from(alloc, right)?;
-    Ok(both)
+#[test]
+fn equal_items_stay_and_different_ones_clash(rt: HostRuntime) -> Result<(), Fail> {
+    let alloc = rt.alloc();
+    seven_and_eight_clash();
+    let seven = Flat::Known(7u32);
+    for (other, want) in [
+        (Flat::Known(7), Flat::Known(7)),
+        (Flat::Known(8), Flat::Clash),
+        (Flat::Clash, Flat::Clash),
+    ] {
+        assert_eq!(rt; joined(alloc, &seven, &other)?, want);
+        assert_eq!(rt; joined(alloc, &other, &seven)?, want);
+    }
+    Ok(())
 }
 
 #[test]
-fn equal_items_stay_and_different_ones_clash(rt: HostRuntime) -> Result<(), Fail> {
-    seven_and_eight_clash();
+fn both_parts_are_joined(rt: HostRuntime) -> Result<(), Fail> {
     let left = Both {
-        first: Flat::Known(1),
-        second: Flat::Known(7),
+        first: Flat::Known(1u32),
+        second: Flat::Known(2u64),
     };
     let right = Both {
         first: Flat::Known(1),
-        second: Flat::Known(8),
+        second: Flat::Known(3),
     };
     let want = Both {
         first: Flat::Known(1),
         second: Flat::Clash,
     };
-    assert!(rt; joined(rt.alloc(), &left, &right)? == want);
-    assert!(rt; joined(rt.alloc(), &want, &left)? == want);
+    assert_eq!(rt; joined(rt.alloc(), &left, &right)?, want);
     Ok(())
 }
 
-/// What is claimed of numbers by their keys.
-type Numbers = Keyed<u32, Flat<u64>>;
-
-/// A map with these keys, each known to be the number beside it.
-fn numbers(alloc: Global, known: &[(u32, u64)]) -> Result<Numbers, NoMemory> {
+/// A map with these keys, each known to be ten times its number.
+fn tens(alloc: Global, keys: &[u32]) -> Result<Keyed<u32, Flat<u64>>, NoMemory> {
     let mut map = Keyed::new(alloc);
-    for (key, number) in known {
-        map.join_one(alloc, *key, Flat::Known(*number))?;
+    for key in keys {
+        map.join_one(alloc, *key, Flat::Known(*key as u64 * 10))?;
     }
     Ok(map)
 }
 
-/// A map with the keys from the first until the last, each with a map of these numbers.
-fn nested(
-    alloc: Global,
-    first: u32,
-    last: u32,
-    known: &[(u32, u64)],
-) -> Result<Keyed<u32, Numbers>, NoMemory> {
-    let mut map = Keyed::new(alloc);
-    for key in first..last {
-        map.join_one(alloc, key, numbers(alloc, known)?)?;
+#[test]
+fn maps_are_joined_key_by_key(rt: HostRuntime) -> Result<(), Fail> {
+    let alloc = rt.alloc();
+    let mut left = tens(alloc, &[9, 1, 5])?;
+    left.join_one(alloc, 3, Flat::Known(31))?;
+    let both = joined(alloc, &left, &tens(alloc, &[3, 5, 7])?)?;
+    let mut want = tens(alloc, &[1, 5, 7, 9])?;
+    want.join_one(alloc, 3, Flat::Clash)?;
+    assert_eq!(rt; both, want);
+    assert_eq!(rt; both.len(), 5);
+    assert_eq!(rt; both.get(&7), Some(&Flat::Known(70)));
+    assert_eq!(rt; both.get(&8), None);
+    let mut last = 0;
+    for (key, _) in both.iter() {
+        assert!(rt; last < *key);
+        last = *key;
     }
-    Ok(map)
+    assert!(rt; Keyed::<u32, Flat<u64>>::new(alloc).is_empty());
+    Ok(())
 }
-
-/// Whether beside key 20 the keys are the least ones, each with two numbers.
-fn is_beginning(map: &Keyed<u32, Numbers>) -> bool {
-    let mut is_beginning = true;
-    for (key, value) in map.iter() {
-        is_beginning &= *key == 20 || ((*key as usize) < map.len() && value.len() == 2);
-    }
-    is_beginning
-}
-
-/// Eleven numbers: to join one at another key takes more memory.
-const ELEVEN: &[(u32, u64)] = &[
-    (2, 21),
-    (9, 90),
-    (8, 80),
-    (7, 70),
-    (6, 60),
-    (5, 50),
-    (4, 40),
-    (3, 30),
-    (10, 100),
-    (11, 110),
-    (12, 120),
-];
-
-/// What they and two others, at keys 1 and 2, are when they are joined.
-const JOINED: &str =
-    "Some(Keyed { map: {1: Known(10), 2: Clash, 3: Known(30), 4: Known(40), 5: Known(50), 6: Known(60), 7: Known(70), \
-    8: Known(80), 9: Known(90), 10: Known(100), 11: Known(110), 12: Known(120)} })";
 
 /// Under `rt try --test --fail-alloc N` the Nth growth is refused: those of this `join_from` are the last ones. Without it none is.
 #[test]
 fn joining_again_completes_what_want_of_memory_left(rt: HostRuntime) -> Result<(), Fail> {
     let alloc = rt.alloc();
-    let mut left = nested(alloc, 20, 21, ELEVEN)?;
-    let right = nested(alloc, 0, 30, &[(1, 10), (2, 20)])?;
+    let (mut left, mut right, mut want) = (Keyed::new(alloc), Keyed::new(alloc), Keyed::new(alloc));
+    for key in 0u32..30 {
+        right.join_one(alloc, key, tens(alloc, &[1, 2])?)?;
+        want.join_one(alloc, key, tens(alloc, &[1, 2])?)?;
+    }
+    for inner in 10..21 {
+        left.join_one(alloc, 20, tens(alloc, &[inner])?)?;
+        want.join_one(alloc, 20, tens(alloc, &[inner])?)?;
+    }
     if left.join_from(alloc, &right).is_err() {
-        assert!(rt; is_beginning(&left));
+        for (key, value) in left.iter() {
+            assert!(rt; (*key as usize) < left.len() || *key == 20, "{key}");
+            assert!(rt; value.len() == 2 || *key == 20, "{key}");
+        }
         left.join_from(alloc, &right)?;
     }
-    assert!(rt; is_beginning(&left) && left.len() == 30 && !left.is_empty());
-    assert!(rt; left.get(&30).is_none());
-    let joined = format!(in alloc; "{:?}", left.get(&20))?;
-    assert!(rt; joined.as_str() == JOINED, "{joined}");
+    assert_eq!(rt; left, want);
     Ok(())
 }

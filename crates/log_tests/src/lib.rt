@@ -5,12 +5,12 @@
 #[cfg(test)]
 mod bad_lines;
 #[cfg(test)]
-mod examples;
-#[cfg(test)]
-mod gathering;
-#[cfg(test)]
 mod joins;
+#[cfg(test)]
+mod objects;
 #[cfg(test)]
 mod pieces;
 #[cfg(test)]
 mod replicas;
+#[cfg(test)]
+mod skipping;

@@ -1,102 +1,255 @@
 //! Pieces, their bytes and their lines.
 
-use crate::examples::{BLOCK_64, FIRST, ONLY_END, SECOND, WHOLE};
-use log_pieces::{End, Piece, PieceFault, decode, encode, line, read_line};
+ghost use Rattle.std.specs.Prelude.{◌<◌, length};
+
+use log_pieces::{DecodeFault, End, Piece, PieceFault, decode, encode, line, read_line};
 use rw_objects::{Entry, Few, Found, Kind};
 use std::alloc::Global;
 use std::test::Fail;
-use wasm_types::{Block, Outcome, Profile, RunKey};
+use wasm_types::{Block, Outcome, Profile, RunKey, Same, Trap, Value};
 
-/// The line of the piece that the bytes are.
-fn line_of(alloc: Global, bytes: &[u8]) -> Result<Vec<u8>, Fail> {
-    let piece = decode(alloc, bytes)?;
-    Ok(line(alloc, &piece)?)
+// Thread 0 with two writes and its end: 111 bytes.
+const WHOLE: &str = "\
+    49525001aaaaaaaaaaaaaaaaaaaaaaaaaaaaaaaaaaaaaaaaaaaaaaaaaaaaaaaaaaaaaaaa010000000000000000000000\
+    000200010001010000000100000000000000000000000000000000000101000000010100000000000000000000000000\
+    000008000000020000000301000000";
+
+// Its first entry: 75 bytes.
+const FIRST: &str = "\
+    49525001aaaaaaaaaaaaaaaaaaaaaaaaaaaaaaaaaaaaaaaaaaaaaaaaaaaaaaaaaaaaaaaa010000000000000000000000\
+    000100000001010000000100000000000000000000000000000000";
+
+// Its second entry and its end: 88 bytes.
+const SECOND: &str = "\
+    49525001aaaaaaaaaaaaaaaaaaaaaaaaaaaaaaaaaaaaaaaaaaaaaaaaaaaaaaaaaaaaaaaa010000000000000000010000\
+    00010001000101000000010100000000000000000000000000000008000000020000000301000000";
+
+// Thread 3 with no entry and an end: 61 bytes.
+const ONLY_END: &str = "\
+    49525001aaaaaaaaaaaaaaaaaaaaaaaaaaaaaaaaaaaaaaaaaaaaaaaaaaaaaaaaaaaaaaaa010000000000000003000000\
+    00000001030000000000000002";
+
+// The first piece in profile 2 with blocks of 64 bytes: 112 bytes.
+const BLOCK_64: &str = "\
+    49525002aaaaaaaaaaaaaaaaaaaaaaaaaaaaaaaaaaaaaaaaaaaaaaaaaaaaaaaaaaaaaaaa010000000000000006000000\
+    000002000100010100000001000000000000000000000000000000000001010000000101000000000000000000000000\
+    00000008000000020000000301000000";
+
+fn bytes_of(alloc: Global, text: &str) -> Result<Vec<u8>, Fail> {
+    Ok(hex::decode(alloc, text)?)
 }
 
-/// Whether the piece of this line has these bytes, and is this one: its run, its thread, its first place, how many entries it
-/// has, and its end.
-fn is_read(alloc: Global, line: &[u8], bytes: &[u8], what: &str) -> Result<bool, Fail> {
-    let piece = read_line(alloc, line)?;
-    let (run, thread, first) = (piece.key().run, piece.thread(), piece.first());
-    let (count, end) = (piece.entries().len(), piece.end());
-    let text = format!(in alloc; "{run} {thread} {first} {count} {end:?}")?;
-    Ok(text.as_str() == what && encode(alloc, &piece)?.as_slice() == bytes)
+fn piece_of(alloc: Global, text: &str) -> Result<Piece, Fail> {
+    let bytes = bytes_of(alloc, text)?;
+    Ok(decode(alloc, &bytes)?)
 }
 
-/// Whether the bytes of these digits are that piece, and its line has these digits.
-fn is_read_and_written(alloc: Global, digits: &str, what: &str) -> Result<bool, Fail> {
-    let bytes = hex::decode(alloc, digits)?;
-    let line = line_of(alloc, &bytes)?;
-    Ok(line.strip_suffix(b"\n") == Some(digits.as_bytes()) && is_read(alloc, &line, &bytes, what)?)
+// The digits of a piece's bytes.
+fn digits_of(alloc: Global, piece: &Piece) -> Result<String, Fail> {
+    let bytes = encode(alloc, piece)?;
+    Ok(hex::encode(alloc, &bytes)?)
 }
 
-// `ONLY_END` with other outcomes.
+// The line of a piece.
+fn line_of(alloc: Global, piece: &Piece) -> Result<String, Fail> {
+    let line = line(alloc, piece)?;
+    Ok(String::from_utf8(line)?)
+}
 
-const RUNNING: &str = "\
-    49525001aaaaaaaaaaaaaaaaaaaaaaaaaaaaaaaaaaaaaaaaaaaaaaaaaaaaaaaaaaaaaaaa0100000000000000030000\
-    0000000001030000000000000000";
+// The piece that stands in this line.
+fn read_again(alloc: Global, line: &str) -> Result<String, Fail> {
+    let piece = read_line(alloc, line.as_bytes())?;
+    digits_of(alloc, &piece)
+}
 
-const WAITING: &str = "\
-    49525001aaaaaaaaaaaaaaaaaaaaaaaaaaaaaaaaaaaaaaaaaaaaaaaaaaaaaaaaaaaaaaaa0100000000000000030000\
-    0000000001030000000000000001";
+// The digits of a piece, its line, and the digits of what is read of the line.
+fn told(alloc: Global, piece: &Piece) -> Result<String, Fail> {
+    let digits = digits_of(alloc, piece)?;
+    let line = line_of(alloc, piece)?;
+    let again = read_again(alloc, line.as_str())?;
+    Ok(format!(in alloc; "{digits} {line}{again}")?)
+}
 
-const DONE_I32: &str = "\
-    49525001aaaaaaaaaaaaaaaaaaaaaaaaaaaaaaaaaaaaaaaaaaaaaaaaaaaaaaaaaaaaaaaa0100000000000000030000\
-    0000000001030000000000000003feffffff";
+// The same of the piece of these digits.
+fn told_of(alloc: Global, text: &str) -> Result<String, Fail> {
+    let piece = piece_of(alloc, text)?;
+    told(alloc, &piece)
+}
 
-const DONE_I64: &str = "\
-    49525001aaaaaaaaaaaaaaaaaaaaaaaaaaaaaaaaaaaaaaaaaaaaaaaaaaaaaaaaaaaaaaaa0100000000000000030000\
-    00000000010300000000000000040100000000000080";
-
-const TRAPPED: &str = "\
-    49525001aaaaaaaaaaaaaaaaaaaaaaaaaaaaaaaaaaaaaaaaaaaaaaaaaaaaaaaaaaaaaaaa0100000000000000030000\
-    00000000010300000000000000050a";
-
-/// The digits of a piece, and what it is.
-static PIECES: &[(&str, &str)] = &[
-    (
-        WHOLE,
-        "1 0 0 2 Some(End { steps: 8, places: 2, outcome: Done(Some(I32(1))) })",
-    ),
-    (FIRST, "1 0 0 1 None"),
-    (
-        SECOND,
-        "1 0 1 1 Some(End { steps: 8, places: 2, outcome: Done(Some(I32(1))) })",
-    ),
-    (
-        ONLY_END,
-        "1 3 0 0 Some(End { steps: 3, places: 0, outcome: Done(None) })",
-    ),
-    (
-        BLOCK_64,
-        "1 0 0 2 Some(End { steps: 8, places: 2, outcome: Done(Some(I32(1))) })",
-    ),
-    (
-        RUNNING,
-        "1 3 0 0 Some(End { steps: 3, places: 0, outcome: Running })",
-    ),
-    (
-        WAITING,
-        "1 3 0 0 Some(End { steps: 3, places: 0, outcome: Waiting })",
-    ),
-    (
-        DONE_I32,
-        "1 3 0 0 Some(End { steps: 3, places: 0, outcome: Done(Some(I32(4294967294))) })",
-    ),
-    (
-        DONE_I64,
-        "1 3 0 0 Some(End { steps: 3, places: 0, outcome: Done(Some(I64(9223372036854775809))) })",
-    ),
-    (
-        TRAPPED,
-        "1 3 0 0 Some(End { steps: 3, places: 0, outcome: Trapped(MemoryNotShared) })",
-    ),
+// Pieces, and how many bytes they have.
+static PIECES: &[(&str, usize)] = &[
+    (WHOLE, 111),
+    (FIRST, 75),
+    (SECOND, 88),
+    (ONLY_END, 61),
+    (BLOCK_64, 112),
 ];
 
 #[test]
 fn pieces_are_read_and_written(rt: HostRuntime) -> Result<(), Fail> {
-    for (digits, what) in PIECES {
-        assert!(rt; is_read_and_written(rt.alloc(), digits, what)?, "{what}");
+    for (text, len) in PIECES {
+        assert_eq!(rt; text.len() / 2, *len);
+        let found = told_of(rt.alloc(), text)?;
+        let want = format!(in rt.alloc(); "{text} {text}\n{text}")?;
+        assert_eq!(rt; found.as_str(), want.as_str());
+    }
+    Ok(())
+}
+
+// Digits of outcomes, and the outcomes.
+static OUTCOMES: &[(&str, Outcome)] = &[
+    ("00", Outcome::Running),
+    ("01", Outcome::Waiting),
+    ("02", Outcome::Done(None)),
+    ("03feffffff", Outcome::Done(Some(Value::I32(0xffff_fffe)))),
+    (
+        "040100000000000080",
+        Outcome::Done(Some(Value::I64(0x8000_0000_0000_0001))),
+    ),
+    ("050a", Outcome::Trapped(Trap::MemoryNotShared)),
+];
+
+// The run of a piece, its thread, its first place, how many entries it has, its end, and its digits.
+fn told_parts(alloc: Global, piece: &Piece) -> Result<String, Fail> {
+    let digits = digits_of(alloc, piece)?;
+    let (run, thread, first) = (piece.key().run, piece.thread(), piece.first());
+    let (count, end) = (piece.entries().len(), piece.end());
+    Ok(format!(in alloc; "{run} {thread} {first} {count} {end:?} {digits}")?)
+}
+
+// The same of the piece of these digits.
+fn parts_of(alloc: Global, text: &str) -> Result<String, Fail> {
+    let piece = piece_of(alloc, text)?;
+    told_parts(alloc, &piece)
+}
+
+#[test]
+fn outcomes_are_read_and_written(rt: HostRuntime) -> Result<(), Fail> {
+    for (digits, outcome) in OUTCOMES {
+        let text = format!(in rt.alloc(); "{}{digits}", &ONLY_END[..120])?;
+        let end = Some(End {
+            steps: 3,
+            places: 0,
+            outcome: *outcome,
+        });
+        let found = parts_of(rt.alloc(), text.as_str())?;
+        let want = format!(in rt.alloc(); "1 3 0 0 {end:?} {text}")?;
+        assert_eq!(rt; found.as_str(), want.as_str());
+    }
+    Ok(())
+}
+
+// The beginning of a text, other characters, and the rest from there on.
+fn edited(
+    alloc: Global,
+    text: &str,
+    until: usize,
+    other: &str,
+    from: usize,
+) -> Result<String, Fail> {
+    let front = text.get(..until).ok_or("no beginning")?;
+    let rest = text.get(from..).ok_or("no rest")?;
+    Ok(format!(in alloc; "{front}{other}{rest}")?)
+}
+
+fn is_no_piece(alloc: Global, bytes: &[u8]) -> bool {
+    matches!(decode(alloc, bytes), Err(DecodeFault::NotAPiece))
+}
+
+fn is_no_piece_in(alloc: Global, text: &str) -> Result<bool, Fail> {
+    let bytes = bytes_of(alloc, text)?;
+    Ok(is_no_piece(alloc, &bytes))
+}
+
+// Pieces of which these digits stand in place of those from the first place until the second.
+static NO_PIECES: &[(&str, usize, &str, usize)] = &[
+    (WHOLE, 222, "00", 222),
+    (ONLY_END, 120, "06", 122),
+    (ONLY_END, 120, "0500", 122),
+    (ONLY_END, 120, "050b", 122),
+    (BLOCK_64, 88, "05", 90),
+    (BLOCK_64, 88, "0d", 90),
+];
+
+#[test]
+fn other_bytes_are_no_piece(rt: HostRuntime) -> Result<(), Fail> {
+    for (piece, until, digits, from) in NO_PIECES {
+        let text = edited(rt.alloc(), piece, *until, digits, *from)?;
+        assert!(rt; is_no_piece_in(rt.alloc(), text.as_str())?, "{text}");
+    }
+    Ok(())
+}
+
+#[test]
+fn beginnings_are_no_piece(rt: HostRuntime) -> Result<(), Fail> {
+    let bytes = bytes_of(rt.alloc(), WHOLE)?;
+    for len in 0..bytes.len() {
+        assert!(rt; is_no_piece(rt.alloc(), &bytes[..len]), "{len}");
+    }
+    Ok(())
+}
+
+// The bytes are no piece, or another piece than these with these very bytes.
+fn is_another(alloc: Global, whole: &[u8], bytes: &[u8]) -> Result<bool, Fail> {
+    match decode(alloc, bytes) {
+        Ok(piece) => {
+            let again = encode(alloc, &piece)?;
+            Ok(again.as_slice() == bytes && bytes != whole)
+        }
+        Err(fault) => Ok(fault == DecodeFault::NotAPiece),
+    }
+}
+
+// The same of the bytes of which this bit is turned.
+fn is_another_with(alloc: Global, whole: &[u8], at: usize, bit: u8) -> Result<bool, Fail>
+    requires within { at < length whole.now }
+    requires of_byte { bit < 8 }
+{
+    let mut changed = whole.to_vec(alloc)?;
+    changed[at] ^= 1 << bit;
+    is_another(alloc, whole, &changed)
+}
+
+#[test]
+fn one_bit_makes_another_piece_or_none(rt: HostRuntime) -> Result<(), Fail> {
+    let bytes = bytes_of(rt.alloc(), WHOLE)?;
+    for i in 0..bytes.len() {
+        for bit in 0..8u8 {
+            assert!(rt;
+                is_another_with(rt.alloc(), &bytes, i, bit)?,
+                "byte {i}, bit {bit}"
+            );
+        }
+    }
+    Ok(())
+}
+
+fn is_no_line(alloc: Global, text: &str) -> bool {
+    matches!(
+        read_line(alloc, text.as_bytes()),
+        Err(DecodeFault::NotAPiece)
+    )
+}
+
+// What stands in place of the digits of `WHOLE` from the first place until the second, and what stands behind them.
+static NO_LINES: &[(usize, &str, usize, &str)] = &[
+    (0, "", 222, ""),
+    (0, "", 222, "\n"),
+    (222, "", 222, ""),
+    (222, "", 222, "\r\n"),
+    (222, "", 222, "\n\n"),
+    (0, " ", 0, "\n"),
+    (222, "0", 222, "\n"),
+    (220, "", 222, "\n"),
+    (8, "AA", 10, "\n"),
+];
+
+#[test]
+fn other_lines_are_no_piece(rt: HostRuntime) -> Result<(), Fail> {
+    for (until, other, from, end) in NO_LINES {
+        let mut text = edited(rt.alloc(), WHOLE, *until, other, *from)?;
+        text.push_str(end)?;
+        assert!(rt; is_no_line(rt.alloc(), text.as_str()), "{text:?}");
     }
     Ok(())
 }
@@ -117,106 +270,143 @@ fn entry(alloc: Global, objects: &[u32]) -> Entry {
     }
 }
 
-/// The parts of a piece: the size of a block in profile 2, the thread, the first place, how many entries there are, the
-/// objects of each, and behind how many steps and places the thread ends.
-type Parts = (
-    Option<u32>,
-    u32,
-    u32,
-    usize,
-    &'static [u32],
-    Option<(u32, u32)>,
-);
-
-/// The piece of these parts, or why there is none.
-pub(crate) fn piece_of(alloc: Global, parts: &Parts) -> Result<Result<Piece, PieceFault>, Fail> {
-    let (block, thread, first, count, objects, end) = *parts;
-    let profile = match block {
-        None => Profile::One,
-        Some(size) => Profile::Two(Block::new(size)?),
-    };
+// The fault of so many entries that touch these objects, with an end behind so many steps and places, if there is one.
+fn fault(
+    alloc: Global,
+    profile: Profile,
+    thread: u32,
+    first: u32,
+    count: usize,
+    objects: &[u32],
+    end: Option<(u32, u32)>,
+) -> Result<Option<PieceFault>, Fail> {
     let key = RunKey {
         digest: [0; 32],
         run: 0,
         profile,
     };
-    let end = end.map(|(steps, places)| End {
-        steps,
-        places,
-        outcome: Outcome::Running,
-    });
     let mut entries = Vec::new(alloc);
     for _ in 0..count {
         entries.push(entry(alloc, objects))?;
     }
-    Ok(Piece::new(key, thread, first, entries, end))
+    Ok(Piece::new(key, thread, first, entries, end_of(end)).err())
 }
 
-/// Parts, and the rule that they break first.
-static RULES: &[(Parts, Option<PieceFault>)] = &[
+fn end_of(end: Option<(u32, u32)>) -> Option<End> {
+    let (steps, places) = end?;
+    Some(End {
+        steps,
+        places,
+        outcome: Outcome::Running,
+    })
+}
+
+// The thread, the first place, how many entries there are, the objects of each, the end, and the fault.
+type Rule = (
+    u32,
+    u32,
+    usize,
+    &'static [u32],
+    Option<(u32, u32)>,
+    Option<PieceFault>,
+);
+
+static RULES: &[Rule] = &[
+    (16, 1_000_000_001, 0, &[], None, Some(PieceFault::Empty)),
     (
-        (None, 16, 1_000_000_001, 0, &[], None),
-        Some(PieceFault::Empty),
-    ),
-    (
-        (None, 16, 1_000_000_000, 4097, &[], None),
+        16,
+        1_000_000_000,
+        4097,
+        &[],
+        None,
         Some(PieceFault::TooMany),
     ),
-    ((None, 0, 0, 4096, &[1], None), None),
+    (0, 0, 4096, &[1], None, None),
+    (16, 1_000_000_000, 1, &[], None, Some(PieceFault::PastEnd)),
+    (0, 999_999_999, 1, &[1], None, None),
+    (0, 3, 2, &[1], Some((9, 4)), Some(PieceFault::PastEnd)),
+    (0, 3, 2, &[1], Some((9, 5)), None),
+    (0, 0, 1, &[1], Some((2, 3)), Some(PieceFault::PastEnd)),
     (
-        (None, 16, 1_000_000_000, 1, &[], None),
+        0,
+        0,
+        1,
+        &[1],
+        Some((1_000_000_001, 1)),
         Some(PieceFault::PastEnd),
     ),
-    ((None, 0, 999_999_999, 1, &[1], None), None),
-    (
-        (None, 0, 3, 2, &[1], Some((9, 4))),
-        Some(PieceFault::PastEnd),
-    ),
-    ((None, 0, 3, 2, &[1], Some((9, 5))), None),
-    (
-        (None, 0, 0, 1, &[1], Some((2, 3))),
-        Some(PieceFault::PastEnd),
-    ),
-    (
-        (None, 0, 0, 1, &[1], Some((1_000_000_001, 1))),
-        Some(PieceFault::PastEnd),
-    ),
-    ((None, 0, 0, 0, &[], Some((0, 0))), None),
-    ((None, 16, 0, 1, &[], None), Some(PieceFault::BadThread)),
-    ((None, 15, 0, 1, &[1], None), None),
-    ((None, 0, 0, 1, &[], None), Some(PieceFault::BadEntry)),
-    ((None, 0, 0, 1, &[0, 1, 32_768], None), None),
-    ((None, 0, 0, 1, &[32_769], None), Some(PieceFault::BadEntry)),
-    ((None, 0, 0, 1, &[1, 1], None), Some(PieceFault::BadEntry)),
-    (
-        (None, 0, 0, 1, &[1, 3, 2], None),
-        Some(PieceFault::BadEntry),
-    ),
-    ((Some(64), 0, 0, 1, &[524_288], None), None),
-    (
-        (Some(64), 0, 0, 1, &[524_289], None),
-        Some(PieceFault::BadEntry),
-    ),
-    ((Some(4096), 0, 0, 1, &[8_192], None), None),
-    (
-        (Some(4096), 0, 0, 1, &[8_193], None),
-        Some(PieceFault::BadEntry),
-    ),
-    (
-        (Some(4096), 0, 0, 1, &[2, 1], None),
-        Some(PieceFault::BadEntry),
-    ),
+    (0, 0, 0, &[], Some((0, 0)), None),
+    (16, 0, 1, &[], None, Some(PieceFault::BadThread)),
+    (15, 0, 1, &[1], None, None),
+    (0, 0, 1, &[], None, Some(PieceFault::BadEntry)),
 ];
-
-/// The rule that these parts break first, if they break one.
-fn fault(alloc: Global, parts: &Parts) -> Result<Option<PieceFault>, Fail> {
-    Ok(piece_of(alloc, parts)?.err())
-}
 
 #[test]
 fn rules_are_tested_in_their_order(rt: HostRuntime) -> Result<(), Fail> {
-    for (parts, want) in RULES {
-        assert!(rt; fault(rt.alloc(), parts)? == *want, "{want:?}");
+    for (thread, first, count, objects, end, want) in RULES {
+        let found = fault(
+            rt.alloc(),
+            Profile::One,
+            *thread,
+            *first,
+            *count,
+            objects,
+            *end,
+        )?;
+        assert_eq!(rt; found, *want, "{thread} {first} {count}");
     }
+    Ok(())
+}
+
+// The size of a block in profile 2, the objects of an entry, and the fault.
+static OBJECTS: &[(Option<u32>, &[u32], Option<PieceFault>)] = &[
+    (None, &[0, 1, 32_768], None),
+    (None, &[32_769], Some(PieceFault::BadEntry)),
+    (None, &[1, 1], Some(PieceFault::BadEntry)),
+    (None, &[1, 3, 2], Some(PieceFault::BadEntry)),
+    (None, &[], Some(PieceFault::BadEntry)),
+    (Some(64), &[524_288], None),
+    (Some(64), &[524_289], Some(PieceFault::BadEntry)),
+    (Some(4096), &[8_192], None),
+    (Some(4096), &[8_193], Some(PieceFault::BadEntry)),
+    (Some(4096), &[2, 1], Some(PieceFault::BadEntry)),
+];
+
+fn profile_of(block: Option<u32>) -> Result<Profile, Fail> {
+    match block {
+        None => Ok(Profile::One),
+        Some(size) => Ok(Profile::Two(Block::new(size)?)),
+    }
+}
+
+#[test]
+fn entries_touch_rising_objects(rt: HostRuntime) -> Result<(), Fail> {
+    for (block, objects, want) in OBJECTS {
+        let profile = profile_of(*block)?;
+        let found = fault(rt.alloc(), profile, 0, 0, 1, objects, None)?;
+        assert_eq!(rt; found, *want, "{profile:?} {objects:?}");
+    }
+    Ok(())
+}
+
+// The end of `WHOLE`.
+fn end_of_whole(alloc: Global) -> Result<End, Fail> {
+    let piece = piece_of(alloc, WHOLE)?;
+    Ok(piece.end().ok_or("the piece has an end")?)
+}
+
+#[test]
+fn ends_have_a_text(rt: HostRuntime) -> Result<(), Fail> {
+    let end = end_of_whole(rt.alloc())?;
+    assert_eq!(rt; end.copy(rt.alloc())?, end);
+    let text = format!(in rt.alloc();
+        "{end}; {}; {}",
+        DecodeFault::NotAPiece,
+        PieceFault::BadThread
+    )?;
+    assert_eq!(rt;
+        text.as_str(),
+        "steps=8 places=2 i32 1; not a piece; a thread above 15"
+    );
     Ok(())
 }

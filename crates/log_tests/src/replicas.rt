@@ -1,16 +1,182 @@
-//! Pieces that are delivered, and logs that are merged.
+//! Pieces that are gathered, delivered and merged.
 
-use crate::examples::{
-    FIRST, FOUR_LISTED, FOURTH, OTHER_END, OTHER_FIRST, SECOND, STRAY, THIRD, WHOLE,
+ghost use Rattle.std.specs.Prelude.{◌<◌};
+
+use join_laws::Flat;
+use line_faults::{BytesFault, LineFault};
+use log_pieces::{End, Piece, read_line};
+use replica::{
+    GatherFault, ListingForm, Log, MemorySink, MemorySource, Replica, ReplicaFault, Sink, Source,
+    collect, gather, listing,
 };
-use crate::pieces::piece_of;
-use log_pieces::Piece;
-use replica::{Log, MemorySource, Replica, ReplicaFault, collect, listing};
+use rw_objects::{Entry, Few, Found, Kind};
 use std::alloc::Global;
+use std::process::Abort;
 use std::test::Fail;
-use wasm_types::NoMemory;
+use wasm_types::{NoMemory, Outcome, Profile, RunKey, Same};
 
-/// The lines of these pieces.
+// Thread 0 with two writes and its end.
+pub(crate) const WHOLE: &str = "\
+    49525001aaaaaaaaaaaaaaaaaaaaaaaaaaaaaaaaaaaaaaaaaaaaaaaaaaaaaaaaaaaaaaaa0100000000000000000000\
+    0000020001000101000000010000000000000000000000000000000000010100000001010000000000000000000000\
+    0000000008000000020000000301000000";
+
+// Its first entry.
+pub(crate) const FIRST: &str = "\
+    49525001aaaaaaaaaaaaaaaaaaaaaaaaaaaaaaaaaaaaaaaaaaaaaaaaaaaaaaaaaaaaaaaa0100000000000000000000\
+    00000100000001010000000100000000000000000000000000000000";
+
+// Its second entry and its end.
+pub(crate) const SECOND: &str = "\
+    49525001aaaaaaaaaaaaaaaaaaaaaaaaaaaaaaaaaaaaaaaaaaaaaaaaaaaaaaaaaaaaaaaa0100000000000000000100\
+    0000010001000101000000010100000000000000000000000000000008000000020000000301000000";
+
+// The first entry of thread 1.
+const THIRD: &str = "\
+    49525001aaaaaaaaaaaaaaaaaaaaaaaaaaaaaaaaaaaaaaaaaaaaaaaaaaaaaaaaaaaaaaaa0100000000000000010000\
+    00000100000001010000000102000000000000000000000000000000";
+
+// Its second entry and its end.
+const FOURTH: &str = "\
+    49525001aaaaaaaaaaaaaaaaaaaaaaaaaaaaaaaaaaaaaaaaaaaaaaaaaaaaaaaaaaaaaaaa0100000000000000010100\
+    0000010001000101000000010300000000000000000000000000000008000000020000000303000000";
+
+// Thread 3 with no entry and an end.
+const ONLY_END: &str = "\
+    49525001aaaaaaaaaaaaaaaaaaaaaaaaaaaaaaaaaaaaaaaaaaaaaaaaaaaaaaaaaaaaaaaa0100000000000000030000\
+    0000000001030000000000000002";
+
+// Another first entry of thread 0: version 5 was written.
+const OTHER_FIRST: &str = "\
+    49525001aaaaaaaaaaaaaaaaaaaaaaaaaaaaaaaaaaaaaaaaaaaaaaaaaaaaaaaaaaaaaaaa0100000000000000000000\
+    00000100000001010000000105000000000000000000000000000000";
+
+// An entry of thread 0 at place 2, which is past its end.
+const STRAY: &str = "\
+    49525001aaaaaaaaaaaaaaaaaaaaaaaaaaaaaaaaaaaaaaaaaaaaaaaaaaaaaaaaaaaaaaaa0100000000000000000200\
+    00000100000001010000000100000000000000000000000000000000";
+
+// Another end of thread 0: after nine steps.
+const OTHER_END: &str = "\
+    49525001aaaaaaaaaaaaaaaaaaaaaaaaaaaaaaaaaaaaaaaaaaaaaaaaaaaaaaaaaaaaaaaa0100000000000000000000\
+    000000000109000000020000000301000000";
+
+// The first entry in run 2.
+pub(crate) const OTHER_RUN: &str = "\
+    49525001aaaaaaaaaaaaaaaaaaaaaaaaaaaaaaaaaaaaaaaaaaaaaaaaaaaaaaaaaaaaaaaa0200000000000000000000\
+    00000100000001010000000100000000000000000000000000000000";
+
+// Thread 0 whole, in profile 2 with blocks of 64 bytes.
+pub(crate) const BLOCK_64: &str = "\
+    49525002aaaaaaaaaaaaaaaaaaaaaaaaaaaaaaaaaaaaaaaaaaaaaaaaaaaaaaaaaaaaaaaa0100000000000000060000\
+    0000000200010001010000000100000000000000000000000000000000000101000000010100000000000000000000\
+    000000000008000000020000000301000000";
+
+// The listing's line of the run, without its end.
+pub(crate) const RUN: &str =
+    "run aaaaaaaaaaaaaaaaaaaaaaaaaaaaaaaaaaaaaaaaaaaaaaaaaaaaaaaaaaaaaaaa:1";
+
+// The rest of the listing of `WHOLE`.
+pub(crate) const WHOLE_LISTED: &str = "\
+0.0 access w1@0/0
+0.1 access w1@1/0
+0 end steps=8 places=2 i32 1
+ends 1 missing 0 strays 0 clashes 0
+";
+
+// The listing of `WHOLE`.
+pub(crate) const WHOLE_TEXT: &str = "\
+run aaaaaaaaaaaaaaaaaaaaaaaaaaaaaaaaaaaaaaaaaaaaaaaaaaaaaaaaaaaaaaaa:1
+0.0 access w1@0/0
+0.1 access w1@1/0
+0 end steps=8 places=2 i32 1
+ends 1 missing 0 strays 0 clashes 0
+";
+
+// The rest of the listing of `FIRST`, `SECOND`, `THIRD` and `FOURTH`.
+const FOUR_LISTED: &str = "\
+0.0 access w1@0/0
+0.1 access w1@1/0
+0 end steps=8 places=2 i32 1
+1.0 access w1@2/0
+1.1 access w1@3/0
+1 end steps=8 places=2 i32 3
+ends 2 missing 0 strays 0 clashes 0
+";
+
+/// How bytes come and go: how many at a call, and which call of the source and of the sink fails.
+#[derive(Clone, Copy)]
+struct Devices {
+    most: usize,
+    source_fails_at: Option<u64>,
+    sink_fails_at: Option<u64>,
+    ghost some: { 0 < most },
+}
+
+const LARGE: Devices = Devices {
+    most: 1_000_000,
+    source_fails_at: None,
+    sink_fails_at: None,
+};
+
+/// What `gather` answered, how many calls of the source and of the sink failed, and whether the sink took what was wanted.
+#[derive(Clone, Copy, Debug, PartialEq, Eq)]
+struct Gathered {
+    answer: Result<(), GatherFault>,
+    source_failures: u64,
+    sink_failures: u64,
+    has_taken: bool,
+}
+
+const LISTED: Gathered = Gathered {
+    answer: Ok(()),
+    source_failures: 0,
+    sink_failures: 0,
+    has_taken: true,
+};
+
+const fn failed(fault: GatherFault, source_failures: u64, sink_failures: u64) -> Gathered {
+    Gathered {
+        answer: Err(fault),
+        source_failures,
+        sink_failures,
+        has_taken: true,
+    }
+}
+
+/// What gathering the text comes to over these devices, of which the sink is wanted to take these bytes.
+fn gather_over(alloc: Global, text: &str, devices: &Devices, wanted: &[u8]) -> Gathered {
+    let mut source = MemorySource::new(text.as_bytes(), devices.most, devices.source_fails_at);
+    let mut sink = MemorySink::new(alloc, devices.most, devices.sink_fails_at);
+    let answer = gather(alloc, &mut source, &mut sink, ListingForm::Plain);
+    Gathered {
+        answer,
+        source_failures: source.failures(),
+        sink_failures: sink.failures(),
+        has_taken: sink.taken() == wanted,
+    }
+}
+
+fn same(rt: &impl Abort, found: &Gathered, want: &Gathered, row: &str) {
+    assert_eq!(rt; *found, *want, "{row}");
+}
+
+/// The piece that these digits spell.
+fn piece(alloc: Global, digits: &str) -> Result<Piece, Fail> {
+    let text = format!(in alloc; "{digits}\n")?;
+    Ok(read_line(alloc, text.as_bytes())?)
+}
+
+/// These pieces delivered to a replica of the run of `WHOLE`.
+fn delivered(alloc: Global, pieces: &[&str]) -> Result<Replica, Fail> {
+    let mut replica = Replica::new(alloc, *piece(alloc, WHOLE)?.key());
+    for digits in pieces {
+        replica.deliver(alloc, &piece(alloc, digits)?)?;
+    }
+    Ok(replica)
+}
+
+/// Lines of these pieces, each with its end.
 fn lines(alloc: Global, pieces: &[&str]) -> Result<String, NoMemory> {
     let mut text = String::new(alloc);
     for digits in pieces {
@@ -20,178 +186,613 @@ fn lines(alloc: Global, pieces: &[&str]) -> Result<String, NoMemory> {
     Ok(text)
 }
 
-/// A replica of the run of these pieces.
-fn collected(alloc: Global, pieces: &[&str]) -> Result<Replica, Fail> {
+/// A listing of the run of `WHOLE`, of which these are the lines behind the first.
+fn listing_of(alloc: Global, listed: &str) -> Result<String, NoMemory> {
+    Ok(format!(in alloc; "{RUN}\n{listed}")?)
+}
+
+/// What gathering these pieces comes to, whose listing is wanted to be this one.
+fn gathered_from(
+    alloc: Global,
+    pieces: &[&str],
+    devices: &Devices,
+    listed: &str,
+) -> Result<Gathered, NoMemory> {
     let text = lines(alloc, pieces)?;
-    let replica = collect(alloc, &mut MemorySource::new(text.as_bytes(), 100, None))?;
-    Ok(replica.ok_or("no piece")?)
+    let wanted = listing_of(alloc, listed)?;
+    Ok(gather_over(alloc, &text, devices, wanted.as_bytes()))
 }
 
-/// How many known ends, missing places, strays, clashes and runs of the places of thread 0, and whether the log is that of
-/// no, of one and of two threads.
-type Counts = ([u64; 4], u32, [bool; 3]);
+/// The same where the last line lacks its end.
+fn gathered_from_open(alloc: Global, pieces: &[&str], listed: &str) -> Result<Gathered, NoMemory> {
+    let text = lines(alloc, pieces)?;
+    let wanted = listing_of(alloc, listed)?;
+    Ok(gather_over(alloc, text.trim_end(), &LARGE, wanted.as_bytes()))
+}
 
-fn counts_of(log: &Log) -> Counts {
+static EXAMPLES: &[(&[&str], &str)] = &[
+    (&[SECOND, FIRST, WHOLE, WHOLE], WHOLE_LISTED),
+    (&[WHOLE], WHOLE_LISTED),
     (
-        [log.ends(), log.missing(), log.strays(), log.clashes()],
-        log.runs(0),
-        [log.complete(0), log.complete(1), log.complete(2)],
-    )
-}
-
-fn collected_counts(alloc: Global, pieces: &[&str]) -> Result<Counts, Fail> {
-    Ok(counts_of(collected(alloc, pieces)?.log()))
-}
-
-static COUNTED: &[(&[&str], Counts)] = &[
-    (&[SECOND, FIRST], ([1, 0, 0, 0], 1, [false, true, false])),
-    (&[FIRST], ([0, 0, 0, 0], 1, [false, false, false])),
-    (&[SECOND], ([1, 1, 0, 0], 1, [false, false, false])),
-    (&[WHOLE, STRAY], ([1, 0, 1, 0], 1, [false, false, false])),
-    (&[FIRST, STRAY], ([0, 0, 0, 0], 2, [false, false, false])),
-    (
-        &[WHOLE, OTHER_FIRST],
-        ([1, 0, 0, 1], 1, [false, false, false]),
+        &[ONLY_END],
+        "3 end steps=3 places=0 none\nends 1 missing 0 strays 0 clashes 0\n",
     ),
     (
-        &[WHOLE, OTHER_END],
-        ([0, 0, 0, 1], 1, [false, false, false]),
+        &[SECOND],
+        "0.1 access w1@1/0\n0 end steps=8 places=2 i32 1\nends 1 missing 1 strays 0 clashes 0\n",
+    ),
+    (
+        &[WHOLE, OTHER_FIRST],
+        "0.0 clash\n0.1 access w1@1/0\n0 end steps=8 places=2 i32 1\nends 1 missing 0 strays 0 clashes 1\n",
+    ),
+    (
+        &[OTHER_FIRST, WHOLE],
+        "0.0 clash\n0.1 access w1@1/0\n0 end steps=8 places=2 i32 1\nends 1 missing 0 strays 0 clashes 1\n",
     ),
 ];
 
 #[test]
-fn counts_say_what_a_log_lacks(rt: HostRuntime) -> Result<(), Fail> {
-    for (pieces, counts) in COUNTED {
-        assert!(rt;
-            collected_counts(rt.alloc(), pieces)? == *counts,
-            "{}",
-            pieces.len()
+fn listings_are_as_in_worked_examples(rt: HostRuntime) -> Result<(), Fail> {
+    for (pieces, listed) in EXAMPLES {
+        let found = gathered_from(rt.alloc(), pieces, &LARGE, listed)?;
+        same(&rt, &found, &LISTED, listed);
+        let open = gathered_from_open(rt.alloc(), pieces, listed)?;
+        same(&rt, &open, &LISTED, listed);
+    }
+    Ok(())
+}
+
+pub(crate) const NO_PIECES: &[u8] = b"run none\nends 0 missing 0 strays 0 clashes 0\n";
+
+/// What gathering `BLOCK_64` comes to.
+fn gathered_blocks(alloc: Global) -> Result<Gathered, NoMemory> {
+    let wanted = format!(in alloc; "{RUN}:64\n{WHOLE_LISTED}")?;
+    Ok(gather_over(alloc, BLOCK_64, &LARGE, wanted.as_bytes()))
+}
+
+/// Whether no pieces make no log.
+fn makes_no_log(alloc: Global) -> bool {
+    match collect(alloc, &mut MemorySource::new(b"", 1, None)) {
+        Ok(replica) => replica.is_none(),
+        Err(_) => false,
+    }
+}
+
+#[test]
+fn no_line_and_profile_2_have_listings(rt: HostRuntime) -> Result<(), Fail> {
+    let none = gather_over(rt.alloc(), "", &LARGE, NO_PIECES);
+    same(&rt, &none, &LISTED, "no line");
+    assert!(rt; makes_no_log(rt.alloc()));
+    same(&rt, &gathered_blocks(rt.alloc())?, &LISTED, "profile 2");
+    Ok(())
+}
+
+static FOUR: [&str; 4] = [SECOND, FIRST, FOURTH, THIRD];
+
+/// In this order.
+fn gathered_four(
+    alloc: Global,
+    first: usize,
+    second: usize,
+    third: usize,
+    fourth: usize,
+) -> Result<Gathered, NoMemory> {
+    let pieces = [
+        FOUR[first % 4],
+        FOUR[second % 4],
+        FOUR[third % 4],
+        FOUR[fourth % 4],
+    ];
+    gathered_from(alloc, &pieces, &LARGE, FOUR_LISTED)
+}
+
+#[test]
+fn every_order_gives_the_same_listing(rt: HostRuntime) -> Result<(), Fail> {
+    for first in 0..4usize {
+        for step in 1..4usize {
+            // The first, another one, and then the two that are left, in both orders.
+            let second = (first + step) % 4;
+            let third = (first + step % 3 + 1) % 4;
+            let fourth = (first + (step + 1) % 3 + 1) % 4;
+            let found = gathered_four(rt.alloc(), first, second, third, fourth)?;
+            same(&rt, &found, &LISTED, FOUR[first]);
+            let found = gathered_four(rt.alloc(), first, second, fourth, third)?;
+            same(&rt, &found, &LISTED, FOUR[first]);
+        }
+    }
+    Ok(())
+}
+
+/// What gathering a text of these parts comes to, of which nothing is wanted to be written.
+fn gathered_parts(alloc: Global, parts: &[&str]) -> Result<Gathered, NoMemory> {
+    let mut text = String::new(alloc);
+    for part in parts {
+        text.push_str(part)?;
+    }
+    Ok(gather_over(alloc, &text, &LARGE, b""))
+}
+
+/// The parts of a text, and the fault of its first faulty line.
+static REFUSED: &[(&[&str], GatherFault)] = &[
+    (
+        &["no piece\n"],
+        GatherFault::BadLine {
+            line: 1,
+            reason: LineFault::NotADigit {
+                column: 1,
+                byte: b'n',
+            },
+        },
+    ),
+    (
+        &[WHOLE, "\n", FIRST, "\nno piece\n", WHOLE, "\n"],
+        GatherFault::BadLine {
+            line: 3,
+            reason: LineFault::NotADigit {
+                column: 1,
+                byte: b'n',
+            },
+        },
+    ),
+    (
+        &[WHOLE, "00\n"],
+        GatherFault::BadLine {
+            line: 1,
+            reason: LineFault::Bytes(BytesFault::LeftOver { bytes: 1 }),
+        },
+    ),
+    (
+        &["\n", WHOLE, "\n"],
+        GatherFault::BadLine {
+            line: 1,
+            reason: LineFault::Empty,
+        },
+    ),
+    (
+        &[WHOLE, "\n\n"],
+        GatherFault::BadLine {
+            line: 2,
+            reason: LineFault::Empty,
+        },
+    ),
+    (
+        &[WHOLE, "\r\n"],
+        GatherFault::BadLine {
+            line: 1,
+            reason: LineFault::CarriageReturn,
+        },
+    ),
+    (
+        &[WHOLE, "\r"],
+        GatherFault::BadLine {
+            line: 1,
+            reason: LineFault::CarriageReturn,
+        },
+    ),
+    (
+        &["\0\0", WHOLE, "\n"],
+        GatherFault::BadLine {
+            line: 1,
+            reason: LineFault::NotADigit { column: 1, byte: 0 },
+        },
+    ),
+    (
+        &[WHOLE, "\n\0"],
+        GatherFault::BadLine {
+            line: 2,
+            reason: LineFault::NotADigit { column: 1, byte: 0 },
+        },
+    ),
+    (
+        &[WHOLE, "\n", OTHER_RUN, "\nno piece\n"],
+        GatherFault::OtherRun { line: 2 },
+    ),
+    (
+        &[WHOLE, "\n", FIRST, "\n", OTHER_RUN],
+        GatherFault::OtherRun { line: 3 },
+    ),
+    (
+        &[WHOLE, "\n", BLOCK_64, "\n"],
+        GatherFault::OtherRun { line: 2 },
+    ),
+    (
+        &[BLOCK_64, "\n", WHOLE, "\n"],
+        GatherFault::OtherRun { line: 2 },
+    ),
+];
+
+#[test]
+fn refused_lines_have_their_numbers(rt: HostRuntime) -> Result<(), Fail> {
+    for (parts, fault) in REFUSED {
+        let found = gathered_parts(rt.alloc(), parts)?;
+        same(&rt, &found, &failed(*fault, 0, 0), "refused");
+    }
+    Ok(())
+}
+
+#[test]
+fn lines_that_are_cut_or_in_upper_case_are_refused(rt: HostRuntime) -> Result<(), Fail> {
+    let upper_case = GatherFault::BadLine {
+        line: 2,
+        reason: LineFault::UpperCase { column: 9 },
+    };
+    let short = GatherFault::BadLine {
+        line: 1,
+        reason: LineFault::Bytes(BytesFault::TooShort),
+    };
+    let odd = GatherFault::BadLine {
+        line: 1,
+        reason: LineFault::OddDigits { digits: 221 },
+    };
+    let upper = [WHOLE, "\n", &WHOLE[..8], "AA", &WHOLE[10..], "\n"];
+    let found = gathered_parts(rt.alloc(), &upper)?;
+    same(&rt, &found, &failed(upper_case, 0, 0), "AA");
+    let found = gathered_parts(rt.alloc(), &[&WHOLE[..220], "\n"])?;
+    same(&rt, &found, &failed(short, 0, 0), "220");
+    let found = gathered_parts(rt.alloc(), &[&WHOLE[..221]])?;
+    same(&rt, &found, &failed(odd, 0, 0), "221");
+    Ok(())
+}
+
+/// Why collecting the bytes by 65,536 at a call fails, where this call of the source does, and how many of its calls do.
+fn collected(alloc: Global, bytes: &[u8], fails_at: u64) -> (Option<GatherFault>, u64) {
+    let mut source = MemorySource::new(bytes, 65_536, Some(fails_at));
+    let fault = collect(alloc, &mut source).err();
+    (fault, source.failures())
+}
+
+#[test]
+fn a_line_without_end_is_refused_before_the_source_ends(rt: HostRuntime) -> Result<(), Fail> {
+    // Longer than any piece line after nine reads of 65,536 bytes; the tenth would fail.
+    let bytes = vec![in rt.alloc(); b'0'; 700_000]?;
+    let refused = Some(GatherFault::BadLine {
+        line: 1,
+        reason: LineFault::TooLong,
+    });
+    assert!(rt; collected(rt.alloc(), &bytes, 10) == (refused, 0));
+    let fails = Some(GatherFault::SourceFailed);
+    assert!(rt; collected(rt.alloc(), &bytes, 9) == (fails, 1));
+    Ok(())
+}
+
+/// 774 bytes: 9 calls of the source at 100 bytes a call, the last of which brings nothing.
+static FOUR_LINES: [&str; 4] = [SECOND, FIRST, WHOLE, WHOLE];
+
+#[test]
+fn single_bytes_are_gathered(rt: HostRuntime) -> Result<(), Fail> {
+    let single = Devices {
+        most: 1,
+        source_fails_at: None,
+        sink_fails_at: None,
+    };
+    let found = gathered_from(rt.alloc(), &FOUR_LINES, &single, WHOLE_LISTED)?;
+    same(&rt, &found, &LISTED, "single bytes");
+    Ok(())
+}
+
+/// Where this call of the source fails, nothing is wanted to be written.
+fn gathered_failing(alloc: Global, call: u64) -> Result<Gathered, NoMemory> {
+    let devices = Devices {
+        most: 100,
+        source_fails_at: Some(call),
+        sink_fails_at: None,
+    };
+    let text = lines(alloc, &FOUR_LINES)?;
+    Ok(gather_over(alloc, &text, &devices, b""))
+}
+
+#[test]
+fn a_failing_source_is_answered(rt: HostRuntime) -> Result<(), Fail> {
+    for call in 1..10u64 {
+        let found = gathered_failing(rt.alloc(), call)?;
+        same(
+            &rt,
+            &found,
+            &failed(GatherFault::SourceFailed, 1, 0),
+            "source",
         );
     }
     Ok(())
 }
 
-/// The run of the log of these pieces, what is claimed at two places, what a cursor reads there, and two ends.
-fn claims(alloc: Global, pieces: &[&str]) -> Result<String, Fail> {
-    let replica = collected(alloc, pieces)?;
-    let log = replica.log();
-    let mut claim = None;
-    if let Some(mut cursor) = log.cursor(0) {
-        cursor.read(1, &mut claim);
-    }
-    Ok(format!(in alloc;
-        "{}\n{:?}\n{:?}\n{claim:?}\n{:?}\n{:?}\n",
-        log.key(),
-        log.entry(0, 0),
-        log.entry(0, 1),
-        log.end(0),
-        log.end(16)
-    )?)
+/// Where a sink that takes a byte a call fails behind so many, these are wanted to be written.
+fn gathered_up_to(alloc: Global, text: &str, wanted: &[u8]) -> Gathered {
+    let devices = Devices {
+        most: 1,
+        source_fails_at: None,
+        sink_fails_at: Some((wanted.len() as u64).saturating_add(1)),
+    };
+    gather_over(alloc, text, &devices, wanted)
 }
 
-const CLAIMS: &str = "\
-aaaaaaaaaaaaaaaaaaaaaaaaaaaaaaaaaaaaaaaaaaaaaaaaaaaaaaaaaaaaaaaa:1
-Some(Clash)
-Some(Known(Entry { kind: Access, found: Few { list: [Write { object: 1, version: 1, reads: 0 }] } }))
-Some(Known(Entry { kind: Access, found: Few { list: [Write { object: 1, version: 1, reads: 0 }] } }))
-Some(Known(End { steps: 8, places: 2, outcome: Done(Some(I32(1))) }))
-None
-";
+/// A sink that takes a byte a call fails at each of its calls in turn.
+#[test]
+fn a_failing_sink_is_answered(rt: HostRuntime) -> Result<(), Fail> {
+    let text = lines(rt.alloc(), &FOUR_LINES)?;
+    let wanted = WHOLE_TEXT.as_bytes();
+    for call in 0..wanted.len() {
+        let found = gathered_up_to(rt.alloc(), &text, &wanted[..call]);
+        same(&rt, &found, &failed(GatherFault::SinkFailed, 0, 1), "sink");
+    }
+    Ok(())
+}
+
+#[test]
+fn devices_that_fail_behind_the_last_call_do_not_matter(rt: HostRuntime) -> Result<(), Fail> {
+    let last = Devices {
+        most: 100,
+        source_fails_at: Some(10),
+        sink_fails_at: Some(WHOLE_TEXT.len() as u64 + 1),
+    };
+    let found = gathered_from(rt.alloc(), &FOUR_LINES, &last, WHOLE_LISTED)?;
+    same(&rt, &found, &LISTED, "last");
+    Ok(())
+}
+
+#[test]
+fn a_bad_line_comes_before_a_later_failure(rt: HostRuntime) {
+    let devices = Devices {
+        most: 100,
+        source_fails_at: Some(2),
+        sink_fails_at: None,
+    };
+    let found = gather_over(rt.alloc(), "no piece\n", &devices, b"");
+    let fault = GatherFault::BadLine {
+        line: 1,
+        reason: LineFault::NotADigit {
+            column: 1,
+            byte: b'n',
+        },
+    };
+    let want = failed(fault, 0, 0);
+    same(&rt, &found, &want, "no piece");
+}
+
+/// How many known ends, missing places, strays and clashes, and whether the log is that of no, of one and of two threads.
+type Counts = ([u64; 4], [bool; 3]);
+
+fn counts_of(log: &Log) -> Counts {
+    (
+        [log.ends(), log.missing(), log.strays(), log.clashes()],
+        [log.complete(0), log.complete(1), log.complete(2)],
+    )
+}
+
+fn delivered_counts(alloc: Global, pieces: &[&str]) -> Result<Counts, Fail> {
+    let replica = delivered(alloc, pieces)?;
+    Ok(counts_of(replica.log()))
+}
+
+static COUNTED: &[(&[&str], Counts)] = &[
+    (&[], ([0, 0, 0, 0], [true, false, false])),
+    (&[SECOND, FIRST], ([1, 0, 0, 0], [false, true, false])),
+    (&[FIRST], ([0, 0, 0, 0], [false, false, false])),
+    (&[SECOND], ([1, 1, 0, 0], [false, false, false])),
+    (&[WHOLE, STRAY], ([1, 0, 1, 0], [false, false, false])),
+    (&[WHOLE, OTHER_FIRST], ([1, 0, 0, 1], [false, false, false])),
+    (&[WHOLE, OTHER_END], ([0, 0, 0, 1], [false, false, false])),
+];
+
+#[test]
+fn counts_say_what_a_log_lacks(rt: HostRuntime) -> Result<(), Fail> {
+    for (pieces, counts) in COUNTED {
+        let found = delivered_counts(rt.alloc(), pieces)?;
+        assert_eq!(rt; found, *counts);
+    }
+    Ok(())
+}
 
 #[test]
 fn items_are_known_or_clash(rt: HostRuntime) -> Result<(), Fail> {
-    let text = claims(rt.alloc(), &[SECOND, OTHER_FIRST, FIRST])?;
-    assert!(rt; text.as_str() == CLAIMS, "{text}");
+    let alloc = rt.alloc();
+    let whole = piece(alloc, WHOLE)?;
+    let second = whole.entries().get(1).ok_or("the piece has two entries")?;
+    let replica = delivered(alloc, &[SECOND, OTHER_FIRST, FIRST])?;
+    let log = replica.log();
+    assert_eq!(rt; log.key(), whole.key());
+    assert_eq!(rt; log.entry(0, 0), Some(Flat::Clash));
+    assert_eq!(rt; log.entry(0, 1), Some(Flat::Known(second.copy(alloc)?)));
+    assert_eq!(rt; log.end(0), whole.end().map(Flat::Known));
+    for (thread, place) in [(0, 2), (1, 0), (15, 1), (16, 0), (u32::MAX, u32::MAX)] {
+        assert_eq!(rt; log.entry(thread, place), None);
+        assert!(rt; thread == 0 || log.end(thread).is_none());
+    }
+    let other = delivered(alloc, &[WHOLE, OTHER_END])?;
+    assert_eq!(rt; other.log().end(0), Some(Flat::Clash));
     Ok(())
-}
-
-/// The answers to a piece and to a log of another run.
-fn refusals(alloc: Global) -> Result<(Option<ReplicaFault>, Option<ReplicaFault>), Fail> {
-    let piece = piece_of(alloc, &(Some(64), 0, 0, 1, &[1], None))??;
-    let other = Replica::new(alloc, *piece.key());
-    let mut replica = collected(alloc, &[WHOLE])?;
-    Ok((
-        replica.deliver(alloc, &piece).err(),
-        replica.merge(alloc, other.log()).err(),
-    ))
 }
 
 #[test]
-fn another_run_is_refused(rt: HostRuntime) -> Result<(), Fail> {
-    let refused = Some(ReplicaFault::OtherRun);
-    assert_eq!(rt; refusals(rt.alloc())?, (refused, refused));
+fn a_piece_of_another_run_changes_nothing(rt: HostRuntime) -> Result<(), Fail> {
+    let alloc = rt.alloc();
+    let mut replica = delivered(alloc, &[WHOLE])?;
+    for digits in [OTHER_RUN, BLOCK_64] {
+        let answer = replica.deliver(alloc, &piece(alloc, digits)?);
+        assert_eq!(rt; answer, Err(ReplicaFault::OtherRun));
+    }
+    let wanted = format!(in alloc; "{RUN}\n{WHOLE_LISTED}")?;
+    assert_eq!(rt; listing(alloc, replica.log())?, wanted);
     Ok(())
+}
+
+#[test]
+fn halves_merge_into_the_whole(rt: HostRuntime) -> Result<(), Fail> {
+    let alloc = rt.alloc();
+    let wanted = format!(in alloc; "{RUN}\n{FOUR_LISTED}")?;
+    let halves: [([&str; 2], [&str; 2]); 4] = [
+        ([FIRST, SECOND], [THIRD, FOURTH]),
+        ([THIRD, FOURTH], [FIRST, SECOND]),
+        ([FIRST, THIRD], [SECOND, FOURTH]),
+        ([FOURTH, FIRST], [THIRD, SECOND]),
+    ];
+    for (mine, theirs) in halves {
+        let mut replica = delivered(alloc, &mine)?;
+        let other = delivered(alloc, &theirs)?;
+        replica.merge(alloc, other.log())?;
+        assert_eq!(rt; listing(alloc, replica.log())?, wanted);
+    }
+    Ok(())
+}
+
+#[test]
+fn a_log_of_another_run_is_not_merged(rt: HostRuntime) -> Result<(), Fail> {
+    let alloc = rt.alloc();
+    let mut replica = delivered(alloc, &[WHOLE])?;
+    let other = Replica::new(alloc, *piece(alloc, OTHER_RUN)?.key());
+    assert_eq!(rt;
+        replica.merge(alloc, other.log()),
+        Err(ReplicaFault::OtherRun)
+    );
+    let clashing = delivered(alloc, &[OTHER_FIRST, OTHER_END])?;
+    replica.merge(alloc, clashing.log())?;
+    assert_eq!(rt; replica.log().clashes(), 2);
+    Ok(())
+}
+
+#[test]
+fn neighbouring_places_make_one_run(rt: HostRuntime) -> Result<(), Fail> {
+    let alloc = rt.alloc();
+    let cases: [(&[&str], u32); 5] = [
+        (&[], 0),
+        (&[SECOND], 1),
+        (&[SECOND, FIRST], 1),
+        (&[FIRST, STRAY], 2),
+        (&[FIRST, STRAY, SECOND], 1),
+    ];
+    for (pieces, runs) in cases {
+        let replica = delivered(alloc, pieces)?;
+        assert_eq!(rt; replica.log().runs(0), runs);
+    }
+    Ok(())
+}
+
+#[test]
+fn a_cursor_reads_places_in_any_order(rt: HostRuntime) -> Result<(), Fail> {
+    let alloc = rt.alloc();
+    let whole = piece(alloc, WHOLE)?;
+    let second = whole.entries().get(1).ok_or("the piece has two entries")?;
+    let replica = delivered(alloc, &[WHOLE, OTHER_FIRST])?;
+    let mut cursor = replica.log().cursor(0).ok_or("thread 0")?;
+    let mut claim = None;
+    cursor.read(0, &mut claim);
+    assert_eq!(rt; claim, Some(Flat::Clash));
+    cursor.read(1, &mut claim);
+    assert_eq!(rt; claim, Some(Flat::Known(second.copy(alloc)?)));
+    cursor.read(200, &mut claim);
+    assert_eq!(rt; claim, None);
+    cursor.read(0, &mut claim);
+    assert_eq!(rt; claim, Some(Flat::Clash));
+    assert!(rt; replica.log().cursor(16).is_none());
+    Ok(())
+}
+
+/// A piece of so many entries, which differ, and an end.
+fn long_piece(alloc: Global, count: u32) -> Result<Piece, Fail> {
+    let key = RunKey {
+        digest: [0xaa; 32],
+        run: 1,
+        profile: Profile::One,
+    };
+    let end = End {
+        steps: count,
+        places: count,
+        outcome: Outcome::Running,
+    };
+    let mut entries = Vec::new(alloc);
+    for version in 0..count {
+        let mut found = Few::new(alloc);
+        found.push(Found::Read {
+            object: 1,
+            version: u64::from(version),
+        });
+        entries.push(Entry {
+            kind: Kind::Access,
+            found,
+        })?;
+    }
+    Ok(Piece::new(key, 0, 0, entries, Some(end))?)
 }
 
 // Under `rt try --test --fail-alloc N` the Nth growth of each test below is refused. Without it none is.
 
-/// The listing of two logs of one run that were merged.
-fn merged(alloc: Global) -> Result<String, Fail> {
-    let mut replica = collected(alloc, &[FOURTH, FIRST])?;
-    let other = collected(alloc, &[THIRD, SECOND])?;
-    replica.merge(alloc, other.log())?;
-    Ok(listing(alloc, replica.log())?)
-}
-
 #[test]
-fn logs_of_one_run_are_merged(rt: HostRuntime) -> Result<(), Fail> {
-    let text = merged(rt.alloc())?;
-    assert!(rt; text.as_str() == FOUR_LISTED, "{text}");
+fn delivering_again_completes_what_want_of_memory_left(rt: HostRuntime) -> Result<(), Fail> {
+    let alloc = rt.alloc();
+    let piece = long_piece(alloc, 40)?;
+    let mut replica = Replica::new(alloc, *piece.key());
+    if let Err(fault) = replica.deliver(alloc, &piece) {
+        assert_eq!(rt; fault, ReplicaFault::NoMemory);
+        // The first entries stand, those behind them and the end do not.
+        let log = replica.log();
+        let mut stand = true;
+        for place in 0..40u32 {
+            let stands = log.entry(0, place).is_some();
+            assert!(rt; stand || !stands, "{place}");
+            stand = stands;
+        }
+        assert!(rt; log.end(0).is_none());
+        replica.deliver(alloc, &piece)?;
+    }
+    assert!(rt; replica.log().complete(1));
+    assert_eq!(rt; replica.log().clashes(), 0);
     Ok(())
 }
 
-/// Whether the log's first entries stand, and those behind them and the end do not.
-fn is_beginning(log: &Log) -> bool {
-    let mut is_beginning = log.end(0).is_none();
-    let mut stand = true;
-    for place in 0..40u32 {
-        let stands = log.entry(0, place).is_some();
-        is_beginning &= stand || !stands;
-        stand = stands;
-    }
-    is_beginning
-}
-
-/// Delivers a piece, again where memory was refused. Whether its first items stood then.
-fn delivers(alloc: Global, replica: &mut Replica, piece: &Piece) -> Result<bool, ReplicaFault> {
-    match replica.deliver(alloc, piece) {
-        Ok(()) => Ok(true),
-        Err(ReplicaFault::NoMemory) => {
-            let stood = is_beginning(replica.log());
-            replica.deliver(alloc, piece)?;
-            Ok(stood)
-        }
-        Err(fault) => Err(fault),
-    }
-}
-
-/// The same of merging a log.
-fn merges(alloc: Global, replica: &mut Replica, log: &Log) -> Result<bool, ReplicaFault> {
-    match replica.merge(alloc, log) {
-        Ok(()) => Ok(true),
-        Err(ReplicaFault::NoMemory) => {
-            let stood = is_beginning(replica.log());
-            replica.merge(alloc, log)?;
-            Ok(stood)
-        }
-        Err(fault) => Err(fault),
-    }
-}
-
-/// Whether a piece of forty entries is delivered whole, and its log merged whole.
-fn completes(alloc: Global) -> Result<bool, Fail> {
-    let piece = piece_of(alloc, &(None, 0, 0, 40, &[1], Some((40, 40))))??;
-    let mut replica = Replica::new(alloc, *piece.key());
+#[test]
+fn merging_again_completes_what_want_of_memory_left(rt: HostRuntime) -> Result<(), Fail> {
+    let alloc = rt.alloc();
+    let piece = long_piece(alloc, 5)?;
     let mut other = Replica::new(alloc, *piece.key());
-    let delivered = delivers(alloc, &mut replica, &piece)?;
-    let merged = merges(alloc, &mut other, replica.log())?;
-    Ok(delivered && merged && replica.log().complete(1) && other.log().complete(1))
+    other.deliver(alloc, &piece)?;
+    let mut replica = Replica::new(alloc, *piece.key());
+    if let Err(fault) = replica.merge(alloc, other.log()) {
+        assert_eq!(rt; fault, ReplicaFault::NoMemory);
+        assert!(rt; replica.log().end(0).is_none());
+        replica.merge(alloc, other.log())?;
+    }
+    assert!(rt; replica.log().complete(1));
+    Ok(())
 }
 
 #[test]
-fn delivering_or_merging_again_completes_what_want_of_memory_left(
-    rt: HostRuntime,
-) -> Result<(), Fail> {
-    assert!(rt; completes(rt.alloc())?);
+fn collecting_refused_memory_is_an_answer(rt: HostRuntime) -> Result<(), Fail> {
+    let alloc = rt.alloc();
+    match collect(alloc, &mut MemorySource::new(WHOLE.as_bytes(), 100, None)) {
+        Ok(None) => assert!(rt; false, "a piece came"),
+        Ok(Some(replica)) => assert!(rt; replica.log().complete(1)),
+        Err(fault) => assert_eq!(rt; fault, GatherFault::NoMemory),
+    }
+    Ok(())
+}
+
+#[test]
+fn gathering_with_refused_memory_writes_no_other_bytes(rt: HostRuntime) -> Result<(), Fail> {
+    let alloc = rt.alloc();
+    let mut source = MemorySource::new(WHOLE.as_bytes(), 100, None);
+    let mut sink = MemorySink::new(alloc, 10, None);
+    match gather(alloc, &mut source, &mut sink, ListingForm::Plain) {
+        Ok(()) => assert_eq!(rt; sink.taken(), WHOLE_TEXT.as_bytes()),
+        // A sink over memory fails where its own memory is refused.
+        Err(GatherFault::SinkFailed) => {
+            assert_eq!(rt; sink.failures(), 1);
+            assert!(rt; WHOLE_TEXT.as_bytes().starts_with(sink.taken()));
+        }
+        Err(fault) => {
+            assert_eq!(rt; fault, GatherFault::NoMemory);
+            assert!(rt; sink.taken().is_empty());
+        }
+    }
+    assert_eq!(rt; source.failures(), 0);
+    Ok(())
+}
+
+#[test]
+fn listing_with_refused_memory_is_an_answer(rt: HostRuntime) -> Result<(), Fail> {
+    let alloc = rt.alloc();
+    let replica = delivered(alloc, &[WHOLE])?;
+    match listing(alloc, replica.log()) {
+        Ok(text) => assert_eq!(rt; text.as_str(), WHOLE_TEXT),
+        Err(NoMemory) => {}
+    }
     Ok(())
 }

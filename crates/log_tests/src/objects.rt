@@ -1,0 +1,75 @@
+//! Listings that tell which bytes the objects of their entries are.
+
+use log_pieces::{Entry, Few, Found, Kind, Piece, line};
+use replica::{ListingForm, MemorySink, MemorySource, gather};
+use std::alloc::Global;
+use std::test::Fail;
+use wasm_types::{Block, Profile, RunKey};
+
+/// A piece of one entry, which reads the length and a block and writes a queue.
+fn three_objects(alloc: Global, profile: Profile) -> Result<Piece, Fail> {
+    let key = RunKey {
+        digest: [0xaa; 32],
+        run: 1,
+        profile,
+    };
+    let mut found = Few::new(alloc);
+    found.push(Found::Read {
+        object: 0,
+        version: 0,
+    });
+    found.push(Found::Read {
+        object: 1,
+        version: 7,
+    });
+    found.push(Found::Write {
+        object: 4,
+        version: 2,
+        reads: 1,
+    });
+    let mut entries = Vec::new(alloc);
+    entries.push(Entry {
+        kind: Kind::Access,
+        found,
+    })?;
+    Ok(Piece::new(key, 0, 0, entries, None)?)
+}
+
+/// Whether the listing of that piece is the wanted one.
+fn is_listed(
+    alloc: Global,
+    profile: Profile,
+    form: ListingForm,
+    wanted: &[u8],
+) -> Result<bool, Fail> {
+    let text = line(alloc, &three_objects(alloc, profile)?)?;
+    let mut source = MemorySource::new(&text, 1000, None);
+    let mut sink = MemorySink::new(alloc, 1000, None);
+    gather(alloc, &mut source, &mut sink, form)?;
+    Ok(sink.taken() == wanted)
+}
+
+#[test]
+fn objects_are_told_where_the_form_asks(rt: HostRuntime) -> Result<(), Fail> {
+    let alloc = rt.alloc();
+    let plain = b"\
+run aaaaaaaaaaaaaaaaaaaaaaaaaaaaaaaaaaaaaaaaaaaaaaaaaaaaaaaaaaaaaaaa:1
+0.0 access r0@0 r1@7 w4@2/1
+ends 0 missing 0 strays 0 clashes 0
+";
+    assert!(rt; is_listed(alloc, Profile::One, ListingForm::Plain, plain)?);
+    let told = b"\
+run aaaaaaaaaaaaaaaaaaaaaaaaaaaaaaaaaaaaaaaaaaaaaaaaaaaaaaaaaaaaaaaa:1
+0.0 access r0@0 r1@7 w4@2/1; 0: length; 1: bytes 0..63; 4: waiters 64..127
+ends 0 missing 0 strays 0 clashes 0
+";
+    assert!(rt; is_listed(alloc, Profile::One, ListingForm::WithObjects, told)?);
+    let larger = b"\
+run aaaaaaaaaaaaaaaaaaaaaaaaaaaaaaaaaaaaaaaaaaaaaaaaaaaaaaaaaaaaaaaa:1:4096
+0.0 access r0@0 r1@7 w4@2/1; 0: length; 1: bytes 0..4095; 4: waiters 4096..8191
+ends 0 missing 0 strays 0 clashes 0
+";
+    let profile = Profile::Two(Block::new(4096)?);
+    assert!(rt; is_listed(alloc, profile, ListingForm::WithObjects, larger)?);
+    Ok(())
+}
