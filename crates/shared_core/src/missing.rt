@@ -2,7 +2,7 @@
 
 ghost use Rattle.std.specs.Prelude.{◌≡◌};
 ghost use Rattle.rw_objects.specs.Counts.{count_at};
-ghost use Rattle.shared_core.specs.Missing.{missing_touch, missing_calls, opens_at};
+ghost use Rattle.shared_core.specs.Missing.{missing_touch, missing_calls, opens_at, opens_behind};
 
 use rw_objects::{Count, Entry, Found, Versions};
 use shared_journal::Left;
@@ -42,19 +42,29 @@ fn missing_calls(versions: &Versions, expected: &Entry) -> Option<u64>
     Some(most)
 }
 
-/// With how many calls, at the least, a call can be entered whose entry is to be this one, by what its seat's last call left: none where
+/// With how many calls a call can be entered for which so many are missing, where `length` were entered, and it could not be when
+/// `seen` were: none where it never can.
+fn opens_with(missing: Option<u64>, length: u64, seen: u64) -> Option<u64>
+    ensures { result ≡ opens_at length seen missing }
+{
+    match missing {
+        None => None,
+        Some(0) if length <= seen => None,
+        Some(calls) => Some(length.saturating_add(calls)),
+    }
+}
+
+/// With how many calls a call can be entered whose entry is to be this one, at the least, by what its seat's last call left: none where
 /// that tells of no call that is missing.
-pub(crate) fn opens_behind(left: &Left, expected: &Entry) -> Option<u64> {
-    let mut most = 0;
+pub(crate) fn opens_behind(left: &Left, expected: &Entry) -> Option<u64>
+    ensures { result ≡ opens_behind left.now.length left.now.object left.now.count expected.now.found }
+{
     for found in expected.found.as_slice() {
         if found.object() == left.object {
-            most = missing_touch(found, left.count).unwrap_or(0).max(most);
+            return opens_with(missing_touch(found, left.count), left.length, left.length);
         }
     }
-    if most == 0 {
-        return None;
-    }
-    Some(left.length.saturating_add(most))
+    None
 }
 
 /// With how many calls a call can be entered whose entry is to be this one, where `length` were entered, and it could not be when
@@ -62,9 +72,5 @@ pub(crate) fn opens_behind(left: &Left, expected: &Entry) -> Option<u64> {
 pub(crate) fn opens_at(versions: &Versions, length: u64, expected: &Entry, seen: u64) -> Option<u64>
     ensures { result ≡ opens_at length seen (missing_calls expected.now.found (count_at versions.now)) }
 {
-    match missing_calls(versions, expected) {
-        None => None,
-        Some(0) if length <= seen => None,
-        Some(calls) => Some(length.saturating_add(calls)),
-    }
+    opens_with(missing_calls(versions, expected), length, seen)
 }

@@ -24,7 +24,7 @@ use std::sync::atomic::AtomicU64;
 use std::sync::ledger::{Blank, Share};
 use std::sync::{Condvar, Mutex, RwLock};
 use striped_objects::{Eight, Striped};
-use wasm_types::NoMemory;
+use wasm_types::{MOST_THREADS, NoMemory};
 
 /// A space with no calls, which has no name yet.
 #[derive(Drop)]
@@ -154,6 +154,11 @@ fn seats<S: Striped, J: Opening<S, S::Value, S::Fixed>>(
     Ok((seats, share))
 }
 
+/// What wakes those that rest.
+fn conditions() -> [Condvar; MOST_THREADS] {
+    array::from_fn(|_| Condvar::new())
+}
+
 impl<S: Striped + Drop, J: Opening<S, S::Value, S::Fixed>> Shared<S, J> {
     /// A shared space with no calls, and a seat for each thread.
     pub fn new(
@@ -190,7 +195,7 @@ impl<S: Striped + Drop, J: Opening<S, S::Value, S::Fixed>> Shared<S, J> {
         let shared = Shared {
             parts,
             journal: Mutex::new(Journal { held, resting }),
-            changed: array::from_fn(|_| Condvar::new()),
+            changed: conditions(),
             to_begin: AtomicU64::new(u64::from(threads)),
             passed: AtomicU64::new(0),
         };

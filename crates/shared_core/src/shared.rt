@@ -1,9 +1,10 @@
 //! A shared space: its parts under read-write locks, and the journal under a lock of its own.
 
-ghost use Rattle.std.specs.Prelude.{◌≡◌, ◌∷◌, ◌++◌, [], IfOk, false, true, is_some, MatchOption};
+ghost use Rattle.std.specs.Prelude.{◌≡◌, ◌∷◌, ◌++◌, [], IfOk, false, IsSomeAnd, MatchOption};
 ghost use Rattle.rw_objects.specs.Space.{Fits};
 ghost use Rattle.shared_parts.specs.Calls.{call};
-ghost use Rattle.shared_journal.specs.Tries.{IfDone, IfShut, IsDone};
+ghost use Rattle.shared_journal.specs.Tries.{IfDone, IfShut, IfNotReady, IsDone};
+ghost use Rattle.shared_core.specs.Refusals.{WasNotReady, WasAnother};
 
 use crate::hold::Hold;
 use crate::journal::Journal;
@@ -72,7 +73,8 @@ impl<S: Striped, J: Opening<S, S::Value, S::Fixed>> Shared<S, J> {
         requires fits { Fits S.meaning J.named.memory.fixed op }
         ensures done { IfOk result (λ t. IfDone t (λ r e. seat.new.calls ≡ seat.old.calls ++ call seat.old.thread op r e ∷ [])) }
         ensures open { IfOk result (λ t. IfDone t (λ r e. MatchOption expected.entry (Unit {0}) (λ x. x.now ≡ e))) }
-        ensures shut { IfOk result (λ t. IfShut t (is_some expected.entry ≡ true)) }
+        ensures shut { IfOk result (λ t. IfShut t (IsSomeAnd expected.entry (λ x. WasAnother S.meaning J.named.memory op x.now))) }
+        ensures not_ready { IfOk result (λ t. IfNotReady t (WasNotReady S.meaning J.named.memory op)) }
         ensures kept { (IsDone result ≡ false) → seat.new ≡ seat.old }
         ensures thread { seat.new.thread ≡ seat.old.thread }
     {
@@ -111,7 +113,8 @@ impl<S: Striped, J: Opening<S, S::Value, S::Fixed>> Shared<S, J> {
         answer
     }
 
-    /// Tries a call: where it is ready it is entered, behind the seat's other calls. It never answers `Shut`.
+    /// Tries a call: where it is ready it is entered, behind the seat's other calls. It never answers `Shut`, and `NotReady` only where
+    /// some legal history leads to a space in which it is not ready: the journal as it was met.
     pub fn access<R: Wait, H: Hold>(
         &self,
         rt: &R,
@@ -123,6 +126,7 @@ impl<S: Striped, J: Opening<S, S::Value, S::Fixed>> Shared<S, J> {
         requires fits { Fits S.meaning J.named.memory.fixed op }
         ensures done { IfOk result (λ t. IfDone t (λ r e. seat.new.calls ≡ seat.old.calls ++ call seat.old.thread op r e ∷ [])) }
         ensures never_shut { IfOk result (λ t. IfShut t ⊥) }
+        ensures not_ready { IfOk result (λ t. IfNotReady t (WasNotReady S.meaning J.named.memory op)) }
         ensures kept { (IsDone result ≡ false) → seat.new ≡ seat.old }
         ensures thread { seat.new.thread ≡ seat.old.thread }
     {
@@ -130,7 +134,8 @@ impl<S: Striped, J: Opening<S, S::Value, S::Fixed>> Shared<S, J> {
     }
 
     /// Tries a call whose entry is to be this one: where it is, and the call is ready, it is entered, behind the seat's other
-    /// calls.
+    /// calls. It answers `Shut` only where its entry would be another one in the space to which some legal history leads: the journal as
+    /// it was met.
     pub fn access_at<R: Wait, H: Hold>(
         &self,
         rt: &R,
@@ -143,6 +148,8 @@ impl<S: Striped, J: Opening<S, S::Value, S::Fixed>> Shared<S, J> {
         requires fits { Fits S.meaning J.named.memory.fixed op }
         ensures done { IfOk result (λ t. IfDone t (λ r e. seat.new.calls ≡ seat.old.calls ++ call seat.old.thread op r expected.now ∷ [])) }
         ensures entry { IfOk result (λ t. IfDone t (λ r e. e ≡ expected.now)) }
+        ensures shut { IfOk result (λ t. IfShut t (WasAnother S.meaning J.named.memory op expected.now)) }
+        ensures not_ready { IfOk result (λ t. IfNotReady t (WasNotReady S.meaning J.named.memory op)) }
         ensures kept { (IsDone result ≡ false) → seat.new ≡ seat.old }
         ensures thread { seat.new.thread ≡ seat.old.thread }
     {

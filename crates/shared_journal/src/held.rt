@@ -100,6 +100,13 @@ impl<S: Striped, J: Opening<S, S::Value, S::Fixed>> Held<S, J> {
         self.order.len()
     }
 
+    /// What an object counts, where the calls of the journal were made.
+    pub fn count_of(&self, object: u32) -> rw_objects::Count
+        ensures { result ≡ (memory_after_calls S.meaning J.named.memory self.now).counts object }
+    {
+        self.versions.at(object)
+    }
+
     /// Tries one call, over the parts that it touches, with what it decides by what they hold. `Shut` is tested first.
     pub fn enter(
         &mut self,
@@ -115,6 +122,7 @@ impl<S: Striped, J: Opening<S, S::Value, S::Fixed>> Held<S, J> {
         requires touches { touches.now ≡ S.meaning.touches op }
         requires covers { Covers touches.now kept.old }
         requires decided { (values : ℕ → S.Value) → AreHere S.held values kept.old → decision.now ≡ decision_at S.meaning S.cut J.named.memory.fixed values op }
+        ensures legal { IsLegalHistory S.meaning J.named.memory self.old }
         ensures done { IfOk result (λ t. IfDone t (λ r e. (is_ready S.meaning J.named.memory.fixed (memory_after_calls S.meaning J.named.memory self.old).values op ≡ true) × (r ≡ reply_of S.meaning J.named.memory.fixed (memory_after_calls S.meaning J.named.memory self.old).values op) × (e ≡ entry_of S.meaning (memory_after_calls S.meaning J.named.memory self.old) op) × (memory_after_calls S.meaning J.named.memory self.new ≡ memory_after S.meaning (memory_after_calls S.meaning J.named.memory self.old) op))) }
         ensures journal { IfOk result (λ t. IfDone t (λ r e. self.new ≡ self.old ++ call seat.old.thread op r e ∷ [])) }
         ensures own { IfOk result (λ t. IfDone t (λ r e. seat.new.calls ≡ seat.old.calls ++ call seat.old.thread op r e ∷ [])) }

@@ -1,5 +1,8 @@
 //! What a seat's last call left.
 
+ghost use Rattle.std.specs.Prelude.{◌≡◌};
+ghost use Rattle.rw_objects.specs.Counts.{no_count};
+
 use rw_objects::Count;
 
 /// What a seat's last call left: how many calls were entered with it, and what an object that it touched then counted. It tells how many
@@ -16,7 +19,10 @@ pub struct Left {
 
 impl Left {
     /// What is known of a seat without calls: nothing is entered, and object 0 counts nothing.
-    pub fn nothing() -> Left {
+    pub fn nothing() -> Left
+        ensures calls { (result.length ≡ 0) × (result.object ≡ 0) }
+        ensures count { result.count ≡ no_count }
+    {
         Left {
             length: 0,
             object: 0,

@@ -58,7 +58,6 @@ impl<'a, S: Striped, J: Opening<S, S::Value, S::Fixed>, const I: u64> Model
 }
 
 impl<S: Striped, J: Opening<S, S::Value, S::Fixed>, const I: u64> Drop for KeptPart<'_, S, J, I> {
-    #[inline]
     fn drop(self) {
         let KeptPart { read, write } = self;
         drop(read);
@@ -143,7 +142,6 @@ impl<'a, S: Striped, J: Opening<S, S::Value, S::Fixed>> Model for KeptParts<'a, 
 }
 
 impl<'a, S: Striped, J: Opening<S, S::Value, S::Fixed>> Drop for KeptParts<'a, S, J> {
-    #[inline]
     fn drop(self) {
         let KeptParts {
             zero,
