@@ -14,8 +14,6 @@ use wasm_types::NoMemory;
 pub struct PackedEntries {
     bytes: Vec<u8>,
     count: usize,
-    /// Where the bytes of an entry are put together.
-    room: Vec<u8>,
 }
 
 impl Model for PackedEntries {
@@ -38,7 +36,6 @@ impl PackedEntries {
         PackedEntries {
             bytes: Vec::new(alloc),
             count: 0,
-            room: Vec::new(alloc),
         }
     }
 
@@ -61,11 +58,17 @@ impl PackedEntries {
         ensures ok { OnOk result (self.new ≡ self.old ++ entry.now ∷ []) }
         ensures err { OnErr result (self.new ≡ self.old) }
     {
-        self.room.clear();
-        entry.put(&mut self.room)?;
-        self.bytes.extend_from_slice(&self.room)?;
-        self.count += 1;
-        Ok(())
+        let len = self.bytes.len();
+        match entry.put(&mut self.bytes) {
+            Ok(()) => {
+                self.count += 1;
+                Ok(())
+            }
+            Err(fault) => {
+                self.bytes.truncate(len);
+                Err(fault)
+            }
+        }
     }
 
     /// A reader of the entries, from the first on.

@@ -1,11 +1,12 @@
--- The bytes that were put one after the other are joined from the left, as the spelling is.
-use Rattle.std.proofs.Common.{append_assoc}
+-- What is put are the bytes of the touch.
+use Rattle.std.proofs.Common.{◌++◌, sym, ap, ◌∙◌}
+use Rattle.log_pieces.specs.Spelling.{touch_bytes}
 use Rattle.log_pieces.proofs.writing.put_touch.Goals as goal
 
-pub returns-in_ok-extend_from_slice-in-Read-2-clause-put : goal.returns-in_ok-extend_from_slice-in-Read-2-clause-put
-returns-in_ok-extend_from_slice-in-Read-2-clause-put c =
-    rw (c.in_ok-extend_from_slice-in-Read-2.ensures.items, c.in_ok-push-in-Read.ensures.items, c.in_ok-extend_from_slice-in-Read.ensures.items, c.to_le_bytes.ensures, c.to_le_bytes-in-Read.ensures, c.in-Read.is) (simp append_assoc)
+pub returns-in_ok-extend_from_slice-in-Read-clause-put : goal.returns-in_ok-extend_from_slice-in-Read-clause-put
+returns-in_ok-extend_from_slice-in-Read-clause-put c =
+    c.in_ok-extend_from_slice-in-Read.ensures.items ∙ ap (λ l. c.args.out.now.items ++ l) (c.read_bytes.ensures ∙ ap touch_bytes (sym c.in-Read.is))
 
-pub returns-in_ok-extend_from_slice-in-Write-3-clause-put : goal.returns-in_ok-extend_from_slice-in-Write-3-clause-put
-returns-in_ok-extend_from_slice-in-Write-3-clause-put c =
-    rw (c.in_ok-extend_from_slice-in-Write-3.ensures.items, c.in_ok-extend_from_slice-in-Write-2.ensures.items, c.in_ok-push-in-Write.ensures.items, c.in_ok-extend_from_slice-in-Write.ensures.items, c.to_le_bytes-in-Write.ensures, c.to_le_bytes-in-Write-2.ensures, c.to_le_bytes-in-Write-3.ensures, c.in-Write.is) (simp append_assoc)
+pub returns-in_ok-extend_from_slice-in-Write-clause-put : goal.returns-in_ok-extend_from_slice-in-Write-clause-put
+returns-in_ok-extend_from_slice-in-Write-clause-put c =
+    c.in_ok-extend_from_slice-in-Write.ensures.items ∙ ap (λ l. c.args.out.now.items ++ l) (c.write_bytes.ensures ∙ ap touch_bytes (sym c.in-Write.is))
