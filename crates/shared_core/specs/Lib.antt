@@ -1,4 +1,4 @@
 pub mod Begins
 pub mod Missing
-pub mod Refusals
 pub mod Resting
+pub mod Tries

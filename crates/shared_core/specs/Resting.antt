@@ -5,6 +5,11 @@ use Rattle.shared_core.specs.declared.resting.Standing.TheVariants.{Goes, RestsU
 use Rattle.shared_core.specs.declared.resting.Wakes.{Wakes}
 use Rattle.shared_core.specs.declared.resting.Wakes.TheVariants.{Nobody, One, All}
 
+abbrev pub rests : Standing → Bool
+rests Goes = false
+rests (RestsUntil until) = true
+rests Away = false
+
 -- a seat rests until just so many calls were entered
 abbrev pub is_awaited : ℕ → Standing → Bool
 is_awaited length Goes = false

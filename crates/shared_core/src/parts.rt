@@ -1,16 +1,19 @@
 //! The parts of a shared space under their locks. What is said of each of the eight parts stands in eight rows, since the
 //! number of a part is in its type.
 
-ghost use Rattle.std.specs.Prelude.{◌≡◌, ◌<◌, box_value};
+ghost use Rattle.std.specs.Prelude.{◌≡◌, ◌%◌, ◌<◌, ◌∷◌, [], box_value};
 ghost use Rattle.striped_objects.specs.Parts.{IsPart, AreParts};
 ghost use Rattle.shared_parts.specs.Calls.{memory_after_calls};
 ghost use Rattle.shared_parts.specs.Writes.{writes};
 ghost use Rattle.shared_parts.specs.Eights.{IsKept, Covers, totals_by};
+ghost use Rattle.shared_parts.specs.Ones.{CoversOne};
 
 use crate::looking::{read, write};
 use call_chain::{Latest, SecondHalf};
-use rw_objects::{Few, ObjectSpace, Touch};
-use shared_parts::{Call, KeptPart, KeptParts, Lane, Opening, Stripe, Written, lane_writes};
+use rw_objects::{Few, Mode, ObjectSpace, Touch};
+use shared_parts::{
+    Call, KeptPart, KeptParts, Lane, OneOf, OnePart, Opening, Stripe, Written, lane_writes,
+};
 use std::boxed::Box;
 use std::sync::{RwLock, Wait};
 use striped_objects::{Eight, Striped, has_lane};
@@ -56,7 +59,45 @@ fn wait_for<'a, S: Striped, J: Opening<S, S::Value, S::Fixed>, R: Wait, const I:
     }
 }
 
+/// Waits for the part of the one object that an operation touches: for reading where it reads the object, else for writing.
+fn wait_for_one<'a, S: Striped, J: Opening<S, S::Value, S::Fixed>, R: Wait, const I: u64>(
+    rt: &R,
+    lock: &'a RwLock<Stripe<S, J, I>>,
+    touch: Touch,
+) -> KeptPart<'a, S, J, I>
+    requires { touch.object % 8 ≡ I }
+    ensures { IsKept I (touch ∷ []) result }
+{
+    match touch.mode {
+        Mode::Read => KeptPart {
+            read: Some(read(rt, lock)),
+            write: None,
+        },
+        Mode::Write => KeptPart {
+            read: None,
+            write: Some(write(rt, lock)),
+        },
+    }
+}
+
 impl<S: Striped, J: Opening<S, S::Value, S::Fixed>> Parts<S, J> {
+    /// Waits for the part of the one object that an operation touches.
+    pub(crate) fn keep_one<R: Wait>(&self, rt: &R, touch: Touch) -> OnePart<'_, S, J>
+        ensures { CoversOne (touch ∷ []) result }
+    {
+        let part = match touch.object % 8 {
+            0 => OneOf::Zero(wait_for_one(rt, &self.zero, touch)),
+            1 => OneOf::One(wait_for_one(rt, &self.one, touch)),
+            2 => OneOf::Two(wait_for_one(rt, &self.two, touch)),
+            3 => OneOf::Three(wait_for_one(rt, &self.three, touch)),
+            4 => OneOf::Four(wait_for_one(rt, &self.four, touch)),
+            5 => OneOf::Five(wait_for_one(rt, &self.five, touch)),
+            6 => OneOf::Six(wait_for_one(rt, &self.six, touch)),
+            _ => OneOf::Seven(wait_for_one(rt, &self.seven, touch)),
+        };
+        OnePart { part }
+    }
+
     /// Waits for the parts that an operation touches, each once, in rising order.
     pub(crate) fn keep<R: Wait>(&self, rt: &R, touches: &Few<Touch>) -> KeptParts<'_, S, J>
         ensures { Covers touches.now result }

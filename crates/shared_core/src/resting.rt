@@ -1,9 +1,9 @@
 //! Which seats can go on.
 
-ghost use Rattle.std.specs.Prelude.{◌≡◌, ◌||◌, IfOk, false, replicate, slice_set};
-ghost use Rattle.std.specs.List.{list_all};
+ghost use Rattle.std.specs.Prelude.{◌≡◌, ◌||◌, IfOk, true, false, replicate, slice_set};
+ghost use Rattle.std.specs.List.{list_all, list_any};
 ghost use Rattle.shared_core.specs.declared.resting.Standing.TheVariants.{Goes, RestsUntil, Away};
-ghost use Rattle.shared_core.specs.Resting.{awaiting, is_awaited, is_still, wakes, with_one};
+ghost use Rattle.shared_core.specs.Resting.{awaiting, is_awaited, is_still, rests, wakes, with_one};
 
 use std::alloc::Global;
 use wasm_types::NoMemory;
@@ -20,6 +20,16 @@ pub(crate) enum Standing {
 }
 
 impl Standing {
+    /// Whether the seat rests.
+    fn rests(self) -> bool
+        ensures { result ≡ rests self }
+    {
+        match self {
+            Standing::RestsUntil(_) => true,
+            Standing::Goes | Standing::Away => false,
+        }
+    }
+
     /// Whether the seat rests until just so many calls were entered.
     fn is_awaited(self, length: u64) -> bool
         ensures { result ≡ is_awaited length self }
@@ -71,6 +81,9 @@ impl Wakes {
 pub(crate) struct Resting {
     pub(crate) seats: Vec<Standing>,
     pub(crate) stopped: bool,
+    /// Whether a seat may rest: where not, none does.
+    pub(crate) some_rest: bool,
+    ghost none_rests: { some_rest ≡ false → list_any rests seats.items ≡ false },
 }
 
 impl Resting {
@@ -83,12 +96,25 @@ impl Resting {
         Ok(Resting {
             seats,
             stopped: false,
+            some_rest: false,
         })
     }
 
     /// Which seats are to be woken, as they rest until just so many calls were entered as now are. Each call is told, so a seat is
     /// woken once.
     pub(crate) fn entered(&self, length: u64) -> Wakes
+        ensures { result ≡ wakes (awaiting length 0 self.now.seats.items) }
+    {
+        if self.some_rest {
+            self.awaiting(length)
+        } else {
+            Wakes::Nobody
+        }
+    }
+
+    /// The same, by a look at each seat.
+    #[inline(never)]
+    fn awaiting(&self, length: u64) -> Wakes
         ensures { result ≡ wakes (awaiting length 0 self.now.seats.items) }
     {
         let mut wakes = Wakes::Nobody;
@@ -106,6 +132,7 @@ impl Resting {
         ensures stopped { self.new.stopped ≡ (self.old.stopped || list_all (λ s. is_still length s) self.new.seats.items) }
         ensures answer { result ≡ self.new.stopped }
     {
+        self.some_rest = true;
         self.put(seat, Standing::RestsUntil(until));
         self.stop(length)
     }
@@ -116,6 +143,7 @@ impl Resting {
         ensures stopped { self.new.stopped ≡ self.old.stopped }
     {
         self.put(seat, Standing::Goes);
+        self.some_rest = self.some_rests();
     }
 
     /// A seat has left; `length` calls are entered. Answers whether no seat can go on.
@@ -130,12 +158,20 @@ impl Resting {
 
     /// Notes what a seat does.
     fn put(&mut self, seat: u32, standing: Standing)
+        requires rests { rests standing ≡ true → self.old.some_rest ≡ true }
         ensures seats { self.new.seats.items ≡ slice_set self.old.seats.items seat standing }
         ensures stopped { self.new.stopped ≡ self.old.stopped }
     {
         if let Some(place) = self.seats.get_mut(seat as usize) {
             *place = standing;
         }
+    }
+
+    /// Whether a seat rests.
+    fn some_rests(&self) -> bool
+        ensures { result ≡ list_any rests self.now.seats.items }
+    {
+        self.seats.iter().any(|seat| seat.rests())
     }
 
     /// Notes for good where no seat can go on, and answers it.

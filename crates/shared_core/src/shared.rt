@@ -1,10 +1,11 @@
 //! A shared space: its parts under read-write locks, and the journal under a lock of its own.
 
-ghost use Rattle.std.specs.Prelude.{◌≡◌, ◌∷◌, ◌++◌, [], IfOk, false, IsSomeAnd, MatchOption};
+ghost use Rattle.std.specs.Prelude.{◌≡◌, ℕ, ◌∷◌, ◌++◌, [], IfOk, false};
 ghost use Rattle.rw_objects.specs.Space.{Fits};
+ghost use Rattle.striped_objects.specs.Cut.{decision_at};
 ghost use Rattle.shared_parts.specs.Calls.{call};
 ghost use Rattle.shared_journal.specs.Tries.{IfDone, IfShut, IfNotReady, IsDone};
-ghost use Rattle.shared_core.specs.Refusals.{WasNotReady, WasAnother};
+ghost use Rattle.shared_core.specs.Tries.{IsTry, WasNotReady, WasAnother};
 
 use crate::hold::Hold;
 use crate::journal::Journal;
@@ -12,9 +13,9 @@ use crate::looking::lock;
 use crate::missing::{opens_at, opens_behind};
 use crate::parts::Parts;
 use crate::resting::Wakes;
-use rw_objects::Entry;
-use shared_journal::{Seat, Tried};
-use shared_parts::Opening;
+use rw_objects::{Entry, Few, ObjectSpace, Touch};
+use shared_journal::{Seat, Tried, decide_one};
+use shared_parts::{Keeps, Opening};
 use std::alloc::Global;
 use std::sync::atomic::{AtomicU64, Ordering};
 use std::sync::{Condvar, Mutex, Wait};
@@ -46,8 +47,17 @@ impl<S: Striped, J: Opening<S, S::Value, S::Fixed>> Shared<S, J> {
         &self.changed[seat % MOST_THREADS]
     }
 
-    /// Wakes seats that rest.
+    /// Wakes seats that rest, if some are to be woken.
+    #[inline(always)]
     fn wake(&self, wakes: Wakes) {
+        if wakes != Wakes::Nobody {
+            self.notify(wakes);
+        }
+    }
+
+    /// Notifies seats that rest.
+    #[inline(never)]
+    fn notify(&self, wakes: Wakes) {
         match wakes {
             Wakes::Nobody => {}
             Wakes::One(seat) => self.changed(seat).notify_all(),
@@ -59,45 +69,36 @@ impl<S: Striped, J: Opening<S, S::Value, S::Fixed>> Shared<S, J> {
         }
     }
 
-    /// Tries a call once. The locks of the touched parts are asked for in rising order, and what it decides by what they hold
-    /// is found before the journal's lock is asked for, which is given back first. A seat that rests until just so many calls is woken.
-    fn try_call<R: Wait, H: Hold>(
+    /// Tries a call once, over the parts that it touches, which are kept until it is made, with what it decides by what they hold. The
+    /// journal's lock is given back before the parts. A seat that rests until just so many calls is woken.
+    fn try_over<K: Keeps<S, J> + Drop, R: Wait, H: Hold>(
         &self,
         rt: &R,
         alloc: Global,
         seat: &mut Seat<S, J>,
-        op: S::Op,
+        op: &S::Op,
         expected: Option<&Entry>,
+        touches: &Few<Touch>,
+        kept: K,
+        decision: &S::Decision,
         hold: &H,
     ) -> Result<Tried<S::Reply>, NoMemory>
-        requires fits { Fits S.meaning J.named.memory.fixed op }
-        ensures done { IfOk result (λ t. IfDone t (λ r e. seat.new.calls ≡ seat.old.calls ++ call seat.old.thread op r e ∷ [])) }
-        ensures open { IfOk result (λ t. IfDone t (λ r e. MatchOption expected.entry (Unit {0}) (λ x. x.now ≡ e))) }
-        ensures shut { IfOk result (λ t. IfShut t (IsSomeAnd expected.entry (λ x. WasAnother S.meaning J.named.memory op x.now))) }
-        ensures not_ready { IfOk result (λ t. IfNotReady t (WasNotReady S.meaning J.named.memory op)) }
-        ensures kept { (IsDone result ≡ false) → seat.new ≡ seat.old }
-        ensures thread { seat.new.thread ≡ seat.old.thread }
+        requires fits { Fits S.meaning J.named.memory.fixed op.now }
+        requires touches { touches.now ≡ S.meaning.touches op.now }
+        requires covers { K.covers kept touches.now }
+        requires decided { (values : ℕ → S.Value) → K.here kept values → decision.now ≡ decision_at S.meaning S.cut J.named.memory.fixed values op.now }
+        ensures { IsTry S.meaning J.named.memory op.now expected.entry seat.old seat.new result }
     {
         let (thread, place) = (seat.thread(), seat.entries().len() as u64);
-        hold.before(thread, place);
-        let touches = S::touches(alloc, &op);
-        let mut kept = self.parts.keep(rt, &touches);
-        let decision = match seat.decide(&kept, &touches, &op) {
-            Ok(decision) => decision,
-            Err(error) => {
-                drop(kept);
-                hold.after(thread, place);
-                return Err(error);
-            }
-        };
+        let mut kept = kept;
         let mut journal = lock(rt, &self.journal);
         let answer = journal
             .held
-            .enter(alloc, seat, op, expected, &touches, &mut kept, &decision);
+            .enter(alloc, seat, op, expected, touches, &mut kept, decision);
         let is_entered = matches!(&answer, Ok(Tried::Done(..)));
         let wakes = if is_entered {
             if expected.is_some() {
-                seat.note(journal.left_by(&touches));
+                seat.note(journal.left_by(touches));
             }
             journal.resting.entered(journal.length())
         } else {
@@ -109,6 +110,65 @@ impl<S: Striped, J: Opening<S, S::Value, S::Fixed>> Shared<S, J> {
         }
         drop(kept);
         self.wake(wakes);
+        answer
+    }
+
+    /// Tries a call once that may touch several objects. Room for eight parts is made here alone, so that a call of one object makes none.
+    #[inline(never)]
+    fn try_several<R: Wait, H: Hold>(
+        &self,
+        rt: &R,
+        alloc: Global,
+        seat: &mut Seat<S, J>,
+        op: &S::Op,
+        expected: Option<&Entry>,
+        touches: &Few<Touch>,
+        hold: &H,
+    ) -> Result<Tried<S::Reply>, NoMemory>
+        requires fits { Fits S.meaning J.named.memory.fixed op.now }
+        requires touches { touches.now ≡ S.meaning.touches op.now }
+        ensures { IsTry S.meaning J.named.memory op.now expected.entry seat.old seat.new result }
+    {
+        let kept = self.parts.keep(rt, touches);
+        let decision = match seat.decide(&kept, touches, op) {
+            Ok(decision) => decision,
+            Err(error) => {
+                drop(kept);
+                return Err(error);
+            }
+        };
+        self.try_over(
+            rt, alloc, seat, op, expected, touches, kept, &decision, hold,
+        )
+    }
+
+    /// Tries a call once. The locks of the touched parts are asked for in rising order, and what it decides by what they hold is found
+    /// before the journal's lock is asked for.
+    fn try_call<R: Wait, H: Hold>(
+        &self,
+        rt: &R,
+        alloc: Global,
+        seat: &mut Seat<S, J>,
+        op: S::Op,
+        expected: Option<&Entry>,
+        hold: &H,
+    ) -> Result<Tried<S::Reply>, NoMemory>
+        requires fits { Fits S.meaning J.named.memory.fixed op }
+        ensures { IsTry S.meaning J.named.memory op expected.entry seat.old seat.new result }
+    {
+        let (thread, place) = (seat.thread(), seat.entries().len() as u64);
+        hold.before(thread, place);
+        let touches = S::touches(alloc, &op);
+        let answer = match touches.as_slice() {
+            [touch] => {
+                let kept = self.parts.keep_one(rt, *touch);
+                let decision = decide_one(&kept, *touch, &op);
+                self.try_over(
+                    rt, alloc, seat, &op, expected, &touches, kept, &decision, hold,
+                )
+            }
+            _ => self.try_several(rt, alloc, seat, &op, expected, &touches, hold),
+        };
         hold.after(thread, place);
         answer
     }
@@ -134,8 +194,8 @@ impl<S: Striped, J: Opening<S, S::Value, S::Fixed>> Shared<S, J> {
     }
 
     /// Tries a call whose entry is to be this one: where it is, and the call is ready, it is entered, behind the seat's other
-    /// calls. It answers `Shut` only where its entry would be another one in the space to which some legal history leads: the journal as
-    /// it was met.
+    /// calls. It answers `Shut` only where its entry would be another one in the space to which some legal history leads, and `NotReady`
+    /// only where it is not ready in such a space: the journal as it was met.
     pub fn access_at<R: Wait, H: Hold>(
         &self,
         rt: &R,

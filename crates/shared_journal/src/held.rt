@@ -7,13 +7,12 @@ ghost use Rattle.rw_objects.specs.Memory.{entry_of, memory_after};
 ghost use Rattle.striped_objects.specs.Cut.{decision_at};
 ghost use Rattle.shared_parts.specs.Calls.{call, IsLegalHistory, memory_after_calls};
 ghost use Rattle.shared_journal.specs.Tries.{IfDone, IfShut, IfNotReady, IsDone};
-ghost use Rattle.shared_parts.specs.Eights.{AreHere, Covers};
 
 use crate::seat::Seat;
 use crate::tried::Tried;
 use call_chain::Latest;
 use rw_objects::{Entry, Few, Found, Mode, ObjectSpace, Touch, Versions};
-use shared_parts::{Call, Count, KeptParts, Opening, Written};
+use shared_parts::{Call, Count, Keeps, Opening, Written};
 use std::alloc::Global;
 use std::marker::Model;
 use std::snapshot::Snapshot;
@@ -108,33 +107,33 @@ impl<S: Striped, J: Opening<S, S::Value, S::Fixed>> Held<S, J> {
     }
 
     /// Tries one call, over the parts that it touches, with what it decides by what they hold. `Shut` is tested first.
-    pub fn enter(
+    pub fn enter<K: Keeps<S, J>>(
         &mut self,
         alloc: Global,
         seat: &mut Seat<S, J>,
-        op: S::Op,
+        op: &S::Op,
         expected: Option<&Entry>,
         touches: &Few<Touch>,
-        kept: &mut KeptParts<'_, S, J>,
+        kept: &mut K,
         decision: &S::Decision,
     ) -> Result<Tried<S::Reply>, NoMemory>
-        requires fits { Fits S.meaning J.named.memory.fixed op }
-        requires touches { touches.now ≡ S.meaning.touches op }
-        requires covers { Covers touches.now kept.old }
-        requires decided { (values : ℕ → S.Value) → AreHere S.held values kept.old → decision.now ≡ decision_at S.meaning S.cut J.named.memory.fixed values op }
+        requires fits { Fits S.meaning J.named.memory.fixed op.now }
+        requires touches { touches.now ≡ S.meaning.touches op.now }
+        requires covers { K.covers kept.old touches.now }
+        requires decided { (values : ℕ → S.Value) → K.here kept.old values → decision.now ≡ decision_at S.meaning S.cut J.named.memory.fixed values op.now }
         ensures legal { IsLegalHistory S.meaning J.named.memory self.old }
-        ensures done { IfOk result (λ t. IfDone t (λ r e. (is_ready S.meaning J.named.memory.fixed (memory_after_calls S.meaning J.named.memory self.old).values op ≡ true) × (r ≡ reply_of S.meaning J.named.memory.fixed (memory_after_calls S.meaning J.named.memory self.old).values op) × (e ≡ entry_of S.meaning (memory_after_calls S.meaning J.named.memory self.old) op) × (memory_after_calls S.meaning J.named.memory self.new ≡ memory_after S.meaning (memory_after_calls S.meaning J.named.memory self.old) op))) }
-        ensures journal { IfOk result (λ t. IfDone t (λ r e. self.new ≡ self.old ++ call seat.old.thread op r e ∷ [])) }
-        ensures own { IfOk result (λ t. IfDone t (λ r e. seat.new.calls ≡ seat.old.calls ++ call seat.old.thread op r e ∷ [])) }
+        ensures done { IfOk result (λ t. IfDone t (λ r e. (is_ready S.meaning J.named.memory.fixed (memory_after_calls S.meaning J.named.memory self.old).values op.now ≡ true) × (r ≡ reply_of S.meaning J.named.memory.fixed (memory_after_calls S.meaning J.named.memory self.old).values op.now) × (e ≡ entry_of S.meaning (memory_after_calls S.meaning J.named.memory self.old) op.now) × (memory_after_calls S.meaning J.named.memory self.new ≡ memory_after S.meaning (memory_after_calls S.meaning J.named.memory self.old) op.now))) }
+        ensures journal { IfOk result (λ t. IfDone t (λ r e. self.new ≡ self.old ++ call seat.old.thread op.now r e ∷ [])) }
+        ensures own { IfOk result (λ t. IfDone t (λ r e. seat.new.calls ≡ seat.old.calls ++ call seat.old.thread op.now r e ∷ [])) }
         ensures open { IfOk result (λ t. IfDone t (λ r e. MatchOption expected.entry (Unit {0}) (λ x. x.now ≡ e))) }
-        ensures shut { IfOk result (λ t. IfShut t (IsSomeAnd expected.entry (λ x. x.now ≢ entry_of S.meaning (memory_after_calls S.meaning J.named.memory self.old) op))) }
-        ensures not_ready { IfOk result (λ t. IfNotReady t ((is_ready S.meaning J.named.memory.fixed (memory_after_calls S.meaning J.named.memory self.old).values op ≡ false) × MatchOption expected.entry (Unit {0}) (λ x. x.now ≡ entry_of S.meaning (memory_after_calls S.meaning J.named.memory self.old) op))) }
+        ensures shut { IfOk result (λ t. IfShut t (IsSomeAnd expected.entry (λ x. x.now ≢ entry_of S.meaning (memory_after_calls S.meaning J.named.memory self.old) op.now))) }
+        ensures not_ready { IfOk result (λ t. IfNotReady t ((is_ready S.meaning J.named.memory.fixed (memory_after_calls S.meaning J.named.memory self.old).values op.now ≡ false) × MatchOption expected.entry (Unit {0}) (λ x. x.now ≡ entry_of S.meaning (memory_after_calls S.meaning J.named.memory self.old) op.now))) }
         ensures kept { (IsDone result ≡ false) → (self.new ≡ self.old) × (seat.new ≡ seat.old) }
         ensures thread { seat.new.thread ≡ seat.old.thread }
     {
         kept.meet(&self.written, &self.latest);
         let entry = Entry {
-            kind: S::kind(&op),
+            kind: S::kind(op),
             found: find(alloc, &self.versions, touches),
         };
         if let Some(wanted) = expected {
@@ -150,7 +149,7 @@ impl<S: Striped, J: Opening<S, S::Value, S::Fixed>> Held<S, J> {
         let reply = S::reply(decision);
         let made = Call {
             thread: u32::from(seat.thread),
-            op,
+            op: *op,
             reply,
             entry,
         };
@@ -163,7 +162,7 @@ impl<S: Striped, J: Opening<S, S::Value, S::Fixed>> Held<S, J> {
         self.order.push_reserved(seat.thread);
         let Call {
             thread: _,
-            op,
+            op: _,
             reply,
             entry,
         } = made;
@@ -173,7 +172,7 @@ impl<S: Striped, J: Opening<S, S::Value, S::Fixed>> Held<S, J> {
             &before,
             &self.latest,
             touches,
-            &op,
+            op,
             decision,
         );
         Ok(Tried::Done(reply, entry))

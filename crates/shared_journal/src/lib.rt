@@ -1,11 +1,13 @@
 //! The journal of all calls of a shared space, a seat for each thread, and how a call is entered in both.
 #![tactic(auto)]
 
+mod deciding;
 mod held;
 mod left;
 mod seat;
 mod tried;
 
+pub use deciding::decide_one;
 pub use held::Held;
 pub use left::Left;
 pub use seat::Seat;

@@ -3,14 +3,13 @@
 ghost use Rattle.std.specs.Prelude.{◌≡◌, ◌+◌, ℕ, [], IfOk, OnOk, length};
 ghost use Rattle.rw_objects.specs.Space.{Fits};
 ghost use Rattle.striped_objects.specs.Cut.{sights, decision_at};
-ghost use Rattle.shared_parts.specs.Eights.{AreHere, Covers};
 ghost use Rattle.shared_parts.specs.Calls.{entries_in};
 
 use crate::left::Left;
 use call_chain::{Pile, Reached};
 use packed_entries::PackedEntries;
 use rw_objects::{Few, ObjectSpace, Touch};
-use shared_parts::{Call, Count, KeptParts, Opening};
+use shared_parts::{Call, Count, Keeps, Opening};
 use std::marker::Model;
 use std::sync::ledger::Share;
 use striped_objects::Striped;
@@ -43,8 +42,8 @@ impl<S: Striped, J: Opening<S, S::Value, S::Fixed>> Model for Seat<S, J> {
 }
 
 /// What an operation sees of the objects that it touches, whatever the space is of which the parts are parts.
-fn look<S: Striped, J: Opening<S, S::Value, S::Fixed>>(
-    kept: &KeptParts<'_, S, J>,
+fn look<S: Striped, J: Opening<S, S::Value, S::Fixed>, K: Keeps<S, J>>(
+    kept: &K,
     touches: &Few<Touch>,
     op: &S::Op,
     seen: &mut Vec<S::Seen>,
@@ -52,8 +51,8 @@ fn look<S: Striped, J: Opening<S, S::Value, S::Fixed>>(
     requires empty { seen.old.items ≡ [] }
     requires fits { Fits S.meaning J.named.memory.fixed op.now }
     requires touches { touches.now ≡ S.meaning.touches op.now }
-    requires covers { Covers touches.now kept.now }
-    ensures { OnOk result ((values : ℕ → S.Value) → AreHere S.held values kept.now → seen.new.items ≡ sights S.meaning S.cut J.named.memory.fixed values op.now) }
+    requires covers { K.covers kept.now touches.now }
+    ensures { OnOk result ((values : ℕ → S.Value) → K.here kept.now values → seen.new.items ≡ sights S.meaning S.cut J.named.memory.fixed values op.now) }
 {
     for touch in touches.as_slice() {
         seen.push(kept.look(touch.object, op))?;
@@ -70,17 +69,17 @@ impl<S: Striped, J: Opening<S, S::Value, S::Fixed>> Seat<S, J> {
     }
 
     /// What an operation decides by what the parts that it touches hold, whatever the space is of which they are parts.
-    pub fn decide(
+    pub fn decide<K: Keeps<S, J>>(
         &mut self,
-        kept: &KeptParts<'_, S, J>,
+        kept: &K,
         touches: &Few<Touch>,
         op: &S::Op,
     ) -> Result<S::Decision, NoMemory>
         requires fits { Fits S.meaning J.named.memory.fixed op.now }
         requires touches { touches.now ≡ S.meaning.touches op.now }
-        requires covers { Covers touches.now kept.now }
+        requires covers { K.covers kept.now touches.now }
         ensures kept { self.new ≡ self.old }
-        ensures decided { IfOk result (λ d. (values : ℕ → S.Value) → AreHere S.held values kept.now → d ≡ decision_at S.meaning S.cut J.named.memory.fixed values op.now) }
+        ensures decided { IfOk result (λ d. (values : ℕ → S.Value) → K.here kept.now values → d ≡ decision_at S.meaning S.cut J.named.memory.fixed values op.now) }
     {
         self.seen.clear();
         look(kept, touches, op, &mut self.seen)?;

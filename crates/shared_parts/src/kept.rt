@@ -1,6 +1,6 @@
 //! The parts that an operation touches, kept for it.
 
-ghost use Rattle.std.specs.Prelude.{◌≡◌, ◌≢◌, ◌+◌, ◌%◌, ◌<◌, ℕ, true, ◌++◌, ◌∷◌, [], is_some, nat_lt, option_map};
+ghost use Rattle.std.specs.Prelude.{◌≡◌, ◌≢◌, ◌+◌, ◌%◌, ◌<◌, ℕ, true, ◌++◌, ◌∷◌, [], is_some, nat_lt, option_copied, option_map};
 ghost use Rattle.rw_objects.specs.Space.{Fits};
 ghost use Rattle.rw_objects.specs.Counts.{is_touched};
 ghost use Rattle.striped_objects.specs.Cut.{AllSound, decision_at};
@@ -8,9 +8,10 @@ ghost use Rattle.striped_objects.specs.Parts.{lane_writes};
 ghost use Rattle.std.specs.Sync.RwLock.{write_guard_value};
 ghost use Rattle.shared_parts.specs.Calls.{memory_after_calls};
 ghost use Rattle.shared_parts.specs.Writes.{writes};
-ghost use Rattle.shared_parts.specs.Eights.{IsKept, IsAt, IsHere, AreHere, Covers, totals_by};
+ghost use Rattle.shared_parts.specs.Eights.{IsKept, IsAt, IsHere, IsOfLane, here_in};
 
 use crate::call::Call;
+use crate::keeps::Keeps;
 use crate::naming::{Lane, Opening};
 use crate::stripe::Stripe;
 use call_chain::{Latest, Reached, SecondHalf};
@@ -67,13 +68,29 @@ impl<S: Striped, J: Opening<S, S::Value, S::Fixed>, const I: u64> Drop for KeptP
 
 impl<S: Striped, J: Opening<S, S::Value, S::Fixed>, const I: u64> KeptPart<'_, S, J, I> {
     /// What is here is what the journal leads to, which knows as many writes of it.
-    fn meet(&self, written: &SecondHalf<Lane<S, J, I>>, latest: &Latest<Call<S::Op, S::Reply>, J>)
+    pub(crate) fn meet(
+        &self,
+        written: &SecondHalf<Lane<S, J, I>>,
+        latest: &Latest<Call<S::Op, S::Reply>, J>,
+    )
         ensures { written.now ≡ writes S.meaning.touches I latest.now → IsHere S.held I (memory_after_calls S.meaning J.named.memory latest.now).values self.now }
     {
         match (&self.write, &self.read) {
             (Some(guard), _) => guard.meet(written, latest),
             (None, Some(guard)) => guard.meet(written, latest),
             (None, None) => {}
+        }
+    }
+
+    /// What is kept of the part.
+    pub(crate) fn part(&self) -> Option<&S::Part>
+        ensures part { option_copied result ≡ here_in self.now }
+        ensures lane { IsOfLane S.lane S.part_fixed I J.named.memory.fixed (here_in self.now) }
+    {
+        match (&self.write, &self.read) {
+            (Some(guard), _) => Some(guard.part()),
+            (None, Some(guard)) => Some(guard.part()),
+            (None, None) => None,
         }
     }
 
@@ -96,7 +113,7 @@ impl<S: Striped, J: Opening<S, S::Value, S::Fixed>, const I: u64> KeptPart<'_, S
 }
 
 /// Makes what a call that the journal has just got makes of a part. `before` knows the calls before it.
-fn advance<S: Striped, J: Opening<S, S::Value, S::Fixed>, const I: u64>(
+pub(crate) fn advance<S: Striped, J: Opening<S, S::Value, S::Fixed>, const I: u64>(
     write: &mut Option<RwLockWriteGuard<'_, Stripe<S, J, I>>>,
     written: &mut SecondHalf<Lane<S, J, I>>,
     before: &Reached<Call<S::Op, S::Reply>, J>,
@@ -164,12 +181,14 @@ impl<'a, S: Striped, J: Opening<S, S::Value, S::Fixed>> Drop for KeptParts<'a, S
     }
 }
 
-impl<S: Striped, J: Opening<S, S::Value, S::Fixed>> KeptParts<'_, S, J> {
-    /// What the parts hold is what the journal leads to.
-    pub fn meet(&self, written: &Written<S, J>, latest: &Latest<Call<S::Op, S::Reply>, J>)
-        requires totals { written.now ≡ totals_by (λ i. writes S.meaning.touches i latest.now) }
-        ensures here { AreHere S.held (memory_after_calls S.meaning J.named.memory latest.now).values self.now }
-    {
+impl<'a, S: Striped, J: Opening<S, S::Value, S::Fixed>> Keeps<S, J> for KeptParts<'a, S, J> {
+    ghost use Rattle.shared_parts.specs.Eights.{AreHere, Covers};
+
+    ghost covers = { λ kept touches. Covers touches kept };
+
+    ghost here = { λ kept values. AreHere S.held values kept };
+
+    fn meet(&self, written: &Written<S, J>, latest: &Latest<Call<S::Op, S::Reply>, J>) {
         self.zero.meet(&written.zero, latest);
         self.one.meet(&written.one, latest);
         self.two.meet(&written.two, latest);
@@ -180,13 +199,7 @@ impl<S: Striped, J: Opening<S, S::Value, S::Fixed>> KeptParts<'_, S, J> {
         self.seven.meet(&written.seven, latest);
     }
 
-    /// What an operation sees of an object that it touches, whatever the space is of which these are parts.
-    pub fn look(&self, object: u32, op: &S::Op) -> S::Seen
-        requires fits { Fits S.meaning J.named.memory.fixed op.now }
-        requires touched { is_touched (S.meaning.touches op.now) object ≡ true }
-        requires covers { Covers (S.meaning.touches op.now) self.now }
-        ensures { (values : ℕ → S.Value) → AreHere S.held values self.now → result ≡ S.cut.sight J.named.memory.fixed op.now object (values object) }
-    {
+    fn look(&self, object: u32, op: &S::Op) -> S::Seen {
         let mut seen = Default::default();
         self.zero.look(object, op, &mut seen);
         self.one.look(object, op, &mut seen);
@@ -199,8 +212,7 @@ impl<S: Striped, J: Opening<S, S::Value, S::Fixed>> KeptParts<'_, S, J> {
         seen
     }
 
-    /// Makes what a call that the journal has just got makes of the parts. `before` knows the calls before it.
-    pub fn advance(
+    fn advance(
         &mut self,
         written: &mut Written<S, J>,
         before: &Reached<Call<S::Op, S::Reply>, J>,
@@ -208,17 +220,7 @@ impl<S: Striped, J: Opening<S, S::Value, S::Fixed>> KeptParts<'_, S, J> {
         touches: &Few<Touch>,
         op: &S::Op,
         decision: &S::Decision,
-    )
-        requires fits { Fits S.meaning J.named.memory.fixed op.now }
-        requires touches { touches.now ≡ S.meaning.touches op.now }
-        requires grown { (c : Call S.Op S.Reply) × (latest.now ≡ before.now ++ c ∷ []) × (c.op ≡ op.now) }
-        requires totals { written.old ≡ totals_by (λ i. writes S.meaning.touches i before.now) }
-        requires covers { Covers (S.meaning.touches op.now) self.old }
-        requires here { AreHere S.held (memory_after_calls S.meaning J.named.memory before.now).values self.old }
-        requires decided { decision.now ≡ decision_at S.meaning S.cut J.named.memory.fixed (memory_after_calls S.meaning J.named.memory before.now).values op.now }
-        requires sound { AllSound S.cut J.named.memory.fixed (memory_after_calls S.meaning J.named.memory before.now).values }
-        ensures { written.new ≡ totals_by (λ i. writes S.meaning.touches i latest.now) }
-    {
+    ) {
         advance(
             &mut self.zero.write,
             &mut written.zero,

@@ -2,11 +2,15 @@
 #![tactic(auto)]
 
 mod call;
+mod keeps;
 mod kept;
 mod naming;
+mod one;
 mod stripe;
 
 pub use call::Call;
+pub use keeps::Keeps;
 pub use kept::{KeptPart, KeptParts, Written};
 pub use naming::{Count, Lane, Opening};
+pub use one::{OneOf, OnePart};
 pub use stripe::{Stripe, lane_writes};

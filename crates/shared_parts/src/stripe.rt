@@ -51,6 +51,14 @@ impl<S: Striped, J: Opening<S, S::Value, S::Fixed>, const I: u64> Stripe<S, J, I
         self.times.meet(written);
     }
 
+    /// What it holds of the space.
+    pub fn part(&self) -> &S::Part
+        ensures part { result.now ≡ self.now }
+        ensures lane { (S.lane self.now ≡ I) × (S.part_fixed self.now ≡ J.named.memory.fixed) }
+    {
+        &self.part
+    }
+
     /// What an operation sees of an object that it touches.
     pub fn look(&self, object: u32, op: &S::Op) -> S::Seen
         requires fits { Fits S.meaning J.named.memory.fixed op.now }

@@ -1,6 +1,6 @@
 -- What is seen of an object.
-use Rattle.std.proofs.Common.{◌≡◌, ℕ, ◌+◌, ◌-◌, ◌≤◌, ◌<◌, List, ◌++◌, length, get_or, take, drop, replicate, min, [], ◌∷◌, suc, slice_index, inl, inr, refl, sym, ap, ◌∙◌, arith}
-use Rattle.std.proofs.lemmas.List.{same_lists, places, append-nil, take-replicate, drop-replicate, get_or_append_left}
+use Rattle.std.proofs.Common.{◌≡◌, ℕ, ◌+◌, ◌-◌, ◌≤◌, ◌<◌, List, ◌++◌, length, get_or, take, drop, replicate, min, [], ◌∷◌, zero, suc, slice_index, inl, inr, refl, sym, ap, ◌∙◌, arith}
+use Rattle.std.proofs.lemmas.List.{same_lists, places, append-nil, take-replicate, drop-replicate, get_or_append_left, get_or_past}
 use Rattle.std.proofs.Math.Seq.{take-append-add, drop-cons, get_or-append_right}
 use Rattle.std.proofs.lemmas.Bool.{cases_lt}
 use Rattle.memory_parts.specs.declared.seen.Seen.{Seen}
@@ -23,7 +23,7 @@ first_bytes_are bytes len m is all = same_lists _ _ (grind (arith, places)) poin
 
 -- the bytes of several parts that were seen
 pub bytes_split : (s : Seen) (ss : List Seen) → bytes_in (s ∷ ss) ≡ bytes_in (s ∷ []) ++ bytes_in ss
-bytes_split (see.Part bytes len) ss = ap (λ l. l ++ bytes_in ss) (sym (append-nil (take len bytes)))
+bytes_split (see.Part len bytes) ss = ap (λ l. l ++ bytes_in ss) (sym (append-nil (take len bytes)))
 bytes_split (see.Pages pages c) ss = refl
 bytes_split see.Nothing ss = refl
 bytes_split (see.Threads n) ss = refl
@@ -56,3 +56,19 @@ pub filled : (all bytes : List ℕ) (count : ℕ) → ((k : ℕ) → k < count �
 filled all bytes count before zeros left k low = elim (cases_lt k count) [ inl less ↦ before k less | inr more ↦ behind (k - count) (omega (arith, more)) more ] where
   behind : (m : ℕ) → k ≡ count + m → count ≤ k → slice_index bytes k ≡ slice_index all k
   behind m at more = zeros k more ∙ (left m (omega (arith, at, low)) ∙ ap (slice_index all) (sym at))
+
+-- ---- one part alone
+
+zeros_seen : (n k : ℕ) → slice_index (replicate n 0) k ≡ 0
+zeros_seen zero k = refl
+zeros_seen (suc n) zero = refl
+zeros_seen (suc n) (suc k) = zeros_seen n k
+
+-- bytes that are put in front of eight zeros
+pub front_alone : (part new : List ℕ) (r : ℕ) → r ≡ min (0 + length part) 8 → length part ≤ 8 → ((k : ℕ) → k < length part → 0 + k < 8 → slice_index new (0 + k) ≡ slice_index part k)
+    → ((k : ℕ) → r ≤ k → slice_index new k ≡ slice_index (replicate 8 0) k) → (k : ℕ) → k < 8 → slice_index new k ≡ slice_index part k
+front_alone part new r is few put behind k low =
+    elim (cases_lt k (length part)) [
+      | inl less ↦ ap (slice_index new) (let same : k ≡ 0 + k = omega arith in same) ∙ put k less (omega (arith, low))
+      | inr more ↦ behind k (omega (arith, is, few, more)) ∙ zeros_seen 8 k ∙ sym (get_or_past part k 0 more)
+    ]

@@ -3,13 +3,18 @@
 ghost use Rattle.std.specs.Prelude.{◌≡◌, ℕ, ◌+◌, ◌%◌, ◌<◌, ◌≤◌, ◌==◌, cond, true, false, None, Some, Option, unwrap_or, [], ◌∷◌, List, length, take, min, slice_index};
 ghost use Rattle.wasm_types.specs.declared.operation.Action.TheVariants as act;
 ghost use Rattle.std.specs.Prelude.{option_map};
+ghost use Rattle.std.specs.Int.{byte_len};
+ghost use Rattle.wasm_types.specs.declared.instruction.Load.TheVariants as load;
+ghost use Rattle.wasm_types.specs.Accesses.{type_width};
 ghost use Rattle.block_objects.specs.Access.{is_within};
 ghost use Rattle.block_objects.specs.Effects.{out_of_bounds, i32_reply, grow_reply, grown, wait_reply};
 ghost use Rattle.memory_parts.specs.declared.seen.Seen.{Seen};
+ghost use Rattle.memory_parts.specs.declared.seen.Seen.TheVariants as see;
 ghost use Rattle.memory_parts.specs.SharedCut.{pages_in, capacity_in, threads_in, holds_in, bytes_in, plain, access_decided, wait_decided, action_decision};
 
 use block_objects::{access_number, access_value, ends_within, load_value, modify, type_number};
 use memory_parts::{Decision, Seen};
+use std::slice;
 use wasm_types::{Access, Action, Extent, Load, Op, Reply, RmwOp, Trap, ValType, Value};
 
 /// The length and the capacity, where they were seen.
@@ -112,10 +117,40 @@ fn append(bytes: &mut [u8; 8], count: usize, part: &[u8]) -> usize
     end
 }
 
+/// The first of eight bytes, at most so many, and zeros behind them.
+fn front_of(bytes: &[u8; 8], len: u32) -> [u8; 8]
+    ensures { (k : ℕ) → k < 8 → slice_index result k ≡ slice_index (take len bytes.now) k }
+{
+    match len {
+        1 => [bytes[0], 0, 0, 0, 0, 0, 0, 0],
+        2 => [bytes[0], bytes[1], 0, 0, 0, 0, 0, 0],
+        4 => [bytes[0], bytes[1], bytes[2], bytes[3], 0, 0, 0, 0],
+        8 => *bytes,
+        _ => {
+            let mut front = [0; 8];
+            append(&mut front, 0, first_bytes(bytes, len));
+            front
+        }
+    }
+}
+
+/// The bytes that were seen of the one block of an access, and zeros behind them.
+fn bytes_of(seen: &Seen) -> [u8; 8]
+    ensures { (k : ℕ) → k < 8 → slice_index result k ≡ slice_index (bytes_in (seen.now ∷ [])) k }
+{
+    match seen {
+        Seen::Part { bytes, len } => front_of(bytes, *len),
+        _ => [0; 8],
+    }
+}
+
 /// The first eight bytes that were seen of the blocks of an access, and zeros behind them.
 fn bytes_in(seen: &[Seen]) -> [u8; 8]
     ensures { (k : ℕ) → k < 8 → slice_index result k ≡ slice_index (bytes_in seen.now) k }
 {
+    if let [one] = seen {
+        return bytes_of(one);
+    }
     let mut bytes = [0; 8];
     let mut count = 0;
     for one in seen {
@@ -271,7 +306,23 @@ fn decide_notify(extent: &Extent, address: u32, count: u32, seen: &[Seen]) -> De
     decide_plain(true, reply, 0, true)
 }
 
+/// A load of a whole number whose bytes lie in one block.
+fn decide_whole_load(extent: &Extent, of: ValType, address: u32, bytes: &[u8; 8]) -> Decision
+    ensures { result ≡ action_decision extent.now (act.Load (load.Whole of) address) (see.Part (byte_len (type_width of)) bytes.now ∷ []) }
+{
+    let (len, value) = match of {
+        ValType::I32 => {
+            let number = u32::from_le_bytes([bytes[0], bytes[1], bytes[2], bytes[3]]);
+            (4, Value::I32(number))
+        }
+        ValType::I64 => (8, Value::I64(u64::from_le_bytes(*bytes))),
+    };
+    let within = ends_within(extent.initial, address, len);
+    decide_access(within, Reply::Value(value), None)
+}
+
 /// What an operation decides by what it saw of each object that it touches.
+#[inline(never)]
 pub(crate) fn decide(op: &Op, seen: &[Seen]) -> Decision
     ensures { result ≡ action_decision op.now.extent op.now.action seen.now }
 {
@@ -314,4 +365,22 @@ pub(crate) fn decide(op: &Op, seen: &[Seen]) -> Decision
             decide_plain(holds_in(seen), Reply::Value(Value::I32(2)), 0, true)
         }
     }
+}
+
+/// What an operation that touches one object decides by what it saw of it. A load of a whole value is decided at once.
+pub(crate) fn decide_one(op: &Op, seen: &Seen) -> Decision
+    ensures { result ≡ action_decision op.now.extent op.now.action (seen.now ∷ []) }
+{
+    if let Action::Load {
+        load: Load::Whole(of),
+        address,
+    } = op.action
+    {
+        if let Seen::Part { len, bytes } = seen {
+            if *len == of.width().bytes() {
+                return decide_whole_load(&op.extent, of, address, bytes);
+            }
+        }
+    }
+    decide(op, slice::from_ref(seen))
 }

@@ -45,11 +45,31 @@ fn seen_part(part: &[u8]) -> Seen
     requires { length part.now ≤ 8 }
     ensures { result ≡ part_sight part.now }
 {
-    let mut bytes = [0; 8];
-    bytes[..part.len()].copy_from_slice(part);
-    Seen::Part {
-        bytes,
-        len: part.len() as u32,
+    match part {
+        [a, b, c, d] => Seen::Part {
+            bytes: [*a, *b, *c, *d, 0, 0, 0, 0],
+            len: 4,
+        },
+        [a, b, c, d, e, f, g, h] => Seen::Part {
+            bytes: [*a, *b, *c, *d, *e, *f, *g, *h],
+            len: 8,
+        },
+        [a] => Seen::Part {
+            bytes: [*a, 0, 0, 0, 0, 0, 0, 0],
+            len: 1,
+        },
+        [a, b] => Seen::Part {
+            bytes: [*a, *b, 0, 0, 0, 0, 0, 0],
+            len: 2,
+        },
+        _ => {
+            let mut bytes = [0; 8];
+            bytes[..part.len()].copy_from_slice(part);
+            Seen::Part {
+                bytes,
+                len: part.len() as u32,
+            }
+        }
     }
 }
 

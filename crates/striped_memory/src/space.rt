@@ -111,6 +111,10 @@ impl Striped for StripedMemory {
         crate::decide::decide(op, seen)
     }
 
+    fn decide_one(op: &Op, seen: &Seen) -> Decision {
+        crate::decide::decide_one(op, seen)
+    }
+
     fn is_ready(decision: &Decision) -> bool {
         decision.ready
     }

@@ -9,7 +9,6 @@ use Rattle.rw_objects.specs.Counts.{all_found, count_at, counts_after}
 use Rattle.rw_objects.specs.Memory.{entry_of, memory_after}
 use Rattle.striped_objects.specs.Cut.{AllSound, decision_at}
 use Rattle.shared_parts.specs.Calls.{memory_after_calls, entries_in, threads_in}
-use Rattle.shared_parts.specs.Eights.{AreHere}
 use Rattle.shared_parts.proofs.Writes.{memory_with_call, values_with_call, fixed_after}
 use Rattle.shared_journal.proofs.Grows.{seat_grows}
 use Rattle.shared_journal.proofs.Enters.{few_after, entries-push, threads-push, legal_with, sound_after}
@@ -28,14 +27,14 @@ advance-requires-clause-sound g c =
 
 pub advance-requires-clause-here : goal.advance-requires-clause-here
 advance-requires-clause-here g c =
-    subst (λ cs. AreHere g.S.Striped.held (memory_after_calls g.S.ObjectSpace.meaning g.J.Opening.named.memory cs).values c.args.kept.now) (sym c.reached-before.ensures) c.meet.ensures.here
+    subst (λ cs. g.K.Keeps.here c.args.kept.now (memory_after_calls g.S.ObjectSpace.meaning g.J.Opening.named.memory cs).values) (sym c.reached-before.ensures) c.meet.ensures.here
 
 pub advance-requires-clause-decided : goal.advance-requires-clause-decided
 advance-requires-clause-decided g c =
     let space = g.S.ObjectSpace.meaning in
     let m = g.J.Opening.named.memory in
     let cs = c.self.inside.latest in
-    c.requires.decided (memory_after_calls space m cs).values c.meet.ensures.here ∙ ap (λ l. decision_at space g.S.Striped.cut m.fixed (memory_after_calls space m l).values c.args.op) (sym c.reached-before.ensures)
+    c.requires.decided (memory_after_calls space m cs).values c.meet.ensures.here ∙ ap (λ l. decision_at space g.S.Striped.cut m.fixed (memory_after_calls space m l).values c.args.op.now) (sym c.reached-before.ensures)
 
 pub invariant_of-self-2 : goal.invariant_of-self-2
 invariant_of-self-2 g c =
@@ -43,7 +42,7 @@ invariant_of-self-2 g c =
     let cut = g.S.Striped.cut in
     let laws = g.met.S.Striped.laws in
     let m = g.J.Opening.named.memory in
-    let op = c.args.op in
+    let op = c.args.op.now in
     let inv = c.self.invariant in
     let cs = c.self.inside.latest in
     let fits = c.requires.fits in
@@ -102,7 +101,7 @@ returns-clause-done g c =
     let cut = g.S.Striped.cut in
     let laws = g.met.S.Striped.laws in
     let m = g.J.Opening.named.memory in
-    let op = c.args.op in
+    let op = c.args.op.now in
     let inv = c.self.invariant in
     let cs = c.self.inside.latest in
     let fits = c.requires.fits in

@@ -1,7 +1,7 @@
 use Rattle.std.proofs.Common.{◌%◌, arith, ℕ, sym, subst}
 use Rattle.shared_parts.specs.Eights.{AreHere}
 use Rattle.shared_parts.proofs.Writes.{seen_so_far}
-use Rattle.shared_parts.proofs.kept.KeptParts.look.Goals as goal
+use Rattle.shared_parts.proofs.kept.KeptPartsKeeps.look.Goals as goal
 
 pub returns : goal.returns
 returns g c values here-now =

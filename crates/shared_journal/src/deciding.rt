@@ -1,0 +1,24 @@
+//! What an operation of one object decides.
+
+ghost use Rattle.std.specs.Prelude.{◌≡◌, ℕ, ◌∷◌, []};
+ghost use Rattle.rw_objects.specs.Space.{Fits};
+ghost use Rattle.striped_objects.specs.Cut.{decision_at};
+
+use rw_objects::{ObjectSpace, Touch};
+use shared_parts::{Keeps, Opening};
+use striped_objects::Striped;
+
+/// What an operation that touches one object decides by what its part holds, whatever the space is of which it is a part. It takes no
+/// memory.
+pub fn decide_one<S: Striped, J: Opening<S, S::Value, S::Fixed>, K: Keeps<S, J>>(
+    kept: &K,
+    touch: Touch,
+    op: &S::Op,
+) -> S::Decision
+    requires fits { Fits S.meaning J.named.memory.fixed op.now }
+    requires touches { S.meaning.touches op.now ≡ touch ∷ [] }
+    requires covers { K.covers kept.now (touch ∷ []) }
+    ensures { (values : ℕ → S.Value) → K.here kept.now values → result ≡ decision_at S.meaning S.cut J.named.memory.fixed values op.now }
+{
+    S::decide_one(op, &kept.look(touch.object, op))
+}
