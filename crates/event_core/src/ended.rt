@@ -22,7 +22,7 @@ impl Model for Ended {
 
 impl Ended {
     /// The end with these bytes and outcomes.
-    pub(crate) fn new(memory: Vec<u8>, outcomes: Vec<Outcome>) -> Ended
+    pub fn new(memory: Vec<u8>, outcomes: Vec<Outcome>) -> Ended
         ensures memory { result.memory ≡ memory.items }
         ensures outcomes { result.outcomes ≡ outcomes.items }
     {
