@@ -3,10 +3,11 @@
 
 usage: recordings.py PATH_OF_WREPLAY [TIMES]
 
-Two threads add to a counter TIMES times (1,000 without a number): those of `examples/lost`, which load, add and store, and those
-of the worked rows' counter, which add by one access. Each recording is replayed from its pieces by three orders and by threads, and the
-four reports must be one. It prints, for each module, how many
-recordings were replayed, how often each report came, and how often an update was lost.
+Three modules are recorded TIMES times (1,000 without a number): two threads that add to a counter, those of `examples/lost`, which
+load, add and store, and those of the worked rows' counter, which add by one access; and the C example, `examples/hunt`, whose third
+thread adds up what it takes of a queue. Each recording is replayed from its pieces by three orders and by threads, and the four
+reports must be one. It prints, for each module, how many recordings were replayed, how often an update was lost, and how often each
+report came: the last line alone of those of the C example, with its sum.
 """
 
 import collections
@@ -18,6 +19,13 @@ import tempfile
 HERE = os.path.dirname(os.path.abspath(__file__))
 LOST = os.path.join(HERE, "..", "examples", "lost")
 COUNTER = os.path.join(HERE, "..", "crates", "worked_rows", "data", "counter")
+QUEUE = os.path.join(HERE, "..", "examples", "hunt", "queue")
+# What is recorded, with which options, what stands in a report of no lost update, and from which line on a report is shown.
+MODULES = [
+    (LOST, [], "\n00000000 02", 1),
+    (COUNTER, [], "\n00000000 04", 1),
+    (QUEUE, ["--size", "16"], "\nthread 2 i32 303\n", -1),
+]
 ORDERS = [[], ["--order", "1,0,1,0,1"], ["--order", "0,0,0,0,1"], ["--threads"]]
 
 
@@ -42,17 +50,20 @@ def main():
     times = int(sys.argv[2]) if len(sys.argv) > 2 else 1000
     with tempfile.TemporaryDirectory() as folder:
         pieces = os.path.join(folder, "pieces")
-        for path, whole in [(LOST, "02"), (COUNTER, "04")]:
+        for path, options, whole, first in MODULES:
             files = [path + ".wasm", path + ".plan"]
             reports = collections.Counter()
             for _ in range(times):
                 with open(pieces, "wb") as out:
-                    out.write(run([program, "record", *files, "--threads"]))
+                    out.write(run([program, "record", *files, "--threads", *options]))
                 reports[replayed(program, files, pieces)] += 1
-            lost = sum(n for text, n in reports.items() if ("00000000 " + whole) not in text)
+            lost = sum(n for text, n in reports.items() if whole not in text)
             print("%s: %d recordings, each with one report in %d replays, %d of them with a lost update" % (os.path.basename(path), times, len(ORDERS), lost))
-            for text, n in reports.most_common():
-                print("%6d  %s" % (n, "; ".join(text.strip().split("\n")[1:])))
+            shown = collections.Counter()
+            for text, n in reports.items():
+                shown["; ".join(text.strip().split("\n")[first:])] += n
+            for text, n in shown.most_common():
+                print("%6d  %s" % (n, text))
 
 
 main()
