@@ -1,12 +1,12 @@
 //! What is kept for an operation.
 
-ghost use Rattle.std.specs.Prelude.{◌≡◌, ℕ, List, true, ◌++◌, ◌∷◌, []};
+ghost use Rattle.std.specs.Prelude.{◌≡◌, ℕ, List, true};
 ghost use Rattle.rw_objects.specs.Space.{Fits};
 ghost use Rattle.rw_objects.specs.Counts.{is_touched};
 ghost use Rattle.rw_objects.specs.declared.touch.Touch.{Touch as TouchValue};
-ghost use Rattle.striped_objects.specs.Cut.{AllSound, decision_at};
 ghost use Rattle.shared_parts.specs.Calls.{memory_after_calls};
 ghost use Rattle.shared_parts.specs.Writes.{writes};
+ghost use Rattle.shared_parts.specs.Steps.{IsStep};
 ghost use Rattle.shared_parts.specs.Eights.{totals_by};
 
 use crate::call::Call;
@@ -45,13 +45,9 @@ pub trait Keeps<S: Striped, J: Opening<S, S::Value, S::Fixed>> {
         op: &S::Op,
         decision: &S::Decision,
     )
-        requires fits { Fits S.meaning J.named.memory.fixed op.now }
-        requires touches { touches.now ≡ S.meaning.touches op.now }
-        requires grown { (c : Call S.Op S.Reply) × (latest.now ≡ before.now ++ c ∷ []) × (c.op ≡ op.now) }
+        requires step { IsStep S.meaning S.cut J.named.memory before.now latest.now touches.now op.now decision.now }
         requires totals { written.old ≡ totals_by (λ i. writes S.meaning.touches i before.now) }
         requires covers { covers self.old (S.meaning.touches op.now) }
         requires here { here self.old (memory_after_calls S.meaning J.named.memory before.now).values }
-        requires decided { decision.now ≡ decision_at S.meaning S.cut J.named.memory.fixed (memory_after_calls S.meaning J.named.memory before.now).values op.now }
-        requires sound { AllSound S.cut J.named.memory.fixed (memory_after_calls S.meaning J.named.memory before.now).values }
         ensures { written.new ≡ totals_by (λ i. writes S.meaning.touches i latest.now) };
 }

@@ -1,13 +1,13 @@
 //! The parts that an operation touches, kept for it.
 
-ghost use Rattle.std.specs.Prelude.{◌≡◌, ◌≢◌, ◌+◌, ◌%◌, ◌<◌, ℕ, true, ◌++◌, ◌∷◌, [], is_some, nat_lt, option_copied, option_map};
+ghost use Rattle.std.specs.Prelude.{◌≡◌, ◌≢◌, ◌%◌, ◌<◌, ℕ, true, is_some, nat_lt, option_copied, option_map};
 ghost use Rattle.rw_objects.specs.Space.{Fits};
 ghost use Rattle.rw_objects.specs.Counts.{is_touched};
-ghost use Rattle.striped_objects.specs.Cut.{AllSound, decision_at};
 ghost use Rattle.striped_objects.specs.Parts.{lane_writes};
 ghost use Rattle.std.specs.Sync.RwLock.{write_guard_value};
 ghost use Rattle.shared_parts.specs.Calls.{memory_after_calls};
 ghost use Rattle.shared_parts.specs.Writes.{writes};
+ghost use Rattle.shared_parts.specs.Steps.{IsStep};
 ghost use Rattle.shared_parts.specs.Eights.{IsKept, IsAt, IsHere, IsOfLane, here_in};
 
 use crate::call::Call;
@@ -103,10 +103,9 @@ impl<S: Striped, J: Opening<S, S::Value, S::Fixed>, const I: u64> KeptPart<'_, S
         ensures other { object % 8 ≢ I → seen.new ≡ seen.old }
     {
         if u64::from(object % 8) == I {
-            match (&self.write, &self.read) {
-                (Some(guard), _) => *seen = guard.look(object, op),
-                (None, Some(guard)) => *seen = guard.look(object, op),
-                (None, None) => unreachable!(),
+            match self.part() {
+                Some(part) => *seen = S::look(part, object, op),
+                None => unreachable!(),
             }
         }
     }
@@ -122,14 +121,10 @@ pub(crate) fn advance<S: Striped, J: Opening<S, S::Value, S::Fixed>, const I: u6
     op: &S::Op,
     decision: &S::Decision,
 )
-    requires fits { Fits S.meaning J.named.memory.fixed op.now }
-    requires touches { touches.now ≡ S.meaning.touches op.now }
-    requires grown { (c : Call S.Op S.Reply) × (latest.now ≡ before.now ++ c ∷ []) × (c.op ≡ op.now) }
+    requires step { IsStep S.meaning S.cut J.named.memory before.now latest.now touches.now op.now decision.now }
     requires total { written.old ≡ writes S.meaning.touches I before.now }
     requires kept { is_some (option_map write_guard_value write.old) ≡ nat_lt 0 (lane_writes I (S.meaning.touches op.now)) }
     requires here { IsAt S.held I (memory_after_calls S.meaning J.named.memory before.now).values (option_map write_guard_value write.old) }
-    requires decided { decision.now ≡ decision_at S.meaning S.cut J.named.memory.fixed (memory_after_calls S.meaning J.named.memory before.now).values op.now }
-    requires sound { AllSound S.cut J.named.memory.fixed (memory_after_calls S.meaning J.named.memory before.now).values }
     ensures total { written.new ≡ writes S.meaning.touches I latest.now }
 {
     match write {

@@ -1,12 +1,12 @@
 //! One part of a shared space.
 
-ghost use Rattle.std.specs.Prelude.{◌≡◌, ◌+◌, ◌%◌, ◌/◌, ◌<◌, ℕ, true, ◌++◌, ◌∷◌, [], box_value};
-ghost use Rattle.rw_objects.specs.Space.{Fits, RisesFrom};
+ghost use Rattle.std.specs.Prelude.{◌≡◌, ◌%◌, ◌/◌, ◌<◌, true, box_value};
+ghost use Rattle.rw_objects.specs.Space.{Fits};
 ghost use Rattle.rw_objects.specs.Counts.{is_touched};
-ghost use Rattle.striped_objects.specs.Cut.{AllSound, decision_at};
 ghost use Rattle.striped_objects.specs.Parts.{IsPart, part_values, lane_writes};
 ghost use Rattle.shared_parts.specs.Calls.{memory_after_calls};
 ghost use Rattle.shared_parts.specs.Writes.{writes};
+ghost use Rattle.shared_parts.specs.Steps.{IsStep};
 
 use crate::call::Call;
 use crate::naming::{Lane, Opening};
@@ -59,16 +59,6 @@ impl<S: Striped, J: Opening<S, S::Value, S::Fixed>, const I: u64> Stripe<S, J, I
         &self.part
     }
 
-    /// What an operation sees of an object that it touches.
-    pub fn look(&self, object: u32, op: &S::Op) -> S::Seen
-        requires fits { Fits S.meaning J.named.memory.fixed op.now }
-        requires touched { is_touched (S.meaning.touches op.now) object ≡ true }
-        requires lane { object % 8 ≡ I }
-        ensures { result ≡ S.cut.sight J.named.memory.fixed op.now object (S.held self.now (object / 8)) }
-    {
-        S::look(&self.part, object, op)
-    }
-
     /// Makes what a call that the journal has just got makes of this part. `before` knows the calls before it.
     pub fn advance(
         &mut self,
@@ -79,13 +69,9 @@ impl<S: Striped, J: Opening<S, S::Value, S::Fixed>, const I: u64> Stripe<S, J, I
         op: &S::Op,
         decision: &S::Decision,
     )
-        requires fits { Fits S.meaning J.named.memory.fixed op.now }
-        requires touches { touches.now ≡ S.meaning.touches op.now }
-        requires grown { (c : Call S.Op S.Reply) × (latest.now ≡ before.now ++ c ∷ []) × (c.op ≡ op.now) }
+        requires step { IsStep S.meaning S.cut J.named.memory before.now latest.now touches.now op.now decision.now }
         requires total { written.old ≡ writes S.meaning.touches I before.now }
         requires here { S.held self.old ≡ part_values I (memory_after_calls S.meaning J.named.memory before.now).values }
-        requires decided { decision.now ≡ decision_at S.meaning S.cut J.named.memory.fixed (memory_after_calls S.meaning J.named.memory before.now).values op.now }
-        requires sound { AllSound S.cut J.named.memory.fixed (memory_after_calls S.meaning J.named.memory before.now).values }
         ensures total { written.new ≡ writes S.meaning.touches I latest.now }
     {
         self.times.meet(written);

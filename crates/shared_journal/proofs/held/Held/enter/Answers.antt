@@ -17,24 +17,23 @@ use Rattle.shared_journal.proofs.held.Held.enter.Goals as goal
 abbrev entry_with : Kind → List Found → Entry
 entry_with k f = record { kind = k; found = f }
 
-pub advance-requires-clause-grown : goal.advance-requires-clause-grown
-advance-requires-clause-grown g c =
-    (c.of.result.value, c.push-2.ensures.items ∙ ap (λ l. l ++ c.of.result.value ∷ []) (sym c.reached-before.ensures), ap (λ x. x.op) c.of.ensures)
-
-pub advance-requires-clause-sound : goal.advance-requires-clause-sound
-advance-requires-clause-sound g c =
-    subst (λ cs. AllSound g.S.Striped.cut g.J.Opening.named.memory.fixed (memory_after_calls g.S.ObjectSpace.meaning g.J.Opening.named.memory cs).values) (sym c.reached-before.ensures) c.self.invariant.sound
+pub advance-requires-clause-step : goal.advance-requires-clause-step
+advance-requires-clause-step g c =
+    let space = g.S.ObjectSpace.meaning in
+    let cut = g.S.Striped.cut in
+    let m = g.J.Opening.named.memory in
+    let cs = c.self.inside.latest in
+    let before = sym c.reached-before.ensures in record {
+      fits = c.requires.fits;
+      touches = c.requires.touches;
+      grown = (c.of.result.value, c.push-2.ensures.items ∙ ap (λ l. l ++ c.of.result.value ∷ []) before, ap (λ x. x.op) c.of.ensures);
+      decided = c.requires.decided (memory_after_calls space m cs).values c.meet.ensures.here ∙ ap (λ l. decision_at space cut m.fixed (memory_after_calls space m l).values c.args.op.now) before;
+      sound = subst (λ l. AllSound cut m.fixed (memory_after_calls space m l).values) before c.self.invariant.sound;
+    }
 
 pub advance-requires-clause-here : goal.advance-requires-clause-here
 advance-requires-clause-here g c =
     subst (λ cs. g.K.Keeps.here c.args.kept.now (memory_after_calls g.S.ObjectSpace.meaning g.J.Opening.named.memory cs).values) (sym c.reached-before.ensures) c.meet.ensures.here
-
-pub advance-requires-clause-decided : goal.advance-requires-clause-decided
-advance-requires-clause-decided g c =
-    let space = g.S.ObjectSpace.meaning in
-    let m = g.J.Opening.named.memory in
-    let cs = c.self.inside.latest in
-    c.requires.decided (memory_after_calls space m cs).values c.meet.ensures.here ∙ ap (λ l. decision_at space g.S.Striped.cut m.fixed (memory_after_calls space m l).values c.args.op.now) (sym c.reached-before.ensures)
 
 pub invariant_of-self-2 : goal.invariant_of-self-2
 invariant_of-self-2 g c =

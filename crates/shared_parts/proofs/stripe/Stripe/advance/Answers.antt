@@ -15,18 +15,18 @@ invariant_of-self g c =
     let m = g.J.Opening.named.memory in
     let op = c.args.op.now in
     let values = (memory_after_calls space m c.args.before.now).values in
-    let grown = c.requires.grown in
+    let grown = c.requires.step.grown in
     let old = c.deref_mut.ensures.value in
     let fixed : g.S.Striped.part_fixed c.deref_mut.result.now ≡ m.fixed = ap g.S.Striped.part_fixed old ∙ inv.2.is_fixed in
     let held : g.S.Striped.held c.deref_mut.result.now ≡ part_values g.row.I values = ap g.S.Striped.held (old ∙ c.self.view_is) ∙ c.requires.here in
-    let decided = c.requires.decided ∙ ap (λ f. decision_at space cut f values op) (sym fixed) in
-    let sound = subst (λ f. AllSound cut f values) (sym fixed) c.requires.sound in
+    let decided = c.requires.step.decided ∙ ap (λ f. decision_at space cut f values op) (sym fixed) in
+    let sound = subst (λ f. AllSound cut f values) (sym fixed) c.requires.step.sound in
     let made = c.change_lane.ensures.held values held decided sound in
     let told = c.reached.ensures in
     let total = writes_with_call space g.row.I c.args.before.now c.args.latest.now grown.0 op grown.1 grown.2 in
     let all = ap (writes space.touches g.row.I) told in
     let count = c.lane_writes.ensures in
-    let touches = ap (lane_writes g.row.I) c.requires.touches in
+    let touches = ap (lane_writes g.row.I) c.requires.step.touches in
     let met = c.meet.ensures.met in (
       inv.0,
       omega (arith, c.add.ensures.first, met, c.requires.total, total, all, count, touches),
@@ -42,8 +42,8 @@ invariant_of-self g c =
 pub returns : goal.returns
 returns g c =
     let space = g.S.ObjectSpace.meaning in
-    let grown = c.requires.grown in
+    let grown = c.requires.step.grown in
     let total = writes_with_call space g.row.I c.args.before.now c.args.latest.now grown.0 c.args.op.now grown.1 grown.2 in
     let count = c.lane_writes.ensures in
-    let touches = ap (lane_writes g.row.I) c.requires.touches in
+    let touches = ap (lane_writes g.row.I) c.requires.step.touches in
     record { total = omega (arith, c.add.ensures.second, c.requires.total, total, count, touches) }
