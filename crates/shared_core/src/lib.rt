@@ -10,6 +10,7 @@ mod opened;
 mod parts;
 mod resting;
 mod shared;
+mod waking;
 
 pub use close::History;
 pub use hold::{Hold, Unkept};

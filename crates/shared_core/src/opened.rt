@@ -1,10 +1,11 @@
 //! How a shared space begins.
 
-ghost use Rattle.std.specs.Prelude.{◌≡◌, ◌+◌, ◌<◌, IfOk, length, [], ◌∷◌, slice_index_or, box_value};
+ghost use Rattle.std.specs.Prelude.{◌≡◌, ◌+◌, ◌<◌, IfOk, OnOk, length, replicate, [], ◌∷◌, slice_index_or, box_value};
 ghost use Rattle.striped_objects.specs.Parts.{IsPart, AreParts};
 ghost use Rattle.shared_parts.specs.Eights.{totals_by};
 ghost use Rattle.shared_core.specs.Begins.{names_of, lane_names};
-ghost use Rattle.rw_objects.specs.Counts.{no_counts};
+ghost use Rattle.rw_objects.specs.Counts.{no_count, no_counts};
+ghost use Rattle.striped_objects.specs.Cut.{AllSound};
 ghost use Rattle.rw_objects.specs.Memory.{memory_with};
 ghost use Rattle.shared_parts.specs.Calls.{IsNumbered, AreNew};
 
@@ -12,19 +13,19 @@ use crate::journal::Journal;
 use crate::parts::Parts;
 use crate::resting::Resting;
 use crate::shared::Shared;
+use crate::waking::Conditions;
 use call_chain::{Pile, Reached, SecondHalf, Unnamed, UnnamedNumber};
 use packed_entries::PackedEntries;
 use rw_objects::{ObjectSpace, Versions};
 use shared_journal::{Held, Left, Seat};
 use shared_parts::{Call, Count, Lane, Opening, Stripe, Written};
 use std::alloc::Global;
-use std::array;
 use std::boxed::Box;
 use std::sync::atomic::AtomicU64;
 use std::sync::ledger::{Blank, Share};
-use std::sync::{Condvar, Mutex, RwLock};
+use std::sync::{Mutex, RwLock};
 use striped_objects::{Eight, Striped};
-use wasm_types::{MOST_THREADS, NoMemory};
+use wasm_types::NoMemory;
 
 /// A space with no calls, which has no name yet.
 #[derive(Drop)]
@@ -124,6 +125,30 @@ fn stripes<S: Striped, J: Opening<S, S::Value, S::Fixed>>(
     (written, parts)
 }
 
+/// What takes memory of a space with no calls, but its seats.
+#[derive(Drop)]
+struct Room<S: Striped> {
+    resting: Resting,
+    versions: Versions,
+    parts: Eight<Box<S::Part>>,
+}
+
+/// Makes room for what each seat does and for the versions of all objects, and splits a space.
+fn make_room<S: Striped + Drop>(alloc: Global, space: S, threads: u8) -> Result<Room<S>, NoMemory>
+    ensures versions { IfOk result (λ r. r.versions ≡ replicate (S.meaning.objects (S.fixed space)) no_count) }
+    ensures parts { IfOk result (λ r. AreParts S.lane S.part_fixed S.held (S.fixed space) (S.values space) r.parts) }
+    ensures sound { OnOk result (AllSound S.cut (S.fixed space) (S.values space)) }
+{
+    let resting = Resting::new(alloc, threads)?;
+    let versions = Versions::new(alloc, space.objects())?;
+    let parts = space.split(alloc)?;
+    Ok(Room {
+        resting,
+        versions,
+        parts,
+    })
+}
+
 /// A seat for each thread, with its share of the ledger of calls. The rest of the share is answered too.
 fn seats<S: Striped, J: Opening<S, S::Value, S::Fixed>>(
     alloc: Global,
@@ -154,11 +179,6 @@ fn seats<S: Striped, J: Opening<S, S::Value, S::Fixed>>(
     Ok((seats, share))
 }
 
-/// What wakes those that rest.
-fn conditions() -> [Condvar; MOST_THREADS] {
-    array::from_fn(|_| Condvar::new())
-}
-
 impl<S: Striped + Drop, J: Opening<S, S::Value, S::Fixed>> Shared<S, J> {
     /// A shared space with no calls, and a seat for each thread.
     pub fn new(
@@ -176,8 +196,11 @@ impl<S: Striped + Drop, J: Opening<S, S::Value, S::Fixed>> Shared<S, J> {
             lanes,
             threads,
         } = opened;
-        let versions = Versions::new(alloc, space.objects())?;
-        let parts = space.split(alloc)?;
+        let Room {
+            resting,
+            versions,
+            parts,
+        } = make_room(alloc, space, threads)?;
         let latest = chain.named::<J>();
         let (book, share) = count.open::<Count<S, J>>();
         let reached = latest.reached();
@@ -191,11 +214,10 @@ impl<S: Striped + Drop, J: Opening<S, S::Value, S::Fixed>> Shared<S, J> {
             book,
             rest,
         };
-        let resting = Resting::new(alloc, threads)?;
         let shared = Shared {
             parts,
             journal: Mutex::new(Journal { held, resting }),
-            changed: conditions(),
+            changed: Conditions::new(),
             to_begin: AtomicU64::new(u64::from(threads)),
             passed: AtomicU64::new(0),
         };

@@ -118,34 +118,34 @@ impl<S: Striped, J: Opening<S, S::Value, S::Fixed>> Parts<S, J> {
 /// Takes a part out of its lock. It is what the journal leads to.
 fn take<S: Striped, J: Opening<S, S::Value, S::Fixed>, const I: u64>(
     lock: RwLock<Stripe<S, J, I>>,
-    written: &SecondHalf<Lane<S, J, I>>,
+    written: SecondHalf<Lane<S, J, I>>,
     latest: &Latest<Call<S::Op, S::Reply>, J>,
 ) -> Box<S::Part>
-    requires total { written.now ≡ writes S.meaning.touches I latest.now }
+    requires total { written ≡ writes S.meaning.touches I latest.now }
     ensures part { IsPart S.lane S.part_fixed S.held I J.named.memory.fixed (memory_after_calls S.meaning J.named.memory latest.now).values (box_value result) }
 {
     let stripe = lock.into_inner();
-    stripe.meet(written, latest);
+    stripe.meet(&written, latest);
     stripe.into_part()
 }
 
 /// Takes all parts out of their locks. They are those of the space to which the journal leads.
 pub(crate) fn gather<S: Striped, J: Opening<S, S::Value, S::Fixed>>(
     parts: Parts<S, J>,
-    written: &Written<S, J>,
+    written: Written<S, J>,
     latest: &Latest<Call<S::Op, S::Reply>, J>,
 ) -> Eight<Box<S::Part>>
-    requires totals { written.now ≡ totals_by (λ i. writes S.meaning.touches i latest.now) }
+    requires totals { written ≡ totals_by (λ i. writes S.meaning.touches i latest.now) }
     ensures parts { AreParts S.lane S.part_fixed S.held J.named.memory.fixed (memory_after_calls S.meaning J.named.memory latest.now).values result }
 {
     Eight {
-        zero: take(parts.zero, &written.zero, latest),
-        one: take(parts.one, &written.one, latest),
-        two: take(parts.two, &written.two, latest),
-        three: take(parts.three, &written.three, latest),
-        four: take(parts.four, &written.four, latest),
-        five: take(parts.five, &written.five, latest),
-        six: take(parts.six, &written.six, latest),
-        seven: take(parts.seven, &written.seven, latest),
+        zero: take(parts.zero, written.zero, latest),
+        one: take(parts.one, written.one, latest),
+        two: take(parts.two, written.two, latest),
+        three: take(parts.three, written.three, latest),
+        four: take(parts.four, written.four, latest),
+        five: take(parts.five, written.five, latest),
+        six: take(parts.six, written.six, latest),
+        seven: take(parts.seven, written.seven, latest),
     }
 }

@@ -13,15 +13,16 @@ use crate::looking::lock;
 use crate::missing::{opens_at, opens_behind};
 use crate::parts::Parts;
 use crate::resting::Wakes;
+use crate::waking::Conditions;
 use rw_objects::{Entry, Few, ObjectSpace, Touch};
 use shared_journal::{Seat, Tried, decide_one};
 use shared_parts::{Keeps, Opening};
 use std::alloc::Global;
 use std::sync::atomic::{AtomicU64, Ordering};
-use std::sync::{Condvar, Mutex, Wait};
+use std::sync::{Mutex, Wait};
 use std::thread;
 use striped_objects::Striped;
-use wasm_types::{MOST_THREADS, NoMemory};
+use wasm_types::NoMemory;
 
 /// How often a thread that is to rest looks whether all have begun.
 const MOST_LOOKS: u32 = 100_000;
@@ -34,7 +35,7 @@ const MOST_LOOKS_AT_GATES: u32 = 100;
 pub struct Shared<S: Striped, J: Opening<S, S::Value, S::Fixed>> {
     pub(crate) parts: Parts<S, J>,
     pub(crate) journal: Mutex<Journal<S, J>>,
-    pub(crate) changed: [Condvar; MOST_THREADS],
+    pub(crate) changed: Conditions,
     /// How many seats have not begun.
     pub(crate) to_begin: AtomicU64,
     /// How many calls have passed the gates of their entries, and given back their locks.
@@ -42,33 +43,6 @@ pub struct Shared<S: Striped, J: Opening<S, S::Value, S::Fixed>> {
 }
 
 impl<S: Striped, J: Opening<S, S::Value, S::Fixed>> Shared<S, J> {
-    /// What wakes a seat. Seats whose numbers differ by a multiple of the most threads share one.
-    fn changed(&self, seat: usize) -> &Condvar {
-        &self.changed[seat % MOST_THREADS]
-    }
-
-    /// Wakes seats that rest, if some are to be woken.
-    #[inline(always)]
-    fn wake(&self, wakes: Wakes) {
-        if wakes != Wakes::Nobody {
-            self.notify(wakes);
-        }
-    }
-
-    /// Notifies seats that rest.
-    #[inline(never)]
-    fn notify(&self, wakes: Wakes) {
-        match wakes {
-            Wakes::Nobody => {}
-            Wakes::One(seat) => self.changed(seat).notify_all(),
-            Wakes::All => {
-                for changed in &self.changed {
-                    changed.notify_all();
-                }
-            }
-        }
-    }
-
     /// Tries a call once, over the parts that it touches, which are kept until it is made, with what it decides by what they hold. The
     /// journal's lock is given back before the parts. A seat that rests until just so many calls is woken.
     fn try_over<K: Keeps<S, J> + Drop, R: Wait, H: Hold>(
@@ -109,7 +83,7 @@ impl<S: Striped, J: Opening<S, S::Value, S::Fixed>> Shared<S, J> {
             hold.inside(thread, place);
         }
         drop(kept);
-        self.wake(wakes);
+        self.changed.wake(wakes);
         answer
     }
 
@@ -259,11 +233,12 @@ impl<S: Striped, J: Opening<S, S::Value, S::Fixed>> Shared<S, J> {
         }
         if journal.resting.rest(number, until, length) {
             drop(journal);
-            self.wake(Wakes::All);
+            self.changed.wake(Wakes::All);
             return length;
         }
         let mut journal = self
-            .changed(number as usize)
+            .changed
+            .of(number as usize)
             .wait_while(rt, journal, |journal| journal.is_still(until));
         journal.resting.goes_on(number);
         journal.length()
@@ -318,7 +293,7 @@ impl<S: Striped, J: Opening<S, S::Value, S::Fixed>> Shared<S, J> {
         let is_over = journal.resting.leave(number, length);
         drop(journal);
         if is_over {
-            self.wake(Wakes::All);
+            self.changed.wake(Wakes::All);
         }
     }
 }

@@ -23,11 +23,11 @@ invariant_of-held g c =
     let m = g.J.Opening.named.memory in
     let nil = c.named-latest.ensures in
     let mem = ap (λ n. n.memory) c.requires.named in
-    let none : count_at c.in_ok-versions.versions ≡ no_counts = ap count_at c.in_ok-versions.ensures ∙ (λ i o. count_none c.objects.result o i) in
-    let at : (o : ℕ) → count_at c.in_ok-versions.versions o ≡ no_count = λ o. ap (λ f. f o) none in
-    let objects : length c.in_ok-versions.versions ≡ space.objects (g.S.ObjectSpace.fixed c.args.opened.space) = ap length c.in_ok-versions.ensures ∙ (length_none c.objects.result ∙ c.objects.ensures) in record {
+    let none : count_at c.in_ok-resting.field-0.versions ≡ no_counts = ap count_at c.in_ok-resting.ensures.versions ∙ (λ i o. count_none (space.objects (g.S.ObjectSpace.fixed c.args.opened.space)) o i) in
+    let at : (o : ℕ) → count_at c.in_ok-resting.field-0.versions o ≡ no_count = λ o. ap (λ f. f o) none in
+    let objects : length c.in_ok-resting.field-0.versions ≡ space.objects (g.S.ObjectSpace.fixed c.args.opened.space) = ap length c.in_ok-resting.ensures.versions ∙ length_none (space.objects (g.S.ObjectSpace.fixed c.args.opened.space)) in record {
       legal = subst (IsLegalHistory space m) (sym nil) tt;
-      sound = subst (λ l. AllSound cut m.fixed (memory_after_calls space m l).values) (sym nil) (subst (λ x. AllSound cut x.fixed x.values) mem c.in_ok-parts.ensures.sound);
+      sound = subst (λ l. AllSound cut m.fixed (memory_after_calls space m l).values) (sym nil) (subst (λ x. AllSound cut x.fixed x.values) mem c.in_ok-resting.ensures.sound);
       counts = none ∙ (ap (λ x. x.counts) mem ∙ ap (λ l. (memory_after_calls space m l).counts) (sym nil));
       sized = objects ∙ ap (λ x. space.objects x.fixed) mem;
       few_versions = λ o. let h = ap (λ (k : Count). k.version) (at o) in omega (arith, h);
