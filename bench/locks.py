@@ -5,8 +5,8 @@ usage: locks.py PATH_OF_WREPLAY_BENCH [COUNT]
 
 Each thread makes COUNT loads of four bytes of a memory of one page in blocks of 64 bytes. One thread's load is measured beside a
 lock and unlock of a mutex of the standard library. Four threads load from blocks of their own, or all from one block; both are
-measured beside one thread, and so is the same mutex when four threads take it in turn, which each load does once. It prints, best
-of nine rounds each, nanoseconds of a load, loads a second, and ratios.
+measured beside one thread, and so are the locks alone when four threads take them: the same mutex, and a read-write lock for reading,
+each of which a load takes once. It prints, best of nine rounds each, nanoseconds of a load, loads a second, and ratios.
 """
 
 import subprocess
@@ -14,7 +14,7 @@ import sys
 import time
 
 ROUNDS = 9
-ROWS = (("mutex", 1), ("mutex", 4), ("same", 1), ("apart", 4), ("same", 4))
+ROWS = (("mutex", 1), ("mutex", 4), ("readers", 4), ("same", 1), ("apart", 4), ("same", 4))
 
 
 def seconds(program, mode, threads, count):
@@ -40,8 +40,11 @@ def main():
     print("|---|---:|---:|---:|")
     print(f"| lock and unlock of a mutex | {1e9 / rate['mutex', 1]:.1f} | {rate['mutex', 1] / 1e6:.1f} | |")
     print(f"| loads of one thread | {1e9 / alone:.1f} | {alone / 1e6:.1f} | {rate['mutex', 1] / alone:.1f} times a mutex |")
-    shared = rate["mutex", 4]
-    print(f"| lock and unlock of a mutex by four threads | {1e9 / shared:.1f} | {shared / 1e6:.1f} | {shared / alone:.2f} times one thread's loads |")
+    for row, name in (
+        (("mutex", 4), "lock and unlock of a mutex by four threads"),
+        (("readers", 4), "lock and unlock for reading by four threads"),
+    ):
+        print(f"| {name} | {1e9 / rate[row]:.1f} | {rate[row] / 1e6:.1f} | {rate[row] / alone:.2f} times one thread's loads |")
     for row, name in ((("apart", 4), "loads of four threads, each of its own block"), (("same", 4), "loads of four threads of one block")):
         print(f"| {name} | {1e9 / rate[row]:.1f} | {rate[row] / 1e6:.1f} | {rate[row] / alone:.2f} times one thread |")
 

@@ -1,4 +1,4 @@
-//! Loads of a memory under locks by threads at once, beside a lock that is taken and given back.
+//! Loads of a memory under locks by threads at once, beside locks that are taken and given back.
 
 ghost use Rattle.std.specs.Prelude.{◌≡◌, ◌≤◌, IfSome, length};
 ghost use Rattle.block_objects.specs.Bounds.{InBounds};
@@ -11,7 +11,7 @@ use shared_parts::Opening;
 use shared_threads::{Work, run_threads};
 use std::alloc::Global;
 use std::marker::Brand;
-use std::sync::{Mutex, Wait};
+use std::sync::{Mutex, RwLock, Wait};
 use std::thread;
 use std::thread::Threads;
 use striped_memory::StripedMemory;
@@ -97,6 +97,15 @@ impl Work<StripedMemory> for Loads {
     }
 }
 
+/// How many were made by all.
+fn added(made: &[u32]) -> u64 {
+    let mut sum = 0u64;
+    for count in made {
+        sum = sum.wrapping_add(u64::from(*count));
+    }
+    sum
+}
+
 /// Runs so many threads, each with its loads, and answers how many they made.
 fn run_loads<R: Threads + Wait + Sync>(
     rt: &R,
@@ -110,11 +119,7 @@ fn run_loads<R: Threads + Wait + Sync>(
     let (_, made) = run_threads::<StripedMemory, Brand, u32, Loads, R>(
         rt, alloc, opened, states, work,
     )?;
-    let mut sum = 0u64;
-    for count in &made {
-        sum = sum.wrapping_add(u64::from(*count));
-    }
-    Ok(sum)
+    Ok(added(&made))
 }
 
 /// Takes a lock and gives it back so many times.
@@ -142,6 +147,32 @@ fn run_locks<R: Threads + Wait + Sync>(
     Ok(lock.into_inner())
 }
 
+/// Takes a lock for reading and gives it back so many times, and adds up what it reads.
+fn read_often<R: Wait>(rt: &R, lock: &RwLock<u32>, count: u32) -> u32 {
+    let mut sum = 0u32;
+    for _ in 0..count {
+        sum = sum.wrapping_add(*lock.read(rt));
+    }
+    sum
+}
+
+/// Has each of so many threads take one lock for reading and give it back so many times, and answers how often they did.
+fn run_readers<R: Threads + Wait + Sync>(
+    rt: &R,
+    alloc: Global,
+    threads: u8,
+    count: u32,
+) -> Result<u64, NoMemory> {
+    let lock = RwLock::new(1u32);
+    let counts = vec![in alloc; count; usize::from(threads)]?;
+    let made = thread::map_vec(
+        rt,
+        counts,
+        &|count: u32| -> u32 { read_often(rt, &lock, count) },
+    )?;
+    Ok(added(&made))
+}
+
 /// Makes what the words ask for: the mode, how many threads, from 1 to 4, and how many loads each makes, or how often it takes a
 /// lock. It answers how many were made, and nothing where the words ask for none.
 pub(crate) fn locks_asked<R: Threads + Wait + Sync>(
@@ -157,6 +188,7 @@ pub(crate) fn locks_asked<R: Threads + Wait + Sync>(
     }
     match mode {
         "mutex" => Ok(Some(run_locks(rt, alloc, threads, count)?)),
+        "readers" => Ok(Some(run_readers(rt, alloc, threads, count)?)),
         "apart" => {
             let apart = true;
             Ok(Some(run_loads(rt, alloc, threads, &Loads { apart, count })?))

@@ -31,7 +31,7 @@ use std::{env, fs};
 const USAGE: &str = "\
 usage: wreplay_bench steps parts|read|kept STEPS
        wreplay_bench accesses slice-load|slice-store|load|load-of-kind|store PAGES BLOCK COUNT
-       wreplay_bench locks mutex|apart|same THREADS COUNT
+       wreplay_bench locks mutex|readers|apart|same THREADS COUNT
        wreplay_bench decode decode|validate FILE TIMES
        wreplay_bench machine MODULE PLAN";
 
