@@ -170,7 +170,7 @@ impl<S: Striped + Drop, J: Opening<S, S::Value, S::Fixed>> Shared<S, J> {
             to_begin: _,
             passed: _,
         } = self;
-        let Journal { held, resting: _ } = journal.into_inner();
+        let Journal { held, resting: _ } = journal.into_inner().into_inner();
         end(held, alloc, parts, seats)
     }
 }

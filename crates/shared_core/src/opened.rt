@@ -15,6 +15,7 @@ use crate::resting::Resting;
 use crate::shared::Shared;
 use crate::waking::Conditions;
 use call_chain::{Pile, Reached, SecondHalf, Unnamed, UnnamedNumber};
+use crossbeam_utils::CachePadded;
 use packed_entries::PackedEntries;
 use rw_objects::{ObjectSpace, Versions};
 use shared_journal::{Held, Left, Seat};
@@ -216,7 +217,7 @@ impl<S: Striped + Drop, J: Opening<S, S::Value, S::Fixed>> Shared<S, J> {
         };
         let shared = Shared {
             parts,
-            journal: Mutex::new(Journal { held, resting }),
+            journal: Mutex::new(CachePadded::new(Journal { held, resting })),
             changed: Conditions::new(),
             to_begin: AtomicU64::new(u64::from(threads)),
             passed: AtomicU64::new(0),

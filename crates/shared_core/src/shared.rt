@@ -14,6 +14,7 @@ use crate::missing::{opens_at, opens_behind};
 use crate::parts::Parts;
 use crate::resting::Wakes;
 use crate::waking::Conditions;
+use crossbeam_utils::CachePadded;
 use rw_objects::{Entry, Few, ObjectSpace, Touch};
 use shared_journal::{Seat, Tried, decide_one};
 use shared_parts::{Keeps, Opening};
@@ -34,7 +35,8 @@ const MOST_LOOKS_AT_GATES: u32 = 100;
 #[derive(Drop)]
 pub struct Shared<S: Striped, J: Opening<S, S::Value, S::Fixed>> {
     pub(crate) parts: Parts<S, J>,
-    pub(crate) journal: Mutex<Journal<S, J>>,
+    /// In memory apart from its lock, which threads that look at the lock take from the one that has it.
+    pub(crate) journal: Mutex<CachePadded<Journal<S, J>>>,
     pub(crate) changed: Conditions,
     /// How many seats have not begun.
     pub(crate) to_begin: AtomicU64,

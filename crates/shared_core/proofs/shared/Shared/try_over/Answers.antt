@@ -32,8 +32,8 @@ pub returns : goal.returns
 returns g c = record {
   done = search rules;
   entry = search rules;
-  shut = shut_by _ _ c.enter-answer.result (was_another g.S.ObjectSpace.meaning g.J.Opening.named.memory c.args.op.now c.deref_mut.result.now.held c.args.expected c.enter-answer.ensures.legal) c.enter-answer.ensures.shut;
-  not_ready = not_ready_by _ _ c.enter-answer.result (λ p. (c.deref_mut.result.now.held, c.enter-answer.ensures.legal, p.0)) c.enter-answer.ensures.not_ready;
+  shut = shut_by _ _ c.enter-answer.result (was_another g.S.ObjectSpace.meaning g.J.Opening.named.memory c.args.op.now c.deref_mut-2.result.now.held c.args.expected c.enter-answer.ensures.legal) c.enter-answer.ensures.shut;
+  not_ready = not_ready_by _ _ c.enter-answer.result (λ p. (c.deref_mut-2.result.now.held, c.enter-answer.ensures.legal, p.0)) c.enter-answer.ensures.not_ready;
   kept = search rules;
   thread = search rules;
 }
