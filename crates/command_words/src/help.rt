@@ -181,9 +181,11 @@ log names, so every order gives the same end. --order says which threads take
 turns first, one turn for each number; then all threads take turns in rounds.
 
 With --threads each thread of the plan is a thread of the system, and they make
-the run again at once, which saves time where there are several cores. What is
-written is the same; where there are several reasons to refuse the replay, it
-may name another of them than a replay in turns.";
+the run again at once. That saves time where threads compute for long between
+their accesses and cores are free; beside programs that keep all cores busy it
+can take many times as long as a replay in turns. What is written is the same;
+where there are several reasons to refuse the replay, it may name another of
+them than a replay in turns.";
 
 /// How `replay` refuses.
 pub(crate) const REPLAY_REFUSALS: &str = "\
