@@ -8,6 +8,7 @@ mod looking;
 mod missing;
 mod opened;
 mod parts;
+mod passed;
 mod resting;
 mod shared;
 mod waking;

@@ -11,6 +11,7 @@ ghost use Rattle.shared_parts.specs.Calls.{IsNumbered, AreNew};
 
 use crate::journal::Journal;
 use crate::parts::Parts;
+use crate::passed::Passed;
 use crate::resting::Resting;
 use crate::shared::Shared;
 use crate::waking::Conditions;
@@ -220,7 +221,7 @@ impl<S: Striped + Drop, J: Opening<S, S::Value, S::Fixed>> Shared<S, J> {
             journal: Mutex::new(CachePadded::new(Journal { held, resting })),
             changed: Conditions::new(),
             to_begin: AtomicU64::new(u64::from(threads)),
-            passed: AtomicU64::new(0),
+            passed: Passed::new(),
         };
         Ok((shared, seats))
     }

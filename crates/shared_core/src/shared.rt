@@ -12,6 +12,7 @@ use crate::journal::Journal;
 use crate::looking::lock;
 use crate::missing::{opens_at, opens_behind};
 use crate::parts::Parts;
+use crate::passed::Passed;
 use crate::resting::Wakes;
 use crate::waking::Conditions;
 use crossbeam_utils::CachePadded;
@@ -28,9 +29,6 @@ use wasm_types::NoMemory;
 /// How often a thread that is to rest looks whether all have begun.
 const MOST_LOOKS: u32 = 100_000;
 
-/// How often a thread before a gate looks whether enough calls have passed theirs, before it rests: for some ten microseconds.
-const MOST_LOOKS_AT_GATES: u32 = 100;
-
 /// A space shared by threads, each of which has a seat: its parts, the journal of all calls, and what wakes those that rest.
 #[derive(Drop)]
 pub struct Shared<S: Striped, J: Opening<S, S::Value, S::Fixed>> {
@@ -40,8 +38,8 @@ pub struct Shared<S: Striped, J: Opening<S, S::Value, S::Fixed>> {
     pub(crate) changed: Conditions,
     /// How many seats have not begun.
     pub(crate) to_begin: AtomicU64,
-    /// How many calls have passed the gates of their entries, and given back their locks.
-    pub(crate) passed: AtomicU64,
+    /// Which calls have passed the gates of their entries.
+    pub(crate) passed: Passed,
 }
 
 impl<S: Striped, J: Opening<S, S::Value, S::Fixed>> Shared<S, J> {
@@ -80,11 +78,15 @@ impl<S: Striped, J: Opening<S, S::Value, S::Fixed>> Shared<S, J> {
         } else {
             Wakes::Nobody
         };
+        let number = journal.length();
         drop(journal);
         if is_entered {
             hold.inside(thread, place);
         }
         drop(kept);
+        if is_entered && expected.is_some() {
+            self.passed.put(number);
+        }
         self.changed.wake(wakes);
         answer
     }
@@ -190,13 +192,9 @@ impl<S: Striped, J: Opening<S, S::Value, S::Fixed>> Shared<S, J> {
         ensures thread { seat.new.thread ≡ seat.old.thread }
     {
         if let Some(until) = opens_behind(&seat.left, expected) {
-            self.look_until(until);
+            self.passed.look_for(until);
         }
-        let tried = self.try_call(rt, alloc, seat, op, Some(expected), hold);
-        if matches!(&tried, Ok(Tried::Done(..))) {
-            self.passed.fetch_add(1, Ordering::SeqCst);
-        }
-        tried
+        self.try_call(rt, alloc, seat, op, Some(expected), hold)
     }
 
     /// How many calls were entered.
@@ -252,18 +250,6 @@ impl<S: Striped, J: Opening<S, S::Value, S::Fixed>> Shared<S, J> {
         self.rest_until(rt, seat, seen.saturating_add(1))
     }
 
-    /// Looks for a while, with no lock, until so many calls have passed their gates, and gives up its turn after each look. Answers
-    /// whether they have.
-    fn look_until(&self, until: u64) -> bool {
-        for _ in 0..MOST_LOOKS_AT_GATES {
-            if self.passed.load(Ordering::SeqCst) >= until {
-                return true;
-            }
-            thread::yield_now();
-        }
-        false
-    }
-
     /// Waits before the gate of a call whose entry is to be this one, and which could not be entered when `seen` calls were.
     /// Answers how many were entered then, at the least, where it is to be tried again: it is not where an object has passed what
     /// the entry met, where nothing is missing and no call was entered since, or where no seat can go on.
@@ -278,7 +264,7 @@ impl<S: Striped, J: Opening<S, S::Value, S::Fixed>> Shared<S, J> {
         let opens_at = opens_at(&journal.held.versions, journal.length(), expected, seen);
         drop(journal);
         let until = opens_at?;
-        if self.look_until(until) {
+        if self.passed.look_for(until) {
             return Some(until);
         }
         let length = self.rest_until(rt, seat, until);
