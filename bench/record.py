@@ -37,10 +37,12 @@ def section(kind, content):
     return bytes([kind, len(content)]) + content
 
 
-def module(turns, has_access):
-    """A module whose function `run` goes round a loop so many times."""
+def module(turns, has_access, apart=0):
+    """A module whose function `run` goes round a loop so many times, and at each turn round one inside it, `apart` times."""
     add = bytes.fromhex("41004100280200 41016a 360200") if has_access else b""
-    body = b"\x01\x01\x7f\x03\x40" + add + b"\x20\x00\x41\x01\x6a\x22\x00\x41" + number(turns) + b"\x49\x0d\x00\x0b\x20\x00\x0b"
+    inner = b"\x41\x00\x21\x01\x03\x40\x20\x01\x41\x01\x6a\x22\x01\x41" + number(apart) + b"\x49\x0d\x00\x0b" if apart else b""
+    outer = b"\x03\x40" + inner + add + b"\x20\x00\x41\x01\x6a\x22\x00\x41" + number(turns) + b"\x49\x0d\x00\x0b\x20\x00\x0b"
+    body = b"\x01\x02\x7f" + outer
     code = b"\x01" + bytes([len(body)]) + body
     return (
         b"\0asm\1\0\0\0" + section(1, b"\1\x60\0\1\x7f") + section(3, b"\1\0") + section(5, b"\1\3\1\1")

@@ -8,9 +8,11 @@ do the same, and of four programs of one thread each that run side by side, the 
 times the steps a second of one thread the four make. The four programs share nothing, so they are what the machine has to give.
 Threads that share a counter: four of them make EVENTS accesses (10,000,000 by default) between them, and the greatest
 resident memory, less that of a recording of few events, is given for each event, once where the report is written and once
-where the pieces are. Then ROUNDS logs of a tenth of these events are recorded, and as many of threads that compute alone. The pieces of
-each are replayed by threads, and the seconds are set beside those of just that recording: the medians of both, and the least and
-the greatest of the ratios. Seconds are those of the clock, so nothing else should run.
+where the pieces are. Then ROUNDS logs of a tenth of these events are recorded, as many of a hundredth of them between which each
+thread computes, and as many of threads that compute alone. The pieces of each are replayed by threads REPLAYS times, and the median of
+these is set beside the seconds of just that recording: the medians of both, and the least and the greatest of the ratios. At last a
+log of few events is replayed beside programs that each keep a processor busy, by threads and in turns. Seconds are those of the clock,
+so nothing else should run; the last line says how much of the processors' time other machines took meanwhile, as the system counts it.
 """
 
 import os
@@ -23,6 +25,8 @@ import time
 from record import module, written
 
 ROUNDS = 5
+REPLAYS = 3
+FEW_EVENTS = 50_000
 TURNS = 30_000_000
 MOST = "1000000000"
 
@@ -44,16 +48,46 @@ def recorded(wreplay, folder, wasm, threads, *more):
     return seconds, used.ru_maxrss * 1024
 
 
+def timed(words):
+    """The seconds of a command that is to be done."""
+    start = time.monotonic()
+    subprocess.run(words, stdout=subprocess.DEVNULL, check=True)
+    return time.monotonic() - start
+
+
+def logged(wreplay, folder, wasm, threads):
+    """The seconds of a recording by threads, with its pieces, and the words that replay these in turns."""
+    pieces = os.path.join(folder, "pieces")
+    seconds = recorded(wreplay, folder, wasm, threads)[0]
+    os.replace(os.path.join(folder, "out"), pieces)
+    return seconds, [wreplay, "replay", wasm, plan_of(folder, threads), pieces]
+
+
 def replayed(wreplay, folder, wasm, threads):
-    """For each of some logs, the seconds of its recording by threads, with its pieces, and of the replay by threads of these."""
-    pieces, pairs = os.path.join(folder, "pieces"), []
+    """For each of some logs, the seconds of its recording by threads, and the median of those of its replays by threads."""
+    pairs = []
     for _ in range(ROUNDS):
-        record = recorded(wreplay, folder, wasm, threads)[0]
-        os.replace(os.path.join(folder, "out"), pieces)
-        start = time.monotonic()
-        subprocess.run([wreplay, "replay", wasm, plan_of(folder, threads), pieces, "--threads"], stdout=subprocess.DEVNULL, check=True)
-        pairs.append((record, time.monotonic() - start))
+        seconds, words = logged(wreplay, folder, wasm, threads)
+        pairs.append((seconds, statistics.median(timed([*words, "--threads"]) for _ in range(REPLAYS))))
     return pairs
+
+
+def beside(words, busy):
+    """The medians of the seconds of replays by threads, and in turns, beside so many programs that keep a processor busy each."""
+    programs = [subprocess.Popen([sys.executable, "-c", "while True: pass"]) for _ in range(busy)]
+    try:
+        return [statistics.median(timed([*words, *more]) for _ in range(REPLAYS)) for more in (["--threads"], [])]
+    finally:
+        for program in programs:
+            program.kill()
+            program.wait()
+
+
+def taken():
+    """The time of all processors since the start, and what other machines took of it, in ticks."""
+    with open("/proc/stat") as file:
+        ticks = [int(word) for word in file.readline().split()[1:9]]
+    return sum(ticks), ticks[7]
 
 
 def least(wreplay, folder, wasm, threads):
@@ -77,6 +111,7 @@ def side_by_side(wreplay, folder, wasm, count):
 def main():
     if len(sys.argv) not in (2, 3):
         sys.exit(__doc__)
+    before = taken()
     wreplay, events = sys.argv[1], int(sys.argv[2]) if len(sys.argv) == 3 else 10_000_000
     with tempfile.TemporaryDirectory() as folder:
         short = written(folder, "short.wasm", module(1, False))
@@ -102,11 +137,22 @@ def main():
         tenth = written(folder, "tenth.wasm", module(events // 80, True))
         print("| four threads | recording, s | replay by threads, s | times the recording's speed |")
         print("|---|---:|---:|---:|")
-        for name, path in [("that compute alone", wasm), (f"of {events // 10:,} events on one counter", tenth)]:
+        apart = written(folder, "apart.wasm", module(events // 800, True, 1_000))
+        logs = [("that compute alone", wasm), (f"of {events // 100:,} events on one counter, 7,000 steps apart", apart)]
+        for name, path in [*logs, (f"of {events // 10:,} events on one counter", tenth)]:
             pairs = replayed(wreplay, folder, path, 4)
             record, replay = (statistics.median(seconds) for seconds in zip(*pairs))
             ratios = [record / replay for record, replay in pairs]
             print(f"| {name} | {record:.2f} | {replay:.2f} | {min(ratios):.2f} to {max(ratios):.2f} |")
+        print()
+        _, words = logged(wreplay, folder, written(folder, "little.wasm", module(FEW_EVENTS // 8, True)), 4)
+        print(f"| busy programs beside a replay of {FEW_EVENTS:,} events | by threads, s | in turns, s |")
+        print("|---:|---:|---:|")
+        for busy in range(os.cpu_count() + 1):
+            by_threads, in_turns = beside(words, busy)
+            print(f"| {busy} | {by_threads:.2f} | {in_turns:.2f} |")
+    ticks, others = (now - then for now, then in zip(taken(), before))
+    print(f"\nOther machines took {100 * others / ticks:.1f} of a hundred parts of the processors' time.")
 
 
 if __name__ == "__main__":
