@@ -3,10 +3,10 @@
 
 usage: gate.py [LOG]
 
-Runs `rt ci --anew` at the top of the repository, so that all is proved from nothing, hands its output on to LOG (build/gate.log by
-default), and looks at the running checks four times a second. It prints a row a crate: its proof, the proof of its tests, and its
-must-fail edits with their number; then the sums, the processor time of the whole gate as the system counts it, and the seconds of the
-clock. The last quarter of a second of a check can be missed, so the rows come to a little less than the whole.
+Runs `rt ci` at the top of the repository, with `--anew` where the kit keeps what it proved before, so that all is proved from nothing;
+hands its output on to LOG (build/gate.log by default), and looks at the running checks four times a second. It prints a row a crate: its
+proof, the proof of its tests, and its must-fail edits with their number; then the sums, the processor time of the whole gate as the system
+counts it, and the minutes of the clock. The last quarter of a second of a check can be missed, so the rows come to a little less than the whole.
 """
 
 import glob
@@ -15,6 +15,7 @@ import re
 import resource
 import subprocess
 import sys
+import tempfile
 import time
 
 TICK = os.sysconf("SC_CLK_TCK")
@@ -61,6 +62,14 @@ def phase_of(pid, words):
     return crate, "tests" if b"--test" in words else "proof"
 
 
+def gate_words():
+    """The words that prove all from nothing. A kit that never keeps what it proved before has no `--anew`, and answers how it is used."""
+    with tempfile.TemporaryDirectory() as empty:
+        words = ["rt", "ci", "--anew"]
+        told = subprocess.run(words, cwd=empty, stdin=subprocess.DEVNULL, stdout=subprocess.PIPE, stderr=subprocess.STDOUT, check=False)
+    return words[:2] if b"usage:" in told.stdout else words
+
+
 def main():
     if len(sys.argv) > 2:
         sys.exit(__doc__)
@@ -68,7 +77,7 @@ def main():
     os.makedirs(os.path.dirname(log) or ".", exist_ok=True)
     begin, seconds = time.monotonic(), {}
     with open(log, "wb") as out:
-        gate = subprocess.Popen(["rt", "ci", "--anew"], stdin=subprocess.DEVNULL, stdout=out, stderr=subprocess.STDOUT)
+        gate = subprocess.Popen(gate_words(), stdin=subprocess.DEVNULL, stdout=out, stderr=subprocess.STDOUT)
         while gate.poll() is None:
             found = processes()
             for pid, (parent, _, words) in found.items():

@@ -34,6 +34,7 @@ pub(crate) fn enter_at<
     seat: &mut Seat<S, J>,
     op: S::Op,
     item: &Entry,
+    next: Option<&Entry>,
     hold: &H,
 ) -> Result<bool, NoMemory>
     requires fits { Fits S.meaning J.named.memory.fixed op }
@@ -48,7 +49,7 @@ pub(crate) fn enter_at<
         Ok(()) => {}
         Err(fault) => return Err(fault),
     }
-    match shared.access_at(rt, alloc, seat, op, item, hold) {
+    match shared.access_at(rt, alloc, seat, op, item, next, hold) {
         Ok(Tried::Done(reply, _)) => match thread.machine.take(reply) {
             Ok(()) => {
                 thread.places += 1;

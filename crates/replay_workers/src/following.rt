@@ -14,7 +14,7 @@ use event_core::{Input, Thread};
 use join_laws::Flat;
 use log_pieces::End;
 use replay_gate::ReadLog;
-use rw_objects::{Kind, Machine, Next};
+use rw_objects::{Entry, Kind, Machine, Next};
 use shared_core::{Hold, Shared};
 use shared_journal::Seat;
 use shared_parts::Opening;
@@ -45,7 +45,16 @@ fn op_of<O: Copy>(next: Next<O>, kind: Kind) -> Option<O>
     }
 }
 
-/// The next event of a thread, at the gate of its logged entry. Answers whether it was entered.
+/// The entry of a known item.
+fn known(item: Option<&Flat<Entry>>) -> Option<&Entry> {
+    match item {
+        Some(Flat::Known(entry)) => Some(entry),
+        _ => None,
+    }
+}
+
+/// The next event of a thread, at the gate of its logged entry. Answers whether it was entered. The entry of the event behind it is read
+/// by another reader, so that the thread waits for that one's gate from there on.
 fn pass_event<
     M: Machine<S>,
     S: Striped,
@@ -62,15 +71,18 @@ fn pass_event<
     end: End,
     log: &L,
     reader: &mut L::Reader,
+    ahead: &mut L::Reader,
     hold: &H,
 ) -> Result<bool, NoMemory>
     requires number { seat.old.thread < MOST_THREADS }
     requires limit { end.steps ≤ MOST_STEPS }
     requires below { M.code.steps (M.state thread.old.machine) < end.steps }
     requires reads { L.reads log.now reader.old }
+    requires reads_ahead { L.reads log.now ahead.old }
     requires following { IsFollowing M.code (L.log log.now) end (driven M.state thread.old seat.old) }
     requires sound { IsSoundThread M.code J.named.memory (driven M.state thread.old seat.old).thread }
     ensures reads { L.reads log.now reader.new }
+    ensures reads_ahead { L.reads log.now ahead.new }
     ensures following { IsFollowing M.code (L.log log.now) end (driven M.state thread.new seat.new) }
     ensures sound { IsSoundThread M.code J.named.memory (driven M.state thread.new seat.new).thread }
     ensures advances { Advances M.code (λ t s. true) (driven M.state thread.old seat.old) (driven M.state thread.new seat.new) }
@@ -80,11 +92,13 @@ fn pass_event<
         return Ok(false);
     }
     log.read(reader, number, place);
+    log.read(ahead, number, place + 1);
+    let next = known(L::held(ahead, number));
     match L::held(reader, number) {
         Some(Flat::Known(item)) => match op_of(thread.machine.next(), item.kind) {
             Some(op) => {
                 let input = input_for(item.kind);
-                pass(rt, alloc, shared, thread, seat, op, input, item, hold)
+                pass(rt, alloc, shared, thread, seat, op, input, item, next, hold)
             }
             None => Ok(false),
         },
@@ -110,16 +124,19 @@ fn follow<
     end: End,
     log: &L,
     reader: &mut L::Reader,
+    ahead: &mut L::Reader,
     hold: &H,
 ) -> Result<bool, NoMemory>
     requires number { seat.old.thread < MOST_THREADS }
     requires limit { end.steps ≤ MOST_STEPS }
     requires below { M.code.steps (M.state thread.old.machine) < end.steps }
     requires reads { L.reads log.now reader.old }
+    requires reads_ahead { L.reads log.now ahead.old }
     requires following { IsFollowing M.code (L.log log.now) end (driven M.state thread.old seat.old) }
     requires sound { IsSoundThread M.code J.named.memory (driven M.state thread.old seat.old).thread }
     ensures number { seat.new.thread ≡ seat.old.thread }
     ensures reads { L.reads log.now reader.new }
+    ensures reads_ahead { L.reads log.now ahead.new }
     ensures following { IsFollowing M.code (L.log log.now) end (driven M.state thread.new seat.new) }
     ensures sound { IsSoundThread M.code J.named.memory (driven M.state thread.new seat.new).thread }
     ensures advances { Advances M.code (λ t s. true) (driven M.state thread.old seat.old) (driven M.state thread.new seat.new) }
@@ -132,7 +149,9 @@ fn follow<
                 Err(fault) => Err(fault),
             }
         }
-        _ => pass_event(rt, alloc, shared, thread, seat, end, log, reader, hold),
+        _ => pass_event(
+            rt, alloc, shared, thread, seat, end, log, reader, ahead, hold,
+        ),
     }
 }
 
@@ -164,11 +183,23 @@ fn follow_to<
     ensures advances { Advances M.code (λ t s. true) (driven M.state thread.old seat.old) (driven M.state thread.new seat.new) }
 {
     let mut reader = log.reader();
+    let mut ahead = log.reader();
     for _ in rt.forever() {
         if thread.machine.steps() >= end.steps {
             return Ok(());
         }
-        match follow(rt, alloc, shared, thread, seat, end, log, &mut reader, hold) {
+        match follow(
+            rt,
+            alloc,
+            shared,
+            thread,
+            seat,
+            end,
+            log,
+            &mut reader,
+            &mut ahead,
+            hold,
+        ) {
             Ok(true) => {}
             Ok(false) => return Ok(()),
             Err(fault) => return Err(fault),

@@ -30,6 +30,7 @@ fn wait_to_enter<M: Machine<S>, S: Striped, J: Opening<S, S::Value, S::Fixed>, R
     op: S::Op,
     input: Input,
     item: &Entry,
+    next: Option<&Entry>,
     hold: &H,
 ) -> Result<bool, NoMemory>
     requires asks { op_at (M.code.next (M.state thread.old.machine)) input ≡ Some op }
@@ -45,7 +46,7 @@ fn wait_to_enter<M: Machine<S>, S: Striped, J: Opening<S, S::Value, S::Fixed>, R
             Some(length) => seen = length,
             None => return Ok(false),
         }
-        match enter_at(rt, alloc, shared, thread, seat, op, item, hold) {
+        match enter_at(rt, alloc, shared, thread, seat, op, item, next, hold) {
             Ok(true) => return Ok(true),
             Ok(false) => {}
             Err(fault) => return Err(fault),
@@ -64,6 +65,7 @@ pub(crate) fn pass<M: Machine<S>, S: Striped, J: Opening<S, S::Value, S::Fixed>,
     op: S::Op,
     input: Input,
     item: &Entry,
+    next: Option<&Entry>,
     hold: &H,
 ) -> Result<bool, NoMemory>
     requires asks { op_at (M.code.next (M.state thread.old.machine)) input ≡ Some op }
@@ -73,9 +75,9 @@ pub(crate) fn pass<M: Machine<S>, S: Striped, J: Opening<S, S::Value, S::Fixed>,
     ensures entered { went_on result ≡ true → IsEnteredAt M.code op item.now (driven M.state thread.old seat.old) (driven M.state thread.new seat.new) }
     ensures kept { went_on result ≡ false → driven M.state thread.new seat.new ≡ driven M.state thread.old seat.old }
 {
-    match enter_at(rt, alloc, shared, thread, seat, op, item, hold) {
+    match enter_at(rt, alloc, shared, thread, seat, op, item, next, hold) {
         Ok(true) => Ok(true),
-        Ok(false) => wait_to_enter(rt, alloc, shared, thread, seat, op, input, item, hold),
+        Ok(false) => wait_to_enter(rt, alloc, shared, thread, seat, op, input, item, next, hold),
         Err(fault) => Err(fault),
     }
 }

@@ -1,9 +1,7 @@
 -- How many calls have to be entered, at the least, before the objects of an entry are as it met them. A call raises the version
 -- of an object by at most one, and its read total by at most one.
-use Rattle.std.specs.Prelude.{ℕ, ◌+◌, ◌-◌, ◌^◌, ◌&&◌, ◌==◌, min, max, cond, nat_le, List, [], ◌∷◌, length, slice_index_or, Option, Some, None}
+use Rattle.std.specs.Prelude.{ℕ, ◌+◌, ◌-◌, ◌^◌, ◌&&◌, ◌==◌, min, max, cond, nat_le, List, [], ◌∷◌, Option, Some, None}
 use Rattle.rw_objects.specs.declared.count.Count.{Count}
-use Rattle.rw_objects.specs.declared.touch.Mode.TheVariants as mode
-use Rattle.rw_objects.specs.declared.touch.Touch.{Touch}
 use Rattle.rw_objects.specs.declared.touch.Found.{Found}
 use Rattle.rw_objects.specs.declared.touch.Found.TheVariants.{Read, Write}
 use Rattle.rw_objects.specs.Touch.{object_of}
@@ -36,12 +34,3 @@ missing_calls fs here = missing_from (Some 0) fs here
 abbrev pub opens_at : ℕ → ℕ → Option ℕ → Option ℕ
 opens_at length seen None = None
 opens_at length seen (Some calls) = cond (calls == 0 && nat_le length seen) None (Some (min (length + calls) (2 ^ 64 - 1)))
-
--- the same by one object alone, which counted so much when `length` calls were entered: the entry may not touch it
-abbrev pub opens_behind : ℕ → ℕ → Count → List Found → Option ℕ
-opens_behind length object count [] = None
-opens_behind length object count (f ∷ fs) = cond (object_of f == object) (opens_at length length (missing_touch f count)) (opens_behind length object count fs)
-
--- the last object that is touched
-abbrev pub last_object : List Touch → ℕ
-last_object ts = (slice_index_or ts (length ts - 1) (record { object = 0; mode = mode.Read })).object

@@ -52,7 +52,7 @@ fn hand_in<S: Striped, J: Opening<S, S::Value, S::Fixed>>(
         share,
         reached,
         seen: _,
-        left: _,
+        shut_at: _,
     } = seat;
     latest.meet(&reached);
     all.merge(share);
@@ -168,9 +168,13 @@ impl<S: Striped + Drop, J: Opening<S, S::Value, S::Fixed>> Shared<S, J> {
             journal,
             changed: _,
             to_begin: _,
-            passed: _,
+            openings: _,
         } = self;
-        let Journal { held, resting: _ } = journal.into_inner().into_inner();
+        let Journal {
+            held,
+            resting: _,
+            gates: _,
+        } = journal.into_inner().into_inner();
         end(held, alloc, parts, seats)
     }
 }

@@ -1,30 +1,20 @@
 //! What stands under the journal's lock.
 
 ghost use Rattle.std.specs.Prelude.{◌≡◌, ◌&&◌, nat_lt, not, length};
-ghost use Rattle.shared_parts.specs.Calls.{memory_after_calls};
-ghost use Rattle.shared_core.specs.Missing.{last_object};
 
+use crate::gates::{Gates, Seats, first_shut};
 use crate::resting::Resting;
-use rw_objects::{Few, Touch};
-use shared_journal::{Held, Left};
+use rw_objects::{Entry, Few, Touch};
+use shared_journal::Held;
 use shared_parts::Opening;
 use striped_objects::Striped;
 
-/// The journal with the versions of all objects, and which seats can go on.
+/// The journal with the versions of all objects, which seats can go on, and before which gates seats wait.
 #[derive(Drop)]
 pub(crate) struct Journal<S: Striped, J: Opening<S, S::Value, S::Fixed>> {
     pub(crate) held: Held<S, J>,
     pub(crate) resting: Resting,
-}
-
-/// The last of the objects that are touched, or object 0.
-fn last_object(touches: &[Touch]) -> u32
-    ensures { result ≡ last_object touches.now }
-{
-    match touches {
-        [.., last] => last.object,
-        [] => 0,
-    }
+    pub(crate) gates: Gates,
 }
 
 impl<S: Striped, J: Opening<S, S::Value, S::Fixed>> Journal<S, J> {
@@ -35,18 +25,20 @@ impl<S: Striped, J: Opening<S, S::Value, S::Fixed>> Journal<S, J> {
         self.held.length() as u64
     }
 
-    /// What a call that was just entered leaves: what the last of the objects that it touched counts now.
-    pub(crate) fn left_by(&self, touches: &Few<Touch>) -> Left
-        ensures length { result.length ≡ length self.now.held }
-        ensures object { result.object ≡ last_object touches.now }
-        ensures count { result.count ≡ (memory_after_calls S.meaning J.named.memory self.now.held).counts result.object }
+    /// Whether the call that was just entered with these touches opened gates, and puts the seats that wait before them to the others.
+    pub(crate) fn opens(&self, touches: &Few<Touch>, opened: &mut Seats) -> bool {
+        self.gates
+            .opened_by(touches.as_slice(), &self.held.versions, opened)
+    }
+
+    /// Notes what a seat waits for before its next call, which is to have this entry, if one is known. Answers how many calls were entered, where the
+    /// gate of that call is shut.
+    pub(crate) fn wait_before(&mut self, seat: u32, next: Option<&Entry>) -> Option<u64>
+        ensures { self.new.held ≡ self.old.held }
     {
-        let object = last_object(touches.as_slice());
-        Left {
-            length: self.length(),
-            object,
-            count: self.held.count_of(object),
-        }
+        let shut = first_shut(next?.found.as_slice(), &self.held.versions)?;
+        self.gates.wait_for(seat, shut);
+        Some(self.length())
     }
 
     /// Whether a seat that rests until so many calls goes on resting: fewer were entered, and some seat can go on.

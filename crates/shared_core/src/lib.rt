@@ -2,13 +2,14 @@
 #![tactic(auto)]
 
 mod close;
+mod gates;
 mod hold;
 mod journal;
 mod looking;
 mod missing;
 mod opened;
+mod openings;
 mod parts;
-mod passed;
 mod resting;
 mod shared;
 mod waking;

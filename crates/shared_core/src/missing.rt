@@ -2,10 +2,9 @@
 
 ghost use Rattle.std.specs.Prelude.{◌≡◌};
 ghost use Rattle.rw_objects.specs.Counts.{count_at};
-ghost use Rattle.shared_core.specs.Missing.{missing_touch, missing_calls, opens_at, opens_behind};
+ghost use Rattle.shared_core.specs.Missing.{missing_touch, missing_calls, opens_at};
 
 use rw_objects::{Count, Entry, Found, Versions};
-use shared_journal::Left;
 
 /// How many calls are missing until a touch finds what it found, at the least: none where the object has passed that.
 fn missing_touch(found: &Found, here: Count) -> Option<u64>
@@ -42,35 +41,14 @@ fn missing_calls(versions: &Versions, expected: &Entry) -> Option<u64>
     Some(most)
 }
 
-/// With how many calls a call can be entered for which so many are missing, where `length` were entered, and it could not be when
-/// `seen` were: none where it never can.
-fn opens_with(missing: Option<u64>, length: u64, seen: u64) -> Option<u64>
-    ensures { result ≡ opens_at length seen missing }
-{
-    match missing {
-        None => None,
-        Some(0) if length <= seen => None,
-        Some(calls) => Some(length.saturating_add(calls)),
-    }
-}
-
-/// With how many calls a call can be entered whose entry is to be this one, at the least, by what its seat's last call left: none where
-/// that tells of no call that is missing.
-pub(crate) fn opens_behind(left: &Left, expected: &Entry) -> Option<u64>
-    ensures { result ≡ opens_behind left.now.length left.now.object left.now.count expected.now.found }
-{
-    for found in expected.found.as_slice() {
-        if found.object() == left.object {
-            return opens_with(missing_touch(found, left.count), left.length, left.length);
-        }
-    }
-    None
-}
-
 /// With how many calls a call can be entered whose entry is to be this one, where `length` were entered, and it could not be when
 /// `seen` were: none where it never can.
 pub(crate) fn opens_at(versions: &Versions, length: u64, expected: &Entry, seen: u64) -> Option<u64>
     ensures { result ≡ opens_at length seen (missing_calls expected.now.found (count_at versions.now)) }
 {
-    opens_with(missing_calls(versions, expected), length, seen)
+    match missing_calls(versions, expected) {
+        None => None,
+        Some(0) if length <= seen => None,
+        Some(calls) => Some(length.saturating_add(calls)),
+    }
 }

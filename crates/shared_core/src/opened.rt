@@ -9,9 +9,10 @@ ghost use Rattle.striped_objects.specs.Cut.{AllSound};
 ghost use Rattle.rw_objects.specs.Memory.{memory_with};
 ghost use Rattle.shared_parts.specs.Calls.{IsNumbered, AreNew};
 
+use crate::gates::Gates;
 use crate::journal::Journal;
+use crate::openings::Openings;
 use crate::parts::Parts;
-use crate::passed::Passed;
 use crate::resting::Resting;
 use crate::shared::Shared;
 use crate::waking::Conditions;
@@ -19,7 +20,7 @@ use call_chain::{Pile, Reached, SecondHalf, Unnamed, UnnamedNumber};
 use crossbeam_utils::CachePadded;
 use packed_entries::PackedEntries;
 use rw_objects::{ObjectSpace, Versions};
-use shared_journal::{Held, Left, Seat};
+use shared_journal::{Held, Seat};
 use shared_parts::{Call, Count, Lane, Opening, Stripe, Written};
 use std::alloc::Global;
 use std::boxed::Box;
@@ -131,21 +132,24 @@ fn stripes<S: Striped, J: Opening<S, S::Value, S::Fixed>>(
 #[derive(Drop)]
 struct Room<S: Striped> {
     resting: Resting,
+    gates: Gates,
     versions: Versions,
     parts: Eight<Box<S::Part>>,
 }
 
-/// Makes room for what each seat does and for the versions of all objects, and splits a space.
+/// Makes room for what each seat does and waits for and for the versions of all objects, and splits a space.
 fn make_room<S: Striped + Drop>(alloc: Global, space: S, threads: u8) -> Result<Room<S>, NoMemory>
     ensures versions { IfOk result (λ r. r.versions ≡ replicate (S.meaning.objects (S.fixed space)) no_count) }
     ensures parts { IfOk result (λ r. AreParts S.lane S.part_fixed S.held (S.fixed space) (S.values space) r.parts) }
     ensures sound { OnOk result (AllSound S.cut (S.fixed space) (S.values space)) }
 {
     let resting = Resting::new(alloc, threads)?;
+    let gates = Gates::new(alloc, threads)?;
     let versions = Versions::new(alloc, space.objects())?;
     let parts = space.split(alloc)?;
     Ok(Room {
         resting,
+        gates,
         versions,
         parts,
     })
@@ -175,7 +179,7 @@ fn seats<S: Striped, J: Opening<S, S::Value, S::Fixed>>(
             share: own,
             reached: reached.again(),
             seen: Vec::new(alloc),
-            left: Left::nothing(),
+            shut_at: None,
         })?;
     }
     Ok((seats, share))
@@ -200,6 +204,7 @@ impl<S: Striped + Drop, J: Opening<S, S::Value, S::Fixed>> Shared<S, J> {
         } = opened;
         let Room {
             resting,
+            gates,
             versions,
             parts,
         } = make_room(alloc, space, threads)?;
@@ -218,10 +223,14 @@ impl<S: Striped + Drop, J: Opening<S, S::Value, S::Fixed>> Shared<S, J> {
         };
         let shared = Shared {
             parts,
-            journal: Mutex::new(CachePadded::new(Journal { held, resting })),
+            journal: Mutex::new(CachePadded::new(Journal {
+                held,
+                resting,
+                gates,
+            })),
             changed: Conditions::new(),
             to_begin: AtomicU64::new(u64::from(threads)),
-            passed: Passed::new(),
+            openings: Openings::new(),
         };
         Ok((shared, seats))
     }

@@ -10,9 +10,9 @@ ghost use Rattle.shared_core.specs.Tries.{IsTry, WasNotReady, WasAnother};
 use crate::hold::Hold;
 use crate::journal::Journal;
 use crate::looking::lock;
-use crate::missing::{opens_at, opens_behind};
+use crate::missing::opens_at;
+use crate::openings::Openings;
 use crate::parts::Parts;
-use crate::passed::Passed;
 use crate::resting::Wakes;
 use crate::waking::Conditions;
 use crossbeam_utils::CachePadded;
@@ -24,7 +24,7 @@ use std::sync::atomic::{AtomicU64, Ordering};
 use std::sync::{Mutex, Wait};
 use std::thread;
 use striped_objects::Striped;
-use wasm_types::NoMemory;
+use wasm_types::{MOST_THREADS, NoMemory};
 
 /// How often a thread that is to rest looks whether all have begun.
 const MOST_LOOKS: u32 = 100_000;
@@ -38,13 +38,14 @@ pub struct Shared<S: Striped, J: Opening<S, S::Value, S::Fixed>> {
     pub(crate) changed: Conditions,
     /// How many seats have not begun.
     pub(crate) to_begin: AtomicU64,
-    /// Which calls have passed the gates of their entries.
-    pub(crate) passed: Passed,
+    /// Whose gates were opened.
+    pub(crate) openings: Openings,
 }
 
 impl<S: Striped, J: Opening<S, S::Value, S::Fixed>> Shared<S, J> {
     /// Tries a call once, over the parts that it touches, which are kept until it is made, with what it decides by what they hold. The
-    /// journal's lock is given back before the parts. A seat that rests until just so many calls is woken.
+    /// journal's lock is given back before the parts. A seat that rests until just so many calls is woken, and those whose gates the
+    /// call opened are told. What the seat itself waits for next is noted, under the same lock.
     fn try_over<K: Keeps<S, J> + Drop, R: Wait, H: Hold>(
         &self,
         rt: &R,
@@ -52,6 +53,7 @@ impl<S: Striped, J: Opening<S, S::Value, S::Fixed>> Shared<S, J> {
         seat: &mut Seat<S, J>,
         op: &S::Op,
         expected: Option<&Entry>,
+        next: Option<&Entry>,
         touches: &Few<Touch>,
         kept: K,
         decision: &S::Decision,
@@ -70,22 +72,23 @@ impl<S: Striped, J: Opening<S, S::Value, S::Fixed>> Shared<S, J> {
             .held
             .enter(alloc, seat, op, expected, touches, &mut kept, decision);
         let is_entered = matches!(&answer, Ok(Tried::Done(..)));
+        let entered = journal.length();
         let wakes = if is_entered {
-            if expected.is_some() {
-                seat.note(journal.left_by(touches));
-            }
-            journal.resting.entered(journal.length())
+            journal.resting.entered(entered)
         } else {
             Wakes::Nobody
         };
-        let number = journal.length();
+        let mut opened = [false; MOST_THREADS];
+        let opens = is_entered && expected.is_some() && journal.opens(touches, &mut opened);
+        let next = if is_entered { next } else { expected };
+        seat.note_shut(journal.wait_before(thread, next));
         drop(journal);
         if is_entered {
             hold.inside(thread, place);
         }
         drop(kept);
-        if is_entered && expected.is_some() {
-            self.passed.put(number);
+        if opens {
+            self.openings.tell(&opened, entered);
         }
         self.changed.wake(wakes);
         answer
@@ -100,6 +103,7 @@ impl<S: Striped, J: Opening<S, S::Value, S::Fixed>> Shared<S, J> {
         seat: &mut Seat<S, J>,
         op: &S::Op,
         expected: Option<&Entry>,
+        next: Option<&Entry>,
         touches: &Few<Touch>,
         hold: &H,
     ) -> Result<Tried<S::Reply>, NoMemory>
@@ -116,7 +120,7 @@ impl<S: Striped, J: Opening<S, S::Value, S::Fixed>> Shared<S, J> {
             }
         };
         self.try_over(
-            rt, alloc, seat, op, expected, touches, kept, &decision, hold,
+            rt, alloc, seat, op, expected, next, touches, kept, &decision, hold,
         )
     }
 
@@ -129,6 +133,7 @@ impl<S: Striped, J: Opening<S, S::Value, S::Fixed>> Shared<S, J> {
         seat: &mut Seat<S, J>,
         op: S::Op,
         expected: Option<&Entry>,
+        next: Option<&Entry>,
         hold: &H,
     ) -> Result<Tried<S::Reply>, NoMemory>
         requires fits { Fits S.meaning J.named.memory.fixed op }
@@ -142,10 +147,10 @@ impl<S: Striped, J: Opening<S, S::Value, S::Fixed>> Shared<S, J> {
                 let kept = self.parts.keep_one(rt, *touch);
                 let decision = decide_one(&kept, *touch, &op);
                 self.try_over(
-                    rt, alloc, seat, &op, expected, &touches, kept, &decision, hold,
+                    rt, alloc, seat, &op, expected, next, &touches, kept, &decision, hold,
                 )
             }
-            _ => self.try_several(rt, alloc, seat, &op, expected, &touches, hold),
+            _ => self.try_several(rt, alloc, seat, &op, expected, next, &touches, hold),
         };
         hold.after(thread, place);
         answer
@@ -168,12 +173,13 @@ impl<S: Striped, J: Opening<S, S::Value, S::Fixed>> Shared<S, J> {
         ensures kept { (IsDone result ≡ false) → seat.new ≡ seat.old }
         ensures thread { seat.new.thread ≡ seat.old.thread }
     {
-        self.try_call(rt, alloc, seat, op, None, hold)
+        self.try_call(rt, alloc, seat, op, None, None, hold)
     }
 
     /// Tries a call whose entry is to be this one: where it is, and the call is ready, it is entered, behind the seat's other
     /// calls. It answers `Shut` only where its entry would be another one in the space to which some legal history leads, and `NotReady`
-    /// only where it is not ready in such a space: the journal as it was met.
+    /// only where it is not ready in such a space: the journal as it was met. `next` is the entry of the call behind it, if it is known:
+    /// where that one's gate is shut yet, the seat's next try waits for a while until it is opened.
     pub fn access_at<R: Wait, H: Hold>(
         &self,
         rt: &R,
@@ -181,6 +187,7 @@ impl<S: Striped, J: Opening<S, S::Value, S::Fixed>> Shared<S, J> {
         seat: &mut Seat<S, J>,
         op: S::Op,
         expected: &Entry,
+        next: Option<&Entry>,
         hold: &H,
     ) -> Result<Tried<S::Reply>, NoMemory>
         requires fits { Fits S.meaning J.named.memory.fixed op }
@@ -191,10 +198,10 @@ impl<S: Striped, J: Opening<S, S::Value, S::Fixed>> Shared<S, J> {
         ensures kept { (IsDone result ≡ false) → seat.new ≡ seat.old }
         ensures thread { seat.new.thread ≡ seat.old.thread }
     {
-        if let Some(until) = opens_behind(&seat.left, expected) {
-            self.passed.look_for(until);
+        if let Some(shut_at) = seat.shut_at {
+            self.openings.look(seat.thread(), shut_at);
         }
-        self.try_call(rt, alloc, seat, op, Some(expected), hold)
+        self.try_call(rt, alloc, seat, op, Some(expected), next, hold)
     }
 
     /// How many calls were entered.
@@ -260,13 +267,15 @@ impl<S: Striped, J: Opening<S, S::Value, S::Fixed>> Shared<S, J> {
         expected: &Entry,
         seen: u64,
     ) -> Option<u64> {
+        if let Some(shut_at) = seat.shut_at {
+            if self.openings.look(seat.thread(), shut_at) {
+                return Some(shut_at.saturating_add(1));
+            }
+        }
         let journal = lock(rt, &self.journal);
         let opens_at = opens_at(&journal.held.versions, journal.length(), expected, seen);
         drop(journal);
         let until = opens_at?;
-        if self.passed.look_for(until) {
-            return Some(until);
-        }
         let length = self.rest_until(rt, seat, until);
         if length < until { None } else { Some(length) }
     }

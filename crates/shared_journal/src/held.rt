@@ -99,13 +99,6 @@ impl<S: Striped, J: Opening<S, S::Value, S::Fixed>> Held<S, J> {
         self.order.len()
     }
 
-    /// What an object counts, where the calls of the journal were made.
-    pub fn count_of(&self, object: u32) -> rw_objects::Count
-        ensures { result ≡ (memory_after_calls S.meaning J.named.memory self.now).counts object }
-    {
-        self.versions.at(object)
-    }
-
     /// Tries one call, over the parts that it touches, with what it decides by what they hold. `Shut` is tested first.
     pub fn enter<K: Keeps<S, J>>(
         &mut self,

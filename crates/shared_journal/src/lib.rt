@@ -3,12 +3,10 @@
 
 mod deciding;
 mod held;
-mod left;
 mod seat;
 mod tried;
 
 pub use deciding::decide_one;
 pub use held::Held;
-pub use left::Left;
 pub use seat::Seat;
 pub use tried::Tried;

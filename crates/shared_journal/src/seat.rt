@@ -5,7 +5,6 @@ ghost use Rattle.rw_objects.specs.Space.{Fits};
 ghost use Rattle.striped_objects.specs.Cut.{sights, decision_at};
 ghost use Rattle.shared_parts.specs.Calls.{entries_in};
 
-use crate::left::Left;
 use call_chain::{Pile, Reached};
 use packed_entries::PackedEntries;
 use rw_objects::{Few, ObjectSpace, Touch};
@@ -26,8 +25,8 @@ pub struct Seat<S: Striped, J: Opening<S, S::Value, S::Fixed>> {
     pub reached: Reached<Call<S::Op, S::Reply>, J>,
     /// What the last call saw of each object, a list that is used again.
     pub seen: Vec<S::Seen>,
-    /// What the last call left, where its entry was known before.
-    pub left: Left,
+    /// With how many calls entered the gate of its next call was shut, where it was noted as shut.
+    pub shut_at: Option<u64>,
 }
 
 impl<S: Striped, J: Opening<S, S::Value, S::Fixed>> Model for Seat<S, J> {
@@ -86,11 +85,11 @@ impl<S: Striped, J: Opening<S, S::Value, S::Fixed>> Seat<S, J> {
         Ok(S::decide(op, self.seen.as_slice()))
     }
 
-    /// Notes what its last call left.
-    pub fn note(&mut self, left: Left)
+    /// Notes with how many calls entered the gate of its next call was shut, if it was.
+    pub fn note_shut(&mut self, shut_at: Option<u64>)
         ensures { self.new ≡ self.old }
     {
-        self.left = left;
+        self.shut_at = shut_at;
     }
 
     /// The entries of its calls.

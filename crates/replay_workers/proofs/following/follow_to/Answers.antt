@@ -9,6 +9,7 @@ loop-init g c = (
   tt,
   c.requires.number,
   c.reader-reader.ensures,
+  c.reader-ahead.ensures,
   c.requires.following,
   c.requires.sound,
   advances_nowhere g.S.ObjectSpace.meaning g.M.Machine.code (λ t s. true) _ (driven g.M.Machine.state c.args.thread.now c.args.seat.now) refl,
@@ -20,15 +21,16 @@ loop-preserved g c = (
   tt,
   omega (arith, c.follow.ensures.number, c.loop.invariant.2),
   c.follow.ensures.reads,
+  c.follow.ensures.reads_ahead,
   c.follow.ensures.following,
   c.follow.ensures.sound,
-  advances_on g.S.ObjectSpace.meaning g.M.Machine.code (λ t s. true) (driven g.M.Machine.state c.args.thread.now c.args.seat.now) (driven g.M.Machine.state c.loop.thread c.loop.seat) _ c.loop.invariant.6 c.follow.ensures.advances,
+  advances_on g.S.ObjectSpace.meaning g.M.Machine.code (λ t s. true) (driven g.M.Machine.state c.args.thread.now c.args.seat.now) (driven g.M.Machine.state c.loop.thread c.loop.seat) _ c.loop.invariant.7 c.follow.ensures.advances,
 )
 
 pub returns-in-Ok-false-clause-advances : goal.returns-in-Ok-false-clause-advances
 returns-in-Ok-false-clause-advances g c =
-    advances_on g.S.ObjectSpace.meaning g.M.Machine.code (λ t s. true) (driven g.M.Machine.state c.args.thread.now c.args.seat.now) (driven g.M.Machine.state c.loop.thread c.loop.seat) _ c.loop.invariant.6 c.follow.ensures.advances
+    advances_on g.S.ObjectSpace.meaning g.M.Machine.code (λ t s. true) (driven g.M.Machine.state c.args.thread.now c.args.seat.now) (driven g.M.Machine.state c.loop.thread c.loop.seat) _ c.loop.invariant.7 c.follow.ensures.advances
 
 pub returns-in-Err-clause-advances : goal.returns-in-Err-clause-advances
 returns-in-Err-clause-advances g c =
-    advances_on g.S.ObjectSpace.meaning g.M.Machine.code (λ t s. true) (driven g.M.Machine.state c.args.thread.now c.args.seat.now) (driven g.M.Machine.state c.loop.thread c.loop.seat) _ c.loop.invariant.6 c.follow.ensures.advances
+    advances_on g.S.ObjectSpace.meaning g.M.Machine.code (λ t s. true) (driven g.M.Machine.state c.args.thread.now c.args.seat.now) (driven g.M.Machine.state c.loop.thread c.loop.seat) _ c.loop.invariant.7 c.follow.ensures.advances

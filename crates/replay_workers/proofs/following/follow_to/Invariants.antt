@@ -10,6 +10,7 @@ invariant-loop g l =
     (goal.iterator-loop g).can_next l.iterator' × (goal.iterator-loop g).is_finite l.iterator'
     × (l.seat.thread < MOST_THREADS)
     × g.L.ReadLog.reads l.log l.reader
+    × g.L.ReadLog.reads l.log l.ahead
     × IsFollowing g.M.Machine.code (g.L.ReadLog.log l.log) l.end (driven g.M.Machine.state l.thread l.seat)
     × IsSoundThread g.M.Machine.code g.J.Opening.named.memory (driven g.M.Machine.state l.thread l.seat).thread
     × Advances g.M.Machine.code (λ t s. true) (driven g.M.Machine.state l.initial.thread l.initial.seat) (driven g.M.Machine.state l.thread l.seat)
