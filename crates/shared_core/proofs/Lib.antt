@@ -1,2 +1,3 @@
 mod Whole
 mod Rests
+mod Told

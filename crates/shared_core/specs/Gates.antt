@@ -1,10 +1,12 @@
 -- Which gates a call opens. A gate is open where each touch of its entry would find what it is to find.
-use Rattle.std.specs.Prelude.{ℕ, Bool, true, false, ◌==◌, ◌&&◌, cond, List, [], ◌∷◌, Option, Some, None}
+use Rattle.std.specs.Prelude.{ℕ, Bool, true, false, ◌==◌, ◌&&◌, cond, List, [], ◌∷◌, Option, Some, None, slice_set}
 use Rattle.std.specs.List.{list_any}
+use Rattle.std.specs.Borrow.{Bor}
 use Rattle.rw_objects.specs.declared.count.Count.{Count}
 use Rattle.rw_objects.specs.declared.touch.Mode.{Mode}
 use Rattle.rw_objects.specs.declared.touch.Mode.TheVariants as mode
 use Rattle.rw_objects.specs.declared.touch.Touch.{Touch}
+use Rattle.rw_objects.specs.declared.entry.Entry.{Entry}
 use Rattle.rw_objects.specs.declared.touch.Found.{Found}
 use Rattle.rw_objects.specs.declared.touch.Found.TheVariants.{Read, Write}
 use Rattle.rw_objects.specs.Touch.{object_of}
@@ -32,3 +34,13 @@ opens (Write object version reads) t = object == t.object
 abbrev pub is_opened : List Touch → (ℕ → Count) → Option Found → Bool
 is_opened ts here None = false
 is_opened ts here (Some f) = list_any (opens f) ts && is_met f (here (object_of f))
+
+-- what a seat waits for before a call with this entry: nothing where the entry is not known, or its gate is open
+abbrev pub awaited_before : (ℕ → Count) → Option (Bor Entry) → Option Found
+awaited_before here None = None
+awaited_before here (Some e) = first_shut e.now.found here
+
+-- what seats wait for, once one of them waits for this. Where it waits for nothing, what it waited for last stands there
+abbrev pub waiting : List (Option Found) → ℕ → Option Found → List (Option Found)
+waiting awaited seat None = awaited
+waiting awaited seat (Some f) = slice_set awaited seat (Some f)

@@ -1,7 +1,8 @@
 //! Before which gates seats wait, and which of them a call opens.
 
-ghost use Rattle.std.specs.Prelude.{◌≡◌, IfOk, Some, None, replicate, slice_set};
+ghost use Rattle.std.specs.Prelude.{◌≡◌, ◌≤◌, ◌++◌, IfOk, Some, None, length, map, drop, min, replicate, slice_set};
 ghost use Rattle.std.specs.List.{list_any};
+ghost use Rattle.wasm_types.specs.declared.sizes.TheConstants.{MOST_THREADS};
 ghost use Rattle.rw_objects.specs.Counts.{count_at};
 ghost use Rattle.shared_core.specs.Gates.{is_met, opens, is_opened, first_shut};
 
@@ -9,13 +10,14 @@ use rw_objects::{Count, Found, Mode, Touch, Versions};
 use std::alloc::Global;
 use wasm_types::{MOST_THREADS, NoMemory};
 
-/// Whether each seat is one of these, by its number. Seats whose numbers differ by a multiple of the most threads are one.
+/// Whether each seat is one of these, by its number, for as many seats as there are threads at the most.
 pub(crate) type Seats = [bool; MOST_THREADS];
 
 /// What each seat waits for before its next call, by its number: a touch that would not have found what it is to find.
 #[derive(Debug, Drop)]
 pub(crate) struct Gates {
     pub(crate) awaited: Vec<Option<Found>>,
+    ghost few: { length awaited.items ≤ MOST_THREADS },
 }
 
 /// Whether a touch would find what it is to find, of an object that counts this.
@@ -84,11 +86,11 @@ fn is_opened(awaited: &Option<Found>, touches: &[Touch], versions: &Versions) ->
 }
 
 impl Gates {
-    /// So many seats, none of which waits.
+    /// So many seats, none of which waits: as many as there are threads at the most. Of a seat with a greater number nothing is noted.
     pub(crate) fn new(alloc: Global, seats: u8) -> Result<Gates, NoMemory>
-        ensures { IfOk result (λ g. g.awaited.items ≡ replicate seats None) }
+        ensures { IfOk result (λ g. g.awaited.items ≡ replicate (min seats MOST_THREADS) None) }
     {
-        let awaited = vec![in alloc; None; seats as usize]?;
+        let awaited = vec![in alloc; None; (seats as usize).min(MOST_THREADS)]?;
         Ok(Gates { awaited })
     }
 
@@ -101,22 +103,22 @@ impl Gates {
         }
     }
 
-    /// Whether a call with these touches, behind which objects count this, opened gates, and puts the seats that wait before them to
-    /// the others.
+    /// Whether a call with these touches, behind which objects count this, opened gates, and of each seat whether its gate is one of
+    /// them.
     pub(crate) fn opened_by(
         &self,
         touches: &[Touch],
         versions: &Versions,
         opened: &mut Seats,
     ) -> bool
-        ensures { result ≡ list_any (is_opened touches.now (count_at versions.now)) self.now.awaited.items }
+        ensures some { result ≡ list_any (is_opened touches.now (count_at versions.now)) self.now.awaited.items }
+        ensures seats { opened.new ≡ map (is_opened touches.now (count_at versions.now)) self.now.awaited.items ++ drop (length self.now.awaited.items) opened.old }
     {
         let mut some = false;
         for (seat, awaited) in self.awaited.iter().enumerate() {
-            if is_opened(awaited, touches, versions) {
-                opened[seat % MOST_THREADS] = true;
-                some = true;
-            }
+            let is_open = is_opened(awaited, touches, versions);
+            opened[seat] = is_open;
+            some |= is_open;
         }
         some
     }

@@ -1,6 +1,9 @@
 //! What stands under the journal's lock.
 
-ghost use Rattle.std.specs.Prelude.{◌≡◌, ◌&&◌, nat_lt, not, length};
+ghost use Rattle.std.specs.Prelude.{◌≡◌, ◌&&◌, ◌++◌, nat_lt, not, length, map, drop, option_map};
+ghost use Rattle.std.specs.List.{list_any};
+ghost use Rattle.shared_parts.specs.Calls.{memory_after_calls};
+ghost use Rattle.shared_core.specs.Gates.{is_opened, awaited_before, waiting};
 
 use crate::gates::{Gates, Seats, first_shut};
 use crate::resting::Resting;
@@ -25,18 +28,29 @@ impl<S: Striped, J: Opening<S, S::Value, S::Fixed>> Journal<S, J> {
         self.held.length() as u64
     }
 
-    /// Whether the call that was just entered with these touches opened gates, and puts the seats that wait before them to the others.
-    pub(crate) fn opens(&self, touches: &Few<Touch>, opened: &mut Seats) -> bool {
+    /// Whether the call that was just entered with these touches opened gates, and of each seat whether its gate is one of them.
+    pub(crate) fn opens(&self, touches: &Few<Touch>, opened: &mut Seats) -> bool
+        ensures some { result ≡ list_any (is_opened touches.now (memory_after_calls S.meaning J.named.memory self.now.held).counts) self.now.gates.awaited.items }
+        ensures seats { opened.new ≡ map (is_opened touches.now (memory_after_calls S.meaning J.named.memory self.now.held).counts) self.now.gates.awaited.items ++ drop (length self.now.gates.awaited.items) opened.old }
+    {
         self.gates
-            .opened_by(touches.as_slice(), &self.held.versions, opened)
+            .opened_by(touches.as_slice(), self.held.counts(), opened)
     }
 
-    /// Notes what a seat waits for before its next call, which is to have this entry, if one is known. Answers how many calls were entered, where the
-    /// gate of that call is shut.
+    /// Notes what a seat waits for before its next call, which is to have this entry, if one is known. Answers how many calls were
+    /// entered, where the gate of that call is shut.
     pub(crate) fn wait_before(&mut self, seat: u32, next: Option<&Entry>) -> Option<u64>
-        ensures { self.new.held ≡ self.old.held }
+        ensures answer { result ≡ option_map (λ f. length self.old.held) (awaited_before (memory_after_calls S.meaning J.named.memory self.old.held).counts next.entry) }
+        ensures noted { self.new.gates.awaited.items ≡ waiting self.old.gates.awaited.items seat (awaited_before (memory_after_calls S.meaning J.named.memory self.old.held).counts next.entry) }
+        ensures held { self.new.held ≡ self.old.held }
+        ensures resting { self.new.resting ≡ self.old.resting }
     {
-        let shut = first_shut(next?.found.as_slice(), &self.held.versions)?;
+        let Some(entry) = next else {
+            return None;
+        };
+        let Some(shut) = first_shut(entry.found.as_slice(), self.held.counts()) else {
+            return None;
+        };
         self.gates.wait_for(seat, shut);
         Some(self.length())
     }

@@ -6,8 +6,9 @@ use std::sync::atomic::{AtomicU64, Ordering};
 use std::{array, hint};
 use wasm_types::MOST_THREADS;
 
-/// How often a thread looks whether its gate was opened before it rests: for some microseconds, in which most gates open.
-const FEW_LOOKS: u32 = 100;
+/// How often a thread looks whether its gate was opened before it rests: for some ten to sixty microseconds, in which the others make a
+/// hundred calls or more.
+const FEW_LOOKS: u32 = 1_000;
 
 /// How often it looks once in a while: for some milliseconds, in which a thread that rested wakes on a free processor.
 const MANY_LOOKS: u32 = 100_000;

@@ -273,7 +273,7 @@ impl<S: Striped, J: Opening<S, S::Value, S::Fixed>> Shared<S, J> {
             }
         }
         let journal = lock(rt, &self.journal);
-        let opens_at = opens_at(&journal.held.versions, journal.length(), expected, seen);
+        let opens_at = opens_at(journal.held.counts(), journal.length(), expected, seen);
         drop(journal);
         let until = opens_at?;
         let length = self.rest_until(rt, seat, until);

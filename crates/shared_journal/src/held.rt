@@ -99,6 +99,13 @@ impl<S: Striped, J: Opening<S, S::Value, S::Fixed>> Held<S, J> {
         self.order.len()
     }
 
+    /// The versions and read totals of all objects, to which the journal leads.
+    pub fn counts(&self) -> &Versions
+        ensures { count_at result.now ≡ (memory_after_calls S.meaning J.named.memory self.now).counts }
+    {
+        &self.versions
+    }
+
     /// Tries one call, over the parts that it touches, with what it decides by what they hold. `Shut` is tested first.
     pub fn enter<K: Keeps<S, J>>(
         &mut self,
