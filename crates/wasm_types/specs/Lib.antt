@@ -9,3 +9,4 @@ pub mod Limits
 pub mod Values
 pub mod Accesses
 pub mod Widths
+pub mod Sizes

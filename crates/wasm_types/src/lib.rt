@@ -35,7 +35,7 @@ pub use no_memory::NoMemory;
 pub use operation::{Action, Extent, Op, Reply};
 pub use outcome::Outcome;
 pub use same::Same;
-pub use sizes::{LAST_THREAD, MOST_PAGES, MOST_STEPS, MOST_THREADS, PAGE_SIZE};
+pub use sizes::{LAST_THREAD, MOST_PAGES, MOST_STEPS, MOST_THREADS, PAGE_SIZE, sizes_are_so};
 pub use trap::Trap;
 pub use value::{ValType, Value};
 pub use width::Width;
