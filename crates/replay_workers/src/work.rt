@@ -30,6 +30,14 @@ impl<'a, S: Striped, M: Machine<S> + Drop, L: ReadLog, H: Hold> Work<S> for Repl
 
     ghost leads = { λ t w calls u. HasFollowed M.code M.state (L.log w.log.now) t w calls u };
 
+    fn leave_out<J: Opening<S, S::Value, S::Fixed>>(
+        &self,
+        _seat: &Seat<S, J>,
+        state: Follower<'a, M, L>,
+    ) -> Follower<'a, M, L> {
+        state
+    }
+
     fn work<J: Opening<S, S::Value, S::Fixed>, R: Wait>(
         &self,
         rt: &R,

@@ -4,6 +4,7 @@ ghost use Rattle.std.specs.Prelude.{◌≡◌, ◌&&◌, ◌++◌, nat_lt, not, 
 ghost use Rattle.std.specs.List.{list_any};
 ghost use Rattle.shared_parts.specs.Calls.{memory_after_calls};
 ghost use Rattle.shared_core.specs.Gates.{is_opened, awaited_before, waiting};
+ghost use Rattle.shared_core.specs.Resting.{none_goes};
 
 use crate::gates::{Gates, Seats, first_shut};
 use crate::resting::Resting;
@@ -55,10 +56,17 @@ impl<S: Striped, J: Opening<S, S::Value, S::Fixed>> Journal<S, J> {
         Some(self.length())
     }
 
+    /// Whether no seat can go on: each rests until more calls were entered, has left, or was given up.
+    pub(crate) fn none_goes(&self) -> bool
+        ensures { result ≡ none_goes self.now.resting.given_up (length self.now.held) self.now.resting.seats.items }
+    {
+        self.resting.none_goes(self.length())
+    }
+
     /// Whether a seat that rests until so many calls goes on resting: fewer were entered, and some seat can go on.
     pub(crate) fn is_still(&self, until: u64) -> bool
-        ensures { result ≡ (nat_lt (length self.now.held) until && not self.now.resting.stopped) }
+        ensures { result ≡ (nat_lt (length self.now.held) until && not (none_goes self.now.resting.given_up (length self.now.held) self.now.resting.seats.items)) }
     {
-        self.length() < until && !self.resting.stopped
+        self.length() < until && !self.none_goes()
     }
 }

@@ -1,9 +1,9 @@
 //! Which seats can go on.
 
-ghost use Rattle.std.specs.Prelude.{◌≡◌, ◌||◌, IfOk, true, false, replicate, slice_set};
-ghost use Rattle.std.specs.List.{list_all, list_any};
-ghost use Rattle.shared_core.specs.declared.resting.Standing.TheVariants.{Goes, RestsUntil, Away};
-ghost use Rattle.shared_core.specs.Resting.{awaiting, is_awaited, is_still, rests, wakes, with_one};
+ghost use Rattle.std.specs.Prelude.{◌≡◌, ℕ, IfOk, true, false, cond, replicate, slice_get, slice_set};
+ghost use Rattle.std.specs.List.{list_any};
+ghost use Rattle.shared_core.specs.declared.resting.Standing.TheVariants.{Away, Goes, RestsUntil, Left};
+ghost use Rattle.shared_core.specs.Resting.{awaiting, away_at, begins, is_awaited, is_away, is_still, none_goes, rests, wakes, with_one};
 
 use std::alloc::Global;
 use wasm_types::NoMemory;
@@ -11,12 +11,14 @@ use wasm_types::NoMemory;
 /// What a seat does.
 #[derive(Clone, Copy, Debug, PartialEq, Eq)]
 pub(crate) enum Standing {
+    /// Its thread has not begun. It can enter a call, unless it was given up.
+    Away,
     /// It can enter a call.
     Goes,
     /// It enters none before so many calls were entered.
     RestsUntil(u64),
-    /// It enters none: its thread has not begun, or has left.
-    Away,
+    /// It enters none any more: its thread has left.
+    Left,
 }
 
 impl Standing {
@@ -26,7 +28,7 @@ impl Standing {
     {
         match self {
             Standing::RestsUntil(_) => true,
-            Standing::Goes | Standing::Away => false,
+            Standing::Away | Standing::Goes | Standing::Left => false,
         }
     }
 
@@ -35,20 +37,32 @@ impl Standing {
         ensures { result ≡ is_awaited length self }
     {
         match self {
-            Standing::Goes => false,
+            Standing::Away | Standing::Goes => false,
             Standing::RestsUntil(until) => until == length,
-            Standing::Away => false,
+            Standing::Left => false,
         }
     }
 
-    /// Whether the seat enters no call while so many were entered: it rests until there are more, or is away.
-    fn is_still(self, length: u64) -> bool
-        ensures { result ≡ is_still length self }
+    /// Whether the seat enters no call while so many were entered: it rests until there are more, has left, or has not begun and was
+    /// given up.
+    fn is_still(self, given_up: bool, length: u64) -> bool
+        ensures { result ≡ is_still given_up length self }
     {
         match self {
+            Standing::Away => given_up,
             Standing::Goes => false,
             Standing::RestsUntil(until) => length < until,
+            Standing::Left => true,
+        }
+    }
+
+    /// Whether the seat has not begun.
+    fn is_away(self) -> bool
+        ensures { result ≡ is_away self }
+    {
+        match self {
             Standing::Away => true,
+            Standing::Goes | Standing::RestsUntil(_) | Standing::Left => false,
         }
     }
 }
@@ -76,26 +90,27 @@ impl Wakes {
     }
 }
 
-/// What each seat does, by its number, and whether at some time no seat could go on.
+/// What each seat does, by its number.
 #[derive(Debug, Drop)]
 pub(crate) struct Resting {
     pub(crate) seats: Vec<Standing>,
-    pub(crate) stopped: bool,
+    /// Whether those that have not begun were given up: they enter no call any more.
+    pub(crate) given_up: bool,
     /// Whether a seat may rest: where not, none does.
     pub(crate) some_rest: bool,
     ghost none_rests: { some_rest ≡ false → list_any rests seats.items ≡ false },
 }
 
 impl Resting {
-    /// So many seats, none of which has begun.
+    /// So many seats, none of which has begun: each can go on.
     pub(crate) fn new(alloc: Global, seats: u8) -> Result<Resting, NoMemory>
         ensures seats { IfOk result (λ r. r.seats.items ≡ replicate seats Away) }
-        ensures stopped { IfOk result (λ r. r.stopped ≡ false) }
+        ensures given { IfOk result (λ r. r.given_up ≡ false) }
     {
         let seats = vec![in alloc; Standing::Away; seats as usize]?;
         Ok(Resting {
             seats,
-            stopped: false,
+            given_up: false,
             some_rest: false,
         })
     }
@@ -126,41 +141,79 @@ impl Resting {
         wakes
     }
 
-    /// A seat rests until `until` calls were entered; `length` are. Answers whether no seat can go on.
-    pub(crate) fn rest(&mut self, seat: u32, until: u64, length: u64) -> bool
+    /// A seat rests until `until` calls were entered.
+    pub(crate) fn rest(&mut self, seat: u32, until: u64)
         ensures seats { self.new.seats.items ≡ slice_set self.old.seats.items seat (RestsUntil until) }
-        ensures stopped { self.new.stopped ≡ (self.old.stopped || list_all (λ s. is_still length s) self.new.seats.items) }
-        ensures answer { result ≡ self.new.stopped }
+        ensures given { self.new.given_up ≡ self.old.given_up }
     {
         self.some_rest = true;
         self.put(seat, Standing::RestsUntil(until));
-        self.stop(length)
     }
 
-    /// A seat that was away or rested can go on.
+    /// A seat that rested can go on.
     pub(crate) fn goes_on(&mut self, seat: u32)
         ensures seats { self.new.seats.items ≡ slice_set self.old.seats.items seat Goes }
-        ensures stopped { self.new.stopped ≡ self.old.stopped }
+        ensures given { self.new.given_up ≡ self.old.given_up }
     {
         self.put(seat, Standing::Goes);
         self.some_rest = self.some_rests();
     }
 
-    /// A seat has left; `length` calls are entered. Answers whether no seat can go on.
-    pub(crate) fn leave(&mut self, seat: u32, length: u64) -> bool
-        ensures seats { self.new.seats.items ≡ slice_set self.old.seats.items seat Away }
-        ensures stopped { self.new.stopped ≡ (self.old.stopped || list_all (λ s. is_still length s) self.new.seats.items) }
-        ensures answer { result ≡ self.new.stopped }
+    /// A seat has left. Where no seat could go on, none can then.
+    pub(crate) fn leave(&mut self, seat: u32)
+        ensures seats { self.new.seats.items ≡ slice_set self.old.seats.items seat Left }
+        ensures given { self.new.given_up ≡ self.old.given_up }
+        ensures stays { (length : ℕ) → none_goes self.old.given_up length self.old.seats.items ≡ true → none_goes self.new.given_up length self.new.seats.items ≡ true }
     {
-        self.put(seat, Standing::Away);
-        self.stop(length)
+        self.put(seat, Standing::Left);
+    }
+
+    /// A seat begins, unless it was given up. Answers whether it does, for the first time.
+    pub(crate) fn begin(&mut self, seat: u32) -> bool
+        ensures answer { result ≡ begins self.old.given_up (slice_get self.old.seats.items seat) }
+        ensures seats { self.new.seats.items ≡ cond result (slice_set self.old.seats.items seat Goes) self.old.seats.items }
+        ensures given { self.new.given_up ≡ self.old.given_up }
+    {
+        let begins = self.is_away(seat) && !self.given_up;
+        if begins {
+            self.put(seat, Standing::Goes);
+        }
+        begins
+    }
+
+    /// Those that have not begun enter no call any more.
+    pub(crate) fn give_up(&mut self)
+        ensures seats { self.new.seats.items ≡ self.old.seats.items }
+        ensures given { self.new.given_up ≡ true }
+    {
+        self.given_up = true;
+    }
+
+    /// Whether there is a seat of this number that has not begun.
+    fn is_away(&self, seat: u32) -> bool
+        ensures { result ≡ away_at (slice_get self.now.seats.items seat) }
+    {
+        match self.seats.get(seat as usize) {
+            Some(standing) => standing.is_away(),
+            None => false,
+        }
+    }
+
+    /// Whether no seat enters a call while so many were entered: each rests until there are more, has left, or was given up.
+    pub(crate) fn none_goes(&self, length: u64) -> bool
+        ensures { result ≡ none_goes self.now.given_up length self.now.seats.items }
+    {
+        let given_up = self.given_up;
+        self.seats
+            .iter()
+            .all(|seat| seat.is_still(given_up, length))
     }
 
     /// Notes what a seat does.
     fn put(&mut self, seat: u32, standing: Standing)
         requires rests { rests standing ≡ true → self.old.some_rest ≡ true }
         ensures seats { self.new.seats.items ≡ slice_set self.old.seats.items seat standing }
-        ensures stopped { self.new.stopped ≡ self.old.stopped }
+        ensures given { self.new.given_up ≡ self.old.given_up }
     {
         if let Some(place) = self.seats.get_mut(seat as usize) {
             *place = standing;
@@ -172,24 +225,5 @@ impl Resting {
         ensures { result ≡ list_any rests self.now.seats.items }
     {
         self.seats.iter().any(|seat| seat.rests())
-    }
-
-    /// Notes for good where no seat can go on, and answers it.
-    fn stop(&mut self, length: u64) -> bool
-        ensures seats { self.new.seats.items ≡ self.old.seats.items }
-        ensures stopped { self.new.stopped ≡ (self.old.stopped || list_all (λ s. is_still length s) self.old.seats.items) }
-        ensures answer { result ≡ self.new.stopped }
-    {
-        if !self.stopped {
-            self.stopped = self.none_goes(length);
-        }
-        self.stopped
-    }
-
-    /// Whether no seat enters a call while so many were entered.
-    fn none_goes(&self, length: u64) -> bool
-        ensures { result ≡ list_all (λ s. is_still length s) self.now.seats.items }
-    {
-        self.seats.iter().all(|seat| seat.is_still(length))
     }
 }

@@ -5,7 +5,7 @@ ghost use Rattle.rw_objects.specs.Space.{Fits};
 ghost use Rattle.striped_objects.specs.Cut.{decision_at};
 ghost use Rattle.shared_parts.specs.Calls.{call};
 ghost use Rattle.shared_journal.specs.Tries.{IfDone, IfShut, IfNotReady, IsDone};
-ghost use Rattle.shared_core.specs.Tries.{IsTry, WasNotReady, WasAnother};
+ghost use Rattle.shared_core.specs.Tries.{IsTry, WasNotReady, WasNotReadyAt, WasAnother};
 
 use crate::hold::Hold;
 use crate::journal::Journal;
@@ -26,7 +26,8 @@ use std::thread;
 use striped_objects::Striped;
 use wasm_types::{MOST_THREADS, NoMemory};
 
-/// How often a thread that is to rest looks whether all have begun.
+/// How often a thread that is to rest looks whether all have begun, giving up its turn each time, before it gives up those that have
+/// not: the system may make no thread for them.
 const MOST_LOOKS: u32 = 100_000;
 
 /// A space shared by threads, each of which has a seat: its parts, the journal of all calls, and what wakes those that rest.
@@ -157,7 +158,7 @@ impl<S: Striped, J: Opening<S, S::Value, S::Fixed>> Shared<S, J> {
     }
 
     /// Tries a call: where it is ready it is entered, behind the seat's other calls. It never answers `Shut`, and `NotReady` only where
-    /// some legal history leads to a space in which it is not ready: the journal as it was met.
+    /// a legal history that has the seat's calls leads to a space in which it is not ready: the journal as it was met.
     pub fn access<R: Wait, H: Hold>(
         &self,
         rt: &R,
@@ -169,7 +170,7 @@ impl<S: Striped, J: Opening<S, S::Value, S::Fixed>> Shared<S, J> {
         requires fits { Fits S.meaning J.named.memory.fixed op }
         ensures done { IfOk result (λ t. IfDone t (λ r e. seat.new.calls ≡ seat.old.calls ++ call seat.old.thread op r e ∷ [])) }
         ensures never_shut { IfOk result (λ t. IfShut t ⊥) }
-        ensures not_ready { IfOk result (λ t. IfNotReady t (WasNotReady S.meaning J.named.memory op)) }
+        ensures not_ready { IfOk result (λ t. IfNotReady t (WasNotReady S.meaning J.named.memory op seat.old)) }
         ensures kept { (IsDone result ≡ false) → seat.new ≡ seat.old }
         ensures thread { seat.new.thread ≡ seat.old.thread }
     {
@@ -177,9 +178,10 @@ impl<S: Striped, J: Opening<S, S::Value, S::Fixed>> Shared<S, J> {
     }
 
     /// Tries a call whose entry is to be this one: where it is, and the call is ready, it is entered, behind the seat's other
-    /// calls. It answers `Shut` only where its entry would be another one in the space to which some legal history leads, and `NotReady`
-    /// only where it is not ready in such a space: the journal as it was met. `next` is the entry of the call behind it, if it is known:
-    /// where that one's gate is shut yet, the seat's next try waits for a while until it is opened.
+    /// calls. It answers `Shut` only where its entry would be another one in the space to which a legal history leads that has the
+    /// seat's calls, and `NotReady` only where it would have this entry and is not ready in such a space: the journal as it was met.
+    /// `next` is the entry of the call behind it, if it is known: where that one's gate is shut yet, the seat's next try waits for a
+    /// while until it is opened.
     pub fn access_at<R: Wait, H: Hold>(
         &self,
         rt: &R,
@@ -193,8 +195,8 @@ impl<S: Striped, J: Opening<S, S::Value, S::Fixed>> Shared<S, J> {
         requires fits { Fits S.meaning J.named.memory.fixed op }
         ensures done { IfOk result (λ t. IfDone t (λ r e. seat.new.calls ≡ seat.old.calls ++ call seat.old.thread op r expected.now ∷ [])) }
         ensures entry { IfOk result (λ t. IfDone t (λ r e. e ≡ expected.now)) }
-        ensures shut { IfOk result (λ t. IfShut t (WasAnother S.meaning J.named.memory op expected.now)) }
-        ensures not_ready { IfOk result (λ t. IfNotReady t (WasNotReady S.meaning J.named.memory op)) }
+        ensures shut { IfOk result (λ t. IfShut t (WasAnother S.meaning J.named.memory op seat.old expected.now)) }
+        ensures not_ready { IfOk result (λ t. IfNotReady t (WasNotReadyAt S.meaning J.named.memory op seat.old expected.now)) }
         ensures kept { (IsDone result ≡ false) → seat.new ≡ seat.old }
         ensures thread { seat.new.thread ≡ seat.old.thread }
     {
@@ -209,36 +211,43 @@ impl<S: Striped, J: Opening<S, S::Value, S::Fixed>> Shared<S, J> {
         lock(rt, &self.journal).length()
     }
 
-    /// The seat begins: others that rest may wait for its calls. To be called once for a seat, before its first call.
-    pub fn begin<R: Wait>(&self, rt: &R, seat: &mut Seat<S, J>)
-        ensures { seat.new ≡ seat.old }
-    {
-        lock(rt, &self.journal).resting.goes_on(seat.thread());
-        self.to_begin.fetch_sub(1, Ordering::SeqCst);
+    /// The seat begins. Answers whether it does, for the first time: where it was given up, since no thread had come for it, it enters
+    /// no call, and nobody waits for it.
+    pub fn begin<R: Wait>(&self, rt: &R, seat: &Seat<S, J>) -> bool {
+        let begins = lock(rt, &self.journal).resting.begin(seat.thread());
+        if begins {
+            self.to_begin.fetch_sub(1, Ordering::SeqCst);
+        }
+        begins
     }
 
-    /// Waits until all seats have begun, but not for ever: where no thread can be made for a seat, it begins once another's
-    /// thread has left.
-    fn wait_for_beginnings(&self) {
+    /// Waits until all seats have begun, but not for ever: where no thread can be made for a seat, it begins once another's thread has
+    /// left. Answers whether all have begun.
+    fn wait_for_beginnings(&self) -> bool {
         for _ in 0..MOST_LOOKS {
             if self.to_begin.load(Ordering::SeqCst) == 0 {
-                return;
+                return true;
             }
             thread::yield_now();
         }
+        false
     }
 
     /// Waits until so many calls were entered, or no seat can go on. Answers how many were entered: fewer where no seat can go
-    /// on.
+    /// on. The seat then rests for good, so the others are told the same.
     fn rest_until<R: Wait>(&self, rt: &R, seat: &Seat<S, J>, until: u64) -> u64 {
-        self.wait_for_beginnings();
         let number = seat.thread();
+        let have_begun = self.wait_for_beginnings();
         let mut journal = lock(rt, &self.journal);
-        let length = journal.length();
-        if length >= until {
-            return length;
+        if journal.length() >= until {
+            return journal.length();
         }
-        if journal.resting.rest(number, until, length) {
+        if !have_begun {
+            journal.resting.give_up();
+        }
+        journal.resting.rest(number, until);
+        if journal.none_goes() {
+            let length = journal.length();
             drop(journal);
             self.changed.wake(Wakes::All);
             return length;
@@ -247,12 +256,16 @@ impl<S: Striped, J: Opening<S, S::Value, S::Fixed>> Shared<S, J> {
             .changed
             .of(number as usize)
             .wait_while(rt, journal, |journal| journal.is_still(until));
-        journal.resting.goes_on(number);
-        journal.length()
+        let length = journal.length();
+        if length >= until {
+            journal.resting.goes_on(number);
+        }
+        length
     }
 
     /// Waits until more than `seen` calls were entered, or no seat can go on. Answers how many were entered: `seen` where no
-    /// seat can go on, since each rests until there are more, or is away.
+    /// seat can go on, since each rests until there are more, has left, or has not begun and was given up. Once that was answered it
+    /// stays so, as long as no seat that was told it enters a call.
     pub fn rest<R: Wait>(&self, rt: &R, seat: &Seat<S, J>, seen: u64) -> u64 {
         self.rest_until(rt, seat, seen.saturating_add(1))
     }
@@ -280,14 +293,11 @@ impl<S: Striped, J: Opening<S, S::Value, S::Fixed>> Shared<S, J> {
         if length < until { None } else { Some(length) }
     }
 
-    /// The seat enters no more calls, so nobody waits for it. To be called once for a seat.
-    pub fn leave<R: Wait>(&self, rt: &R, seat: &mut Seat<S, J>)
-        ensures { seat.new ≡ seat.old }
-    {
-        let number = seat.thread();
+    /// The seat enters no more calls, so nobody waits for it.
+    pub fn leave<R: Wait>(&self, rt: &R, seat: &Seat<S, J>) {
         let mut journal = lock(rt, &self.journal);
-        let length = journal.length();
-        let is_over = journal.resting.leave(number, length);
+        journal.resting.leave(seat.thread());
+        let is_over = journal.none_goes();
         drop(journal);
         if is_over {
             self.changed.wake(Wakes::All);

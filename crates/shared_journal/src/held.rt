@@ -5,7 +5,7 @@ ghost use Rattle.rw_objects.specs.Space.{Fits, AllBelow, is_ready, reply_of};
 ghost use Rattle.rw_objects.specs.Counts.{all_found, count_at, is_touched};
 ghost use Rattle.rw_objects.specs.Memory.{entry_of, memory_after};
 ghost use Rattle.striped_objects.specs.Cut.{decision_at};
-ghost use Rattle.shared_parts.specs.Calls.{call, IsLegalHistory, memory_after_calls};
+ghost use Rattle.shared_parts.specs.Calls.{call, IsLegalHistory, IsWithin, memory_after_calls, part_of};
 ghost use Rattle.shared_journal.specs.Tries.{IfDone, IfShut, IfNotReady, IsDone};
 
 use crate::seat::Seat;
@@ -122,6 +122,7 @@ impl<S: Striped, J: Opening<S, S::Value, S::Fixed>> Held<S, J> {
         requires covers { K.covers kept.old touches.now }
         requires decided { (values : ℕ → S.Value) → K.here kept.old values → decision.now ≡ decision_at S.meaning S.cut J.named.memory.fixed values op.now }
         ensures legal { IsLegalHistory S.meaning J.named.memory self.old }
+        ensures holds { IsWithin seat.old.calls (part_of seat.old.thread self.old) }
         ensures done { IfOk result (λ t. IfDone t (λ r e. (is_ready S.meaning J.named.memory.fixed (memory_after_calls S.meaning J.named.memory self.old).values op.now ≡ true) × (r ≡ reply_of S.meaning J.named.memory.fixed (memory_after_calls S.meaning J.named.memory self.old).values op.now) × (e ≡ entry_of S.meaning (memory_after_calls S.meaning J.named.memory self.old) op.now) × (memory_after_calls S.meaning J.named.memory self.new ≡ memory_after S.meaning (memory_after_calls S.meaning J.named.memory self.old) op.now))) }
         ensures journal { IfOk result (λ t. IfDone t (λ r e. self.new ≡ self.old ++ call seat.old.thread op.now r e ∷ [])) }
         ensures own { IfOk result (λ t. IfDone t (λ r e. seat.new.calls ≡ seat.old.calls ++ call seat.old.thread op.now r e ∷ [])) }
@@ -131,6 +132,7 @@ impl<S: Striped, J: Opening<S, S::Value, S::Fixed>> Held<S, J> {
         ensures kept { (IsDone result ≡ false) → (self.new ≡ self.old) × (seat.new ≡ seat.old) }
         ensures thread { seat.new.thread ≡ seat.old.thread }
     {
+        seat.stands_in(&self.latest);
         kept.meet(&self.written, &self.latest);
         let entry = Entry {
             kind: S::kind(op),

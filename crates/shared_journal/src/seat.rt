@@ -3,9 +3,9 @@
 ghost use Rattle.std.specs.Prelude.{◌≡◌, ◌+◌, ℕ, [], IfOk, OnOk, length};
 ghost use Rattle.rw_objects.specs.Space.{Fits};
 ghost use Rattle.striped_objects.specs.Cut.{sights, decision_at};
-ghost use Rattle.shared_parts.specs.Calls.{entries_in};
+ghost use Rattle.shared_parts.specs.Calls.{IsWithin, entries_in, part_of};
 
-use call_chain::{Pile, Reached};
+use call_chain::{Latest, Pile, Reached};
 use packed_entries::PackedEntries;
 use rw_objects::{Few, ObjectSpace, Touch};
 use shared_parts::{Call, Count, Keeps, Opening};
@@ -65,6 +65,13 @@ impl<S: Striped, J: Opening<S, S::Value, S::Fixed>> Seat<S, J> {
         ensures { result ≡ self.now.thread }
     {
         u32::from(self.thread)
+    }
+
+    /// Its calls stand in the journal, in their order.
+    pub(crate) fn stands_in(&self, journal: &Latest<Call<S::Op, S::Reply>, J>)
+        ensures { IsWithin self.now.calls (part_of self.now.thread journal.now) }
+    {
+        journal.meet(&self.reached);
     }
 
     /// What an operation decides by what the parts that it touches hold, whatever the space is of which they are parts.

@@ -45,6 +45,14 @@ impl Work<Cells> for CellMix {
 
     ghost leads = { λ _ _ _ _. Unit {0} };
 
+    fn leave_out<J: Opening<Cells, u64, ()>>(
+        &self,
+        _seat: &Seat<Cells, J>,
+        state: Answers,
+    ) -> Answers {
+        state
+    }
+
     fn work<J: Opening<Cells, u64, ()>, R: Wait>(
         &self,
         rt: &R,

@@ -57,6 +57,14 @@ impl Work<StripedMemory> for Again {
 
     ghost leads = { λ _ _ _ _. Unit {0} };
 
+    fn leave_out<J: Opening<StripedMemory, ObjectValue, MemoryLimits>>(
+        &self,
+        _seat: &Seat<StripedMemory, J>,
+        state: Answers,
+    ) -> Answers {
+        state
+    }
+
     fn work<J: Opening<StripedMemory, ObjectValue, MemoryLimits>, R: Wait>(
         &self,
         rt: &R,

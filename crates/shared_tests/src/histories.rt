@@ -30,6 +30,14 @@ impl Work<StripedMemory> for Mix {
 
     ghost leads = { λ _ _ _ _. Unit {0} };
 
+    fn leave_out<J: Opening<StripedMemory, ObjectValue, MemoryLimits>>(
+        &self,
+        _seat: &Seat<StripedMemory, J>,
+        state: Answers,
+    ) -> Answers {
+        state
+    }
+
     fn work<J: Opening<StripedMemory, ObjectValue, MemoryLimits>, R: Wait>(
         &self,
         rt: &R,

@@ -31,6 +31,14 @@ impl Work<StripedMemory> for Readers {
 
     ghost leads = { λ _ _ _ _. Unit {0} };
 
+    fn leave_out<J: Opening<StripedMemory, ObjectValue, MemoryLimits>>(
+        &self,
+        _seat: &Seat<StripedMemory, J>,
+        state: bool,
+    ) -> bool {
+        state
+    }
+
     fn work<J: Opening<StripedMemory, ObjectValue, MemoryLimits>, R: Wait>(
         &self,
         rt: &R,

@@ -61,7 +61,8 @@ pub(crate) fn part<S: Striped, J: Opening<S, S::Value, S::Fixed>, T: Drop>(
     Ok((seats, states))
 }
 
-/// The work of one thread, which begins and then leaves.
+/// The work of one thread, which begins and then leaves. Where it begins too late, since none could be made for it in time, its seat
+/// was given up, and no call is entered.
 fn work_one<S: Striped, J: Opening<S, S::Value, S::Fixed>, T, W: Work<S, State = T>, R: Wait>(
     rt: &R,
     alloc: Global,
@@ -74,9 +75,12 @@ fn work_one<S: Striped, J: Opening<S, S::Value, S::Fixed>, T, W: Work<S, State =
     ensures { IsWorked W.leads job.seat job.state result.seat result.state }
 {
     let Job { mut seat, state } = job;
-    shared.begin(rt, &mut seat);
+    if !shared.begin(rt, &seat) {
+        let state = work.leave_out(&seat, state);
+        return Job { seat, state };
+    }
     let state = work.work(rt, alloc, shared, &mut seat, state);
-    shared.leave(rt, &mut seat);
+    shared.leave(rt, &seat);
     Job { seat, state }
 }
 

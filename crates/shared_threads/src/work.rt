@@ -21,6 +21,15 @@ pub trait Work<S: Striped> {
 
     ghost leads: { ℕ → Self.State → List (Call S.Op S.Reply) → Self.State → Type 0 };
 
+    /// What a thread has then which the system did not make in time: its seat enters no call.
+    fn leave_out<J: Opening<S, S::Value, S::Fixed>>(
+        &self,
+        seat: &Seat<S, J>,
+        state: Self::State,
+    ) -> Self::State
+        requires begins { begins J.named.memory.fixed state }
+        ensures { leads seat.now.thread state [] result };
+
     /// The work of one thread, from what it has to what it then has. `begins` says with what it may begin over a space with
     /// these fixed numbers, `leads` to what the calls of the thread with a number lead. The seat is left for it, once it
     /// is done.

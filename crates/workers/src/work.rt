@@ -31,6 +31,14 @@ impl<S: Striped, M: Machine<S> + Drop, T: Timer, H: Hold> Work<S> for Recording<
 
     ghost leads = { λ t w calls u. HasWorked M.code M.state (λ k s. T.can_expire k (M.nanos_of s)) t w calls u };
 
+    fn leave_out<J: Opening<S, S::Value, S::Fixed>>(
+        &self,
+        _seat: &Seat<S, J>,
+        state: Worker<M>,
+    ) -> Worker<M> {
+        state
+    }
+
     fn work<J: Opening<S, S::Value, S::Fixed>, R: Wait>(
         &self,
         rt: &R,

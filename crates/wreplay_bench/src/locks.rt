@@ -80,6 +80,14 @@ impl Work<StripedMemory> for Loads {
 
     ghost leads = { λ _ _ _ _. Unit {0} };
 
+    fn leave_out<J: Opening<StripedMemory, ObjectValue, MemoryLimits>>(
+        &self,
+        _seat: &Seat<StripedMemory, J>,
+        state: u32,
+    ) -> u32 {
+        state
+    }
+
     fn work<J: Opening<StripedMemory, ObjectValue, MemoryLimits>, R: Wait>(
         &self,
         rt: &R,

@@ -1,4 +1,4 @@
--- No seat rests where each is away.
+-- No seat rests where none has begun.
 use Rattle.std.specs.Prelude.{replicate}
 use Rattle.std.specs.List.{list_any}
 use Rattle.std.proofs.Common.{rules, ◌≡◌, ◌∙◌, ap}
