@@ -30,8 +30,10 @@ use Rattle.shared_parts.specs.declared.call.Call.{Call}
 use Rattle.shared_parts.specs.Calls.{IsLegalHistory, memory_after_calls, part_of, entries_in}
 use Rattle.shared_threads.specs.Ran.{entries_by, AreRun}
 use Rattle.workers.specs.declared.worker.Worker.{Worker}
+use Rattle.workers.specs.Driving.{all_asked}
 use Rattle.workers.specs.Work.{opening_worker, CanBegin, HasWorked}
-use Rattle.workers.specs.Recording.{IsRecording}
+use Rattle.workers.proofs.Asked.{legal_asked}
+use Rattle.workers.specs.Recording.{IsRecording, IsRecordingOf}
 use Rattle.workers.proofs.Resumes.{thread_in, AreDriven, world_with, IsResumed, sound_run, same_number, driven_are_resumed}
 
 no_time_out : (i : Input) (P : Type 0) → i ≡ Go → IfTimeOut i P
@@ -95,7 +97,7 @@ module _ {M State Op Reply Fixed : Type 0} (code : Code State Op Reply Fixed) (s
           → IsResumed code state may space m calls legal (map (opening_worker steps) ms) us → (lists : List (List Entry)) → lists ≡ entries_by 0 calls (map (opening_worker steps) ms)
           → (recorded : RecordedAt) → IsDone space code steps (world_with code state may space m calls legal (memory_after_calls space m calls) us) lists recorded
           → length us ≡ length (map (opening_worker steps) ms)
-          → IsRecording space code may steps (world_with code state may space m calls legal m (map (opening_worker steps) ms)) recorded
+          → IsRecordingOf space code may steps (world_with code state may space m calls legal m (map (opening_worker steps) ms)) (all_asked calls) recorded
       recording ms us h r lists same recorded d number =
           let ss = map (opening_worker steps) ms in
           let w = world_with code state may space m calls legal m ss in
@@ -108,20 +110,30 @@ module _ {M State Op Reply Fixed : Type 0} (code : Code State Op Reply Fixed) (s
           let same_size : length mid.threads ≡ length w.threads = length-map us (thread_in code state may) ∙ (number ∙ sym (length-map ss (thread_in code state may))) in
           let size : length w.threads ≡ length ss = length-map ss (thread_in code state may) in
           record {
-            picks = picks;
-            run = run_joined space code w r.picks goes.picks r.run run;
-            times = times_joined space code may w r.picks goes.picks r.times (none_times_out _ goes.picks goes.all_go);
-            log = recorded_log space code w u picks (sym leads) d.after recorded.threads d.logged d.ends
-                (λ t l.
-                let z : 0 + t ≡ t = omega arith in
-                goes.logged t (omega (arith, l, same_size))
-                ∙ (ap (λ z. z ++ entries space code mid goes.picks t) (ap (λ ls. list_at ls t) same ∙ (list_by 0 calls ss t (omega (arith, l, size)) ∙ (ap (λ k. entries_in (part_of k calls)) z ∙ sym (r.entries t))))
-                ∙ (ap (λ z. entries space code w r.picks t ++ entries space code z goes.picks t) (sym r.world) ∙ sym (entries_joined space code w r.picks goes.picks t))))
-                (goes.lists ∙ (goes.size ∙ same_size));
-            end = d.ended ∙ ap (end_of_world space code) (sym leads);
-            within = subst (StepsWithin space code steps) (sym leads) (goes.within (λ t th e. within_by 0 calls ms us h t th e));
-            none_goes = subst (NoneGoes space code steps) (sym leads) d.none;
-            passed = d.none_passed;
+            recording = record {
+              calls = all_asked calls;
+              legal = legal_asked space m calls legal;
+              worked = r.picks;
+              order = r.order;
+              rounds = goes.picks;
+              rounds_go = goes.all_go;
+              picks = picks;
+              whole = refl;
+              run = run_joined space code w r.picks goes.picks r.run run;
+              times = times_joined space code may w r.picks goes.picks r.times (none_times_out _ goes.picks goes.all_go);
+              log = recorded_log space code w u picks (sym leads) d.after recorded.threads d.logged d.ends
+                  (λ t l.
+                  let z : 0 + t ≡ t = omega arith in
+                  goes.logged t (omega (arith, l, same_size))
+                  ∙ (ap (λ z. z ++ entries space code mid goes.picks t) (ap (λ ls. list_at ls t) same ∙ (list_by 0 calls ss t (omega (arith, l, size)) ∙ (ap (λ k. entries_in (part_of k calls)) z ∙ sym (r.entries t))))
+                  ∙ (ap (λ z. entries space code w r.picks t ++ entries space code z goes.picks t) (sym r.world) ∙ sym (entries_joined space code w r.picks goes.picks t))))
+                  (goes.lists ∙ (goes.size ∙ same_size));
+              end = d.ended ∙ ap (end_of_world space code) (sym leads);
+              within = subst (StepsWithin space code steps) (sym leads) (goes.within (λ t th e. within_by 0 calls ms us h t th e));
+              none_goes = subst (NoneGoes space code steps) (sym leads) d.none;
+              passed = d.none_passed;
+            };
+            same = refl;
           }
 
 module _ {M State Op Reply Value Fixed : Type 0} (space : Space Op Reply Value Fixed) (code : Code State Op Reply Fixed) (state : M → State) (may : ℕ → State → Bool) (steps : ℕ) (fixed : Fixed) (values : ℕ → Value) (ms : List M) where
@@ -133,10 +145,7 @@ module _ {M State Op Reply Value Fixed : Type 0} (space : Space Op Reply Value F
   threads_seen (w ∷ ws) = ap (λ l. thread_of state w.thread ∷ l) (threads_seen ws)
 
   -- workers of machines that made no step ran, and these are the threads that they left
-  module _ (order : List ℕ) (logs : List (List Entry)) (memory : Memory Value Fixed) (ss us : List (Worker M)) (threads : List (Thread M)) (opened : ss ≡ map (opening_worker steps) ms) (stopped : threads ≡ map (λ w. w.thread) us) (left : Ran order logs memory ss us) where
-    ran : Ran order logs memory (map (opening_worker steps) ms) us
-    ran = subst (λ l. Ran order logs memory l us) opened left
-
+  module _ (order : List ℕ) (logs : List (List Entry)) (memory : Memory Value Fixed) (us : List (Worker M)) (threads : List (Thread M)) (stopped : threads ≡ map (λ w. w.thread) us) (ran : Ran order logs memory (map (opening_worker steps) ms) us) where
     run_of : IsResumed code state may space (memory_with fixed values no_counts) ran.calls ran.legal (map (opening_worker steps) ms) us
     run_of = driven_are_resumed code state may space (memory_with fixed values no_counts) ran.calls ran.legal (map (opening_worker steps) ms) us ran.each ran.no_others
 
@@ -156,11 +165,11 @@ module _ {M State Op Reply Value Fixed : Type 0} (space : Space Op Reply Value F
     ran_logs = ap length ran.entered ∙ (entries_number 0 ran.calls (map (opening_worker steps) ms) ∙ (sym number ∙ (sym (length-map us (thread_in code state may)) ∙ ap length (sym threads_are))))
 
     pub ran_recording : (mid : WorldAt State Value Fixed) → mid.threads ≡ threads_of state threads → mid.memory ≡ memory → (recorded : RecordedAt) → IsDone space code steps mid logs recorded
-        → IsRecording space code may steps (opening_world state fixed values ms) recorded
+        → IsRecordingOf space code may steps (opening_world state fixed values ms) (all_asked ran.calls) recorded
     ran_recording mid ts mem recorded d =
         let after = memory_after_calls space (memory_with fixed values no_counts) ran.calls in
         let mid_is : mid ≡ record { threads = map (thread_in code state may) us; memory = after } =
         ap (λ x. record { threads = x; memory = mid.memory }) (ts ∙ threads_are) ∙ ap (λ x. record { threads = map (thread_in code state may) us; memory = x }) (mem ∙ ran.led) in
-        subst (λ w. IsRecording space code may steps w recorded) (sym (opens code state steps may space (memory_with fixed values no_counts) ran.calls ran.legal fixed values ms refl))
+        subst (λ w. IsRecordingOf space code may steps w (all_asked ran.calls) recorded) (sym (opens code state steps may space (memory_with fixed values no_counts) ran.calls ran.legal fixed values ms refl))
         (recording code state steps may space (memory_with fixed values no_counts) ran.calls ran.legal ms us ran.each run_of logs ran.entered recorded
         (subst (λ w. IsDone space code steps w logs recorded) mid_is d) number)

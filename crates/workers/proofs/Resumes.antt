@@ -16,7 +16,7 @@ use Rattle.event_core.specs.World.{WorldAt, step_of_pick, world_after, world_aft
 use Rattle.event_core.specs.Run.{world_run, IsRun, entries}
 use Rattle.event_core.proofs.SoundSteps.{local_kept, event_kept}
 use Rattle.event_core.proofs.Places.{length_run}
-use Rattle.replay_laws.specs.History.{OwnStep, calls_in, Leads, TimesOut, RunTimesOut, IsExecution, IsRunOf}
+use Rattle.replay_laws.specs.History.{OwnStep, calls_in, calls_of_run, Leads, TimesOut, RunTimesOut, IsExecution, IsRunOf}
 use Rattle.replay_laws.specs.History as history
 use Rattle.replay_laws.proofs.Histories.{histories_are_runs}
 use Rattle.shared_parts.specs.declared.call.Call.{Call}
@@ -148,6 +148,7 @@ module _ {M State Op Reply Fixed : Type 0} (code : Code State Op Reply Fixed) (s
       pub picks : List Pick
       pub run : IsRun space code (world_with m ss) picks
       pub times : RunTimesOut space code may (world_with m ss) picks
+      pub order : calls_of_run space code (world_with m ss) picks ≡ all_asked calls
       pub world : world_run space code (world_with m ss) picks ≡ world_with (memory_after_calls space m calls) us
       pub entries : (t : ℕ) → entries space code (world_with m ss) picks t ≡ entries_in (part_of t calls)
 
@@ -182,6 +183,7 @@ module _ {M State Op Reply Fixed : Type 0} (code : Code State Op Reply Fixed) (s
           picks = r.picks;
           run = r.run;
           times = r.times;
+          order = r.order;
           world = ap (λ x. record { threads = x; memory = v.memory }) threads ∙ ap (λ x. record { threads = map thread_in us; memory = x }) objects;
           entries = λ t. r.entries t ∙ entries_asked space m calls t legal;
         }
@@ -194,6 +196,7 @@ module _ {M State Op Reply Fixed : Type 0} (code : Code State Op Reply Fixed) (s
           picks = [];
           run = tt;
           times = tt;
+          order = ap all_asked (sym no_call);
           world = ap (λ cs. world_with (memory_after_calls space m cs) []) (sym no_call);
           entries = λ t. ap (λ cs. entries_in (part_of t cs)) (sym no_call);
         }

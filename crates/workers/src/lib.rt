@@ -11,6 +11,6 @@ mod work;
 mod worker;
 
 pub use own::own_thread;
-pub use record::record_workers;
+pub use record::{record_history, record_workers};
 pub use timer::{AtOnce, Never, Timer};
 pub use worker::Worker;

@@ -4,7 +4,8 @@ ghost use Rattle.std.specs.Prelude.{◌≡◌, ◌≤◌, IfOk, length, map};
 ghost use Rattle.wasm_types.specs.declared.sizes.TheConstants.{MOST_STEPS, MOST_THREADS};
 ghost use Rattle.event_core.specs.Opening.{AllFresh, opening_world};
 ghost use Rattle.shared_core.specs.Begins.{names_of, lane_names};
-ghost use Rattle.workers.specs.Recording.{IsRecording};
+ghost use Rattle.rw_objects.specs.Memory.{memory_of};
+ghost use Rattle.workers.specs.Recording.{HaveRun, IsRecording, IsRecordingFrom};
 ghost use Rattle.workers.specs.Work.{opening_worker};
 
 use crate::lawful::are_lawful;
@@ -60,6 +61,29 @@ fn stopped_threads<M: Drop>(
     Ok(threads)
 }
 
+/// Records what workers did that made this history, in its order, and then in rounds what they left undone. Each of them drove a machine
+/// that had made no step, over a space that no thread had touched. Where memory was wanted for one of them, no recording is answered.
+pub fn record_history<S: Striped + Drop, X, M: Machine<S, State = X> + Drop, R: Wait>(
+    rt: &R,
+    alloc: Global,
+    history: History<S>,
+    workers: Vec<Worker<M>>,
+    steps: u32,
+) -> Result<Recorded, NoMemory>
+    requires { HaveRun S.meaning M.code M.state steps history.order.items history.entries.items (memory_of history.memory) workers.items }
+    ensures { IfOk result (λ recorded. (h : HaveRun S.meaning M.code M.state steps history.order.items history.entries.items (memory_of history.memory) workers.items) → IsRecordingFrom S.meaning M.code M.state steps h recorded) }
+{
+    are_lawful::<S, M>();
+    let threads = stopped_threads(alloc, workers)?;
+    let History {
+        order: _,
+        entries,
+        memory,
+    } = history;
+    let world = World::resume(threads, memory);
+    record_rest(rt, alloc, world, entries, steps)
+}
+
 /// Records a run by workers, each in a thread of its own, of machines that made no step, over a space that no thread has touched.
 /// Each thread makes no more than `steps` steps, at most 1,000,000,000. What the workers leave undone is done in rounds. Where
 /// memory is wanted for one of them all others end first, and no recording is answered.
@@ -96,7 +120,6 @@ where
     requires limit { steps ≤ MOST_STEPS }
     ensures { IfOk result (λ recorded. IsRecording S.meaning M.code (λ t s. T.can_expire t (M.nanos_of s)) steps (opening_world M.state (S.fixed opened.space) (S.values opened.space) machines.items) recorded) }
 {
-    are_lawful::<S, M>();
     let workers = open_workers(alloc, machines, steps)?;
     let work = Recording {
         timer,
@@ -106,12 +129,5 @@ where
     let (history, workers) = run_threads::<S, J, Worker<M>, Recording<M, T, H>, R>(
         rt, alloc, opened, workers, &work,
     )?;
-    let threads = stopped_threads(alloc, workers)?;
-    let History {
-        order: _,
-        entries,
-        memory,
-    } = history;
-    let world = World::resume(threads, memory);
-    record_rest(rt, alloc, world, entries, steps)
+    record_history(rt, alloc, history, workers, steps)
 }
