@@ -5,7 +5,7 @@ ghost use Rattle.wasm_types.specs.declared.sizes.TheConstants.{MOST_THREADS};
 ghost use Rattle.block_objects.specs.SharedMemory.{shared_memory};
 ghost use Rattle.waiter_queues.specs.Shared.{shared_values};
 ghost use Rattle.event_core.specs.Opening.{AllFresh, opening_world};
-ghost use Rattle.replay_workers.specs.Finishing.{IsReplayEnd, IsReplayFault};
+ghost use Rattle.replay_gate.specs.Finished.{IsReplayEnd, IsReplayFault};
 
 use event_core::Ended;
 use replay_gate::{ReadLog, ReplayFault};

@@ -6,3 +6,4 @@ pub mod Answers
 pub mod Rounds
 pub mod Turned
 pub mod LocalRounds
+pub mod Finished

@@ -1,4 +1,3 @@
 pub mod Along
 pub mod Gating
 pub mod Pointing
-pub mod Ends

@@ -134,7 +134,8 @@ module _ {M L State Op Reply Fixed : Type 0} (code : Code State Op Reply Fixed) 
       threads_left = stopped ∙ as_threads us
 
       pub point_sound : IsSound code (threads_of state threads) memory
-      point_sound = ran_sound space code state always MOST_STEPS fixed values ms order logs memory (map as_worker ss) (map as_worker us) threads workers_opened threads_left ran laws rules few fresh
+      point_sound = ran_sound space code state always MOST_STEPS fixed values ms order logs memory (map as_worker us) threads threads_left
+          (subst (λ ws. AreRun space (HasWorked code state always) (memory_with fixed values no_counts) ws order logs memory (map as_worker us)) workers_opened ran) laws rules few fresh
 
       abbrev opening : WorldAt State Value Fixed
       opening = world_with code state always space (memory_with fixed values no_counts) left.calls left.legal (memory_with fixed values no_counts) (map as_worker ss)

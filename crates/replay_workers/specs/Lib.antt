@@ -1,3 +1,2 @@
 pub mod Following
 pub mod Work
-pub mod Finishing

@@ -2,41 +2,20 @@
 
 ghost use Rattle.std.specs.Prelude.{◌≡◌, ◌≤◌, IfOk, IfErr, length};
 ghost use Rattle.wasm_types.specs.declared.sizes.TheConstants.{MOST_THREADS};
-ghost use Rattle.event_core.specs.Opening.{AllFresh, IsOpeningWorld, opening_world};
-ghost use Rattle.event_core.specs.World.{WorldAt, world_of};
+ghost use Rattle.event_core.specs.Opening.{AllFresh, opening_world};
 ghost use Rattle.shared_core.specs.Begins.{names_of, lane_names};
-ghost use Rattle.replay_gate.specs.Leads.{Leads};
-ghost use Rattle.replay_workers.specs.Finishing.{IsReplayEnd, IsReplayFault};
+ghost use Rattle.replay_gate.specs.Finished.{IsReplayEnd, IsReplayFault};
 
 use crate::replaying::replay_workers;
-use event_core::{Ended, World};
-use replay_gate::{ReadLog, ReplayFault, run_ordered};
-use rw_objects::{Machine, ObjectSpace};
+use event_core::Ended;
+use replay_gate::{ReadLog, ReplayFault, finish};
+use rw_objects::Machine;
 use shared_core::{Hold, Opened};
 use shared_parts::Opening;
 use std::alloc::Global;
 use std::sync::Wait;
 use std::thread::Threads;
 use striped_objects::Striped;
-
-/// Makes the turns that are left, in rounds of all threads, and answers the end, or why a thread does not come to it.
-fn finish<M: Machine<S> + Drop, S: ObjectSpace + Drop, L: ReadLog>(
-    alloc: Global,
-    world: World<M, S>,
-    log: &L,
-) -> Result<Ended, ReplayFault>
-    ensures ended { IfOk result (λ ended. (w : WorldAt M.State S.Value S.Fixed) → IsOpeningWorld M.code w → Leads S.meaning M.code (L.log log.now) w (world_of world) → IsReplayEnd S.meaning M.code (L.log log.now) w ended) }
-    ensures refused { IfErr result (λ f. (w : WorldAt M.State S.Value S.Fixed) → Leads S.meaning M.code (L.log log.now) w (world_of world) → IsReplayFault S.meaning M.code (L.log log.now) w f) }
-{
-    let mut world = world;
-    match run_ordered(alloc, &mut world, log, &[]) {
-        Err(fault) => Err(fault),
-        Ok(()) => match world.end(alloc) {
-            Err(_) => Err(ReplayFault::NoMemory),
-            Ok(ended) => Ok(ended),
-        },
-    }
-}
 
 /// Replays a log by threads, of machines that made no step, over a space that no thread has touched. Each is driven by a worker of
 /// its own; the turns that these leave are made in rounds. What is answered is the end of a gated run from the log, or the fault at

@@ -16,7 +16,7 @@ use Rattle.replay_laws.specs.Finishing.{OrderedEnds}
 use Rattle.replay_laws.proofs.Finishing.{finished_runs_are_ordered}
 use Rattle.replay_gate.specs.declared.answers.ReplayFault.{ReplayFault}
 use Rattle.replay_gate.specs.declared.answers.ReplayFault.TheVariants as fault
-use Rattle.replay_workers.specs.Finishing.{IsReplayEnd, IsReplayFault}
+use Rattle.replay_gate.specs.Finished.{IsReplayEnd, IsReplayFault}
 use Rattle.wasm_replay.specs.Replays.{EndsAsRecorded, IsOfRun, IsOrderedAnswer, gathered_log}
 use Rattle.wasm_replay.specs.declared.replaying.WasmReplayFault.TheVariants as refusal
 use Rattle.wasm_world.specs.Opening.{WasmWorld, opening_world_of}

@@ -5,7 +5,7 @@ use Rattle.event_core.specs.End.{RunEnd}
 use Rattle.thread_plan.specs.Plans.{PlanValue}
 use Rattle.thread_code.specs.ThreadCode.{thread_code}
 use Rattle.replica.specs.declared.log.Log.{Log as GatheredLog}
-use Rattle.replay_workers.specs.Finishing.{IsReplayEnd, IsReplayFault}
+use Rattle.replay_gate.specs.Finished.{IsReplayEnd, IsReplayFault}
 use Rattle.wasm_replay.specs.Replays.{IsOfRun, IsOfNoRun, Opens, gathered_log}
 use Rattle.wasm_replay.specs.declared.replaying.WasmReplayFault.{WasmReplayFault}
 use Rattle.wasm_replay.specs.declared.replaying.WasmReplayFault.TheVariants as refusal

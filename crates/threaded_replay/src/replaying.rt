@@ -5,7 +5,7 @@ ghost use Rattle.wasm_types.specs.declared.sizes.TheConstants.{MOST_THREADS};
 ghost use Rattle.block_objects.specs.SharedMemory.{shared_memory};
 ghost use Rattle.event_core.specs.Opening.{AllFresh, opening_world};
 ghost use Rattle.integer_machine.specs.Sound.{thread_of};
-ghost use Rattle.replay_workers.specs.Finishing.{IsReplayEnd, IsReplayFault};
+ghost use Rattle.replay_gate.specs.Finished.{IsReplayEnd, IsReplayFault};
 ghost use Rattle.thread_code.specs.ThreadCode.{thread_code};
 ghost use Rattle.thread_plan.specs.Plans.{IsPlanOf};
 ghost use Rattle.threaded_replay.specs.Threaded.{IsThreadsEnd, IsThreadsRefusal};

@@ -3,7 +3,7 @@ use Rattle.std.specs.Prelude.{IfOk, IfErr}
 use Rattle.block_objects.specs.SharedMemory.{shared_memory}
 use Rattle.waiter_queues.specs.Shared.{shared_values}
 use Rattle.event_core.specs.Opening.{AllFresh, opening_world}
-use Rattle.replay_workers.specs.Finishing.{IsReplayEnd, IsReplayFault}
+use Rattle.replay_gate.specs.Finished.{IsReplayEnd, IsReplayFault}
 use Rattle.memory_replay.proofs.replay.replay_memory.Goals as goal
 
 pub replay_by_threads-requires-clause-fresh : goal.replay_by_threads-requires-clause-fresh

@@ -27,7 +27,7 @@ use Rattle.replay_gate.specs.declared.answers.ReplayFault.TheVariants as fault
 use Rattle.replay_gate.specs.Leads.{Leads}
 use Rattle.replay_gate.specs.Answers.{fault_of, IsOrderedFault, IsVouchedEnd, IsEndOfRuns, IsWantOfMemory}
 use Rattle.replay_gate.proofs.Going.{leads_on}
-use Rattle.replay_workers.specs.Finishing.{IsStuck, IsGatedFault, IsReplayEnd, IsReplayFault}
+use Rattle.replay_gate.specs.Finished.{IsStuck, IsGatedFault, IsReplayEnd, IsReplayFault}
 
 module _ {State Op Reply Value Fixed : Type 0} (space : Space Op Reply Value Fixed) (code : Code State Op Reply Fixed) (laws : SpaceLaws space) (rules : CodeLaws space code) (log : Log) (limits : HasLimits log) (w : WorldAt State Value Fixed) where
   -- an end of a finished gated run vouches for the log, and is that of every run whose log this one is below

@@ -1,4 +1,4 @@
--- What a replay by threads answers.
+-- What the turns that are left answer, from a world to which some gated run from the log led.
 use Rattle.std.specs.Prelude.{◌≡◌, ◌⊎◌, ℕ, ◌<◌, length, None}
 use Rattle.rw_objects.specs.Space.{Space}
 use Rattle.rw_objects.specs.Code.{Code}

@@ -1,8 +1,8 @@
 use Rattle.std.proofs.Common.{[], sym, subst}
 use Rattle.event_core.specs.World.{world_of}
 use Rattle.replay_laws.specs.Finishing.{OrderedEnds}
-use Rattle.replay_workers.proofs.Ends.{right_end, right_fault, starved_fault}
-use Rattle.replay_workers.proofs.finishing.finish.Goals as goal
+use Rattle.replay_gate.proofs.Ends.{right_end, right_fault, starved_fault}
+use Rattle.replay_gate.proofs.finishing.finish.Goals as goal
 
 pub returns-clause-ended : goal.returns-clause-ended
 returns-clause-ended g c =

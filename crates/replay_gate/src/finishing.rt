@@ -1,0 +1,35 @@
+//! The end of a replay whose world others brought forward.
+
+ghost use Rattle.std.specs.Prelude.{◌≡◌, IfOk, IfErr};
+ghost use Rattle.event_core.specs.Opening.{IsOpeningWorld};
+ghost use Rattle.event_core.specs.World.{WorldAt, world_of};
+ghost use Rattle.replay_gate.specs.Finished.{IsReplayEnd, IsReplayFault};
+ghost use Rattle.replay_gate.specs.Leads.{Leads};
+
+use crate::answers::ReplayFault;
+use crate::ordered::run_ordered;
+use crate::read_log::ReadLog;
+use event_core::{Ended, World};
+use rw_objects::{Machine, ObjectSpace};
+use std::alloc::Global;
+
+/// Finishes a replay at whose world some gated run from the log stands: makes the turns that are left, in rounds of all
+/// threads, and answers the end, or why a thread does not come to it. An end vouches for the log, and is that of every run
+/// whose log the log is below; where some gated run comes to the log's ends, only memory can be wanting.
+pub fn finish<M: Machine<S> + Drop, S: ObjectSpace + Drop, L: ReadLog>(
+    alloc: Global,
+    world: World<M, S>,
+    log: &L,
+) -> Result<Ended, ReplayFault>
+    ensures ended { IfOk result (λ ended. (w : WorldAt M.State S.Value S.Fixed) → IsOpeningWorld M.code w → Leads S.meaning M.code (L.log log.now) w (world_of world) → IsReplayEnd S.meaning M.code (L.log log.now) w ended) }
+    ensures refused { IfErr result (λ f. (w : WorldAt M.State S.Value S.Fixed) → Leads S.meaning M.code (L.log log.now) w (world_of world) → IsReplayFault S.meaning M.code (L.log log.now) w f) }
+{
+    let mut world = world;
+    match run_ordered(alloc, &mut world, log, &[]) {
+        Err(fault) => Err(fault),
+        Ok(()) => match world.end(alloc) {
+            Err(_) => Err(ReplayFault::NoMemory),
+            Ok(ended) => Ok(ended),
+        },
+    }
+}
