@@ -1,6 +1,6 @@
 //! Laws of the logs of pieces.
 
-ghost use Rattle.std.specs.Prelude.{◌≡◌, ℕ, List};
+ghost use Rattle.std.specs.Prelude.{◌≡◌, ℕ, List, ◌∷◌, ◌++◌};
 ghost use Rattle.replica.specs.Gathered.{IsListing};
 ghost use Rattle.log_pieces.specs.Piece.{PieceValue};
 ghost use Rattle.replica.specs.declared.form.ListingForm.{ListingForm};
@@ -33,6 +33,22 @@ pub fn joining_again_completes()
 /// other. So merging a log again completes what want of memory left.
 pub fn merging_again_completes()
     ensures { (old other part new : Log) (thread count : ℕ) → IsMergedInPart old other thread count part → IsMerged part other new → IsMerged old other new }
+{}
+
+/// A law of logs alone: a log of pieces that is joined with the first items of one more, and then with that piece, is the
+/// log of them all. So after a delivery for which memory was wanting, and which was made again, the log is that of the set
+/// of the pieces that were delivered.
+pub fn joining_again_makes_the_log()
+    ensures { (ps : List PieceValue) (old part new : Log) (piece : PieceValue) (count : ℕ) → IsLogOf (Among ps) old
+        → IsJoinedWith old (first_items count piece) part → IsJoinedWith part piece new → IsLogOf (Among (piece ∷ ps)) new }
+{}
+
+/// A law of logs alone: a log of pieces that is joined with the first entries of a log of others, and then with that log,
+/// is the log of them all. So after a merging for which memory was wanting, and which was made again, the log is that of
+/// the pieces of both.
+pub fn merging_again_makes_the_log()
+    ensures { (ps qs : List PieceValue) (old other part new : Log) (thread count : ℕ) → IsLogOf (Among ps) old → IsLogOf (Among qs) other
+        → IsMergedInPart old other thread count part → IsMerged part other new → IsLogOf (Among (ps ++ qs)) new }
 {}
 
 /// A law of logs alone: no known end of a log has more than 1,000,000,000 steps, since the pieces that it is made of

@@ -6,3 +6,4 @@ pub mod Rules
 pub mod Loops
 pub mod LineText
 pub mod Keeping
+pub mod Complete

@@ -1,5 +1,5 @@
 -- What is proved of the pieces of a log.
-use Rattle.std.specs.Prelude.{◌≡◌, ℕ, ◌≤◌, ◌<◌, ◌+◌, List}
+use Rattle.std.specs.Prelude.{◌≡◌, ◌↔◌, ℕ, ◌≤◌, ◌<◌, ◌+◌, List}
 use Rattle.wasm_types.specs.declared.key.RunKey.{RunKey}
 use Rattle.rw_objects.specs.Space.{Space}
 use Rattle.rw_objects.specs.Code.{Code}
@@ -8,7 +8,8 @@ use Rattle.event_core.specs.World.{WorldAt}
 use Rattle.log_pieces.specs.Piece.{PieceValue, greatest_object}
 use Rattle.replica.specs.declared.log.Log.{Log as GatheredLog}
 use Rattle.replica.specs.LogOf.{Among, IsLogOf}
-use Rattle.replay_laws.specs.Log.{Log, IsBelowLog}
+use Rattle.replica.specs.Counts.{IsComplete}
+use Rattle.replay_laws.specs.Log.{Log, IsBelowLog, IsCompleteLog}
 use Rattle.replay_laws.specs.RunLog.{run_log}
 use Rattle.replay_laws.specs.Laws.{IsWholeRun}
 use Rattle.recorder.specs.ThreadLogAt.{ThreadLogAt, log_of}
@@ -26,6 +27,10 @@ JoinedLogsAreBelow = (key : RunKey) (log : Log) (pieces : List PieceValue) → E
 abbrev pub CoveringPiecesMakeTheLog : Type 0
 CoveringPiecesMakeTheLog = (key : RunKey) (log : Log) (pieces : List PieceValue) → EachPieceOf key log pieces → IsCovered pieces log
     → (gathered : GatheredLog) → IsLogOf (Among pieces) gathered → gathered_log gathered ≡ log
+
+-- a gathered log is the whole log of so many threads exactly where the laws of replay call it complete
+abbrev pub WholeLogsAreComplete : Type 0
+WholeLogsAreComplete = (threads : ℕ) (gathered : GatheredLog) → IsComplete threads gathered ↔ IsCompleteLog threads (gathered_log gathered)
 
 -- what a recorded run is cut into are pieces of its log, whose joined log is that log
 abbrev pub CutsArePieces : Type 0

@@ -1,6 +1,6 @@
 //! Laws of the pieces of a log.
 
-ghost use Rattle.run_pieces.specs.Laws.{JoinedLogsAreBelow, CoveringPiecesMakeTheLog, CutsArePieces, RecordedRunsKeepRules};
+ghost use Rattle.run_pieces.specs.Laws.{JoinedLogsAreBelow, CoveringPiecesMakeTheLog, CutsArePieces, RecordedRunsKeepRules, WholeLogsAreComplete};
 
 use rw_objects::{Machine, ObjectSpace};
 
@@ -12,6 +12,12 @@ pub fn joined_logs_are_below()
 /// The joined log of pieces that cover a log is that log.
 pub fn covering_pieces_make_the_log()
     ensures { CoveringPiecesMakeTheLog }
+{}
+
+/// A gathered log is the whole log of a run of so many threads, as its `complete` answers, exactly where it is complete in
+/// the sense of the laws of replay.
+pub fn whole_logs_are_complete()
+    ensures { WholeLogsAreComplete }
 {}
 
 /// What a recorded run is cut into are pieces of its log, whose joined log is that log.

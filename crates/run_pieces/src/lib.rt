@@ -11,6 +11,7 @@ pub use cutting::pieces;
 pub use fault::PiecesFault;
 pub use laws::{
     covering_pieces_make_the_log, cuts_are_pieces, joined_logs_are_below, recorded_runs_keep_rules,
+    whole_logs_are_complete,
 };
 pub use line_room::LineRoom;
 pub use line_writing::write_lines;

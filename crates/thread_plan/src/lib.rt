@@ -9,6 +9,6 @@ mod planned_thread;
 mod thread_line;
 
 pub use fault::PlanFault;
-pub use laws::lines_are_spelled;
+pub use laws::{lines_are_spelled, read_plans_suit};
 pub use plan::Plan;
 pub use planned_thread::PlannedThread;

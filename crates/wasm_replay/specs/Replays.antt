@@ -74,6 +74,10 @@ module _ (m : Module) (plan : PlanValue) (log : GatheredLog) where
   abbrev pub Opens : WasmWorld → Type 0
   Opens w = opening_world_of m plan (key_of log).profile ≡ Some w
 
+  -- there is such a world
+  abbrev pub HasWorld : Type 0
+  HasWorld = (w : WasmWorld) × Opens w
+
   -- the end of the ordered replay from the opening world
   abbrev pub IsOrderedAnswer : List ℕ → RunEnd → Type 0
   IsOrderedAnswer order end = (w : WasmWorld) → Opens w → OrderedEnds shared_memory thread_code (gathered_log log) w order end

@@ -5,7 +5,7 @@ ghost use Rattle.event_core.specs.World.{world_of};
 ghost use Rattle.thread_plan.specs.Plans.{IsPlanOf};
 ghost use Rattle.wasm_instance.specs.Memories.{block_power};
 ghost use Rattle.wasm_world.specs.Opening.{WasmWorld};
-ghost use Rattle.wasm_replay.specs.Replays.{IsOfRun, IsOfNoRun, IsOpenerOf, IsNotOpened, Opens, is_of, opened_world};
+ghost use Rattle.wasm_replay.specs.Replays.{IsOfRun, IsOfNoRun, IsOpenerOf, IsNotOpened, Opens, HasWorld, is_of, opened_world};
 
 use crate::gathered::Gathered;
 use crate::opener::Opener;
@@ -53,8 +53,11 @@ pub fn opener_of<'a>(
     requires { IsPlanOf valid.now plan.now }
     ensures of_run { OnOk result (IsOfRun valid.now plan.now log.now) }
     ensures opener { IfOk result (IsOpenerOf valid.now plan.now log.now) }
+    ensures has_world { HasWorld valid.now plan.now log.now }
     ensures refused { IfErr result (IsOfNoRun valid.now plan.now log.now) }
 {
+    // A fact for the prover: the module is well typed.
+    let _typed = valid.module();
     let key = log.key();
     let profile = key.profile;
     if !is_of(valid, plan, key) {
@@ -82,6 +85,7 @@ pub fn open_replay<'a>(
     ensures of_run { OnOk result (IsOfRun valid.now plan.now log.now) }
     ensures log { IfOk result (λ replay. replay.log.log.now ≡ log.now) }
     ensures opens { IfOk result (λ replay. IsOpenerOf valid.now plan.now log.now replay.opens) }
+    ensures has_world { HasWorld valid.now plan.now log.now }
     ensures world { IfOk result (λ replay. (w : WasmWorld) → Opens valid.now plan.now log.now w → world_of replay.world ≡ w) }
     ensures refused { IfErr result (IsNotOpened valid.now plan.now log.now) }
 {

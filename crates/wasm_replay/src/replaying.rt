@@ -2,7 +2,7 @@
 
 ghost use Rattle.std.specs.Prelude.{◌≡◌, true, OnOk, IfOk, IfErr};
 ghost use Rattle.thread_plan.specs.Plans.{IsPlanOf};
-ghost use Rattle.wasm_replay.specs.Replays.{EndsAsRecorded, IsOrderedAnswer, IsRefusal, IsOfRun};
+ghost use Rattle.wasm_replay.specs.Replays.{EndsAsRecorded, HasWorld, IsOrderedAnswer, IsRefusal, IsOfRun};
 
 use crate::gathered::Gathered;
 use crate::opening::opener_of;
@@ -42,6 +42,8 @@ pub fn replay_gathered(
 ) -> Result<Ended, WasmReplayFault>
     requires { IsPlanOf valid.now plan.now }
     ensures of_run { OnOk result (IsOfRun valid.now plan.now log.now) }
+    // There is a world from which the runs of the log begin; of it speak the clauses below.
+    ensures has_world { HasWorld valid.now plan.now log.now }
     ensures ordered { IfOk result (IsOrderedAnswer valid.now plan.now log.now order.now) }
     ensures recorded { IfOk result (EndsAsRecorded valid.now plan.now log.now) }
     ensures refused { IfErr result (IsRefusal valid.now plan.now log.now order.now) }

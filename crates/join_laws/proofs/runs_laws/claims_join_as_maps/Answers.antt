@@ -1,4 +1,4 @@
-use Rattle.join_laws.proofs.ClaimLaws.{claim_laws, claims_same}
+use Rattle.join_laws.specs.ClaimLaws.{claim_laws, claims_same}
 use Rattle.join_laws.proofs.runs_laws.claims_join_as_maps.Goals as goal
 
 pub returns-clause-laws : goal.returns-clause-laws

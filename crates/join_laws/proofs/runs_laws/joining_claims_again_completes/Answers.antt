@@ -1,4 +1,4 @@
-use Rattle.join_laws.proofs.ClaimLaws.{claims_again}
+use Rattle.join_laws.specs.ClaimLaws.{claims_again}
 use Rattle.join_laws.proofs.runs_laws.joining_claims_again_completes.Goals as goal
 
 pub returns : goal.returns
