@@ -1,4 +1,4 @@
 pub mod Range
-pub mod Counted
 pub mod Texts
 pub mod Writes
+pub mod Counted

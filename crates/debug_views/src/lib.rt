@@ -5,6 +5,7 @@
 mod blocks;
 mod breaks;
 mod fault;
+mod memory_space;
 mod text;
 mod threads;
 mod values;
@@ -12,6 +13,7 @@ mod values;
 pub use blocks::{BlockRange, blocks_of_range};
 pub use breaks::write_break;
 pub use fault::ViewFault;
+pub use memory_space::MemorySpace;
 pub use text::view;
 pub use threads::{ThreadView, thread_view};
-pub use values::{bytes, versions};
+pub use values::{bytes, is_in_view, versions};

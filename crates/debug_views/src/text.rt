@@ -9,6 +9,7 @@ ghost use Rattle.debug_views.specs.Text.{IsShown, IsView, stop_words, note_of, t
 
 use crate::blocks::{BlockRange, blocks_of_range};
 use crate::fault::ViewFault;
+use crate::memory_space::MemorySpace;
 use crate::threads::{ThreadView, thread_view};
 use crate::values::bytes;
 use event_core::World;
@@ -28,7 +29,7 @@ const ROW: usize = 16;
 /// address in eight lower-case hexadecimal digits, and the bytes in two each. The range is that from an address on of so
 /// many bytes; blocks are of this size. Where the replay stopped at a break, it is one of the list. Behind a thread's line
 /// stands the note of its number, if there is one.
-pub fn view<M: Machine<S>, S: ObjectSpace>(
+pub fn view<M: Machine<S>, S: MemorySpace>(
     alloc: Global,
     world: &World<M, S>,
     block: Block,

@@ -4,8 +4,10 @@
 mod entries;
 mod names;
 mod parts;
+mod printable;
 
 pub use names::FunctionNames;
+pub use printable::fits_line;
 
 #[cfg(test)]
 mod tests;

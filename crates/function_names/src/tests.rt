@@ -1,6 +1,6 @@
 //! Name sections that were spelled by hand.
 
-use crate::FunctionNames;
+use crate::{FunctionNames, fits_line};
 use std::alloc::Global;
 use std::test::Fail;
 
@@ -58,4 +58,28 @@ fn functions_have_the_names_before_the_damage(rt: HostRuntime) -> Result<(), Fai
         assert_eq!(rt; text.as_str(), *want);
     }
     Ok(())
+}
+
+/// Names, and whether they stand in one line, in one direction.
+static LINES: &[(&str, bool)] = &[
+    ("", true),
+    ("add", true),
+    ("größer als", true),
+    ("\u{A0}\u{200D}\u{202F}\u{FEFF}", true),
+    ("a\nb", false),
+    ("a\u{7F}", false),
+    ("a\u{85}", false),
+    ("\u{61C}a", false),
+    ("a\u{200E}", false),
+    ("a\u{2028}b", false),
+    ("a\u{2029}b", false),
+    ("a\u{202E}b", false),
+    ("a\u{2067}b", false),
+];
+
+#[test]
+fn names_of_one_line_and_direction_fit(rt: HostRuntime) {
+    for (name, want) in LINES {
+        assert_eq!(rt; fits_line(name), *want, "{name:?}");
+    }
 }

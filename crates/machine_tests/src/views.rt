@@ -6,12 +6,11 @@ ghost use Rattle.debug_views.specs.Text.{IsShown};
 use crate::modules::{Threads, open, valid};
 use debug_views::{bytes, thread_view, versions, view, write_break};
 use event_core::{Input, Pick};
-use integer_machine::memory_limits;
 use replay_breaks::{Break, Every, ObjectRange, Stopped};
 use std::alloc::Global;
 use std::test::Fail;
 use validator::Valid;
-use wasm_types::{Block, Profile};
+use wasm_types::Block;
 
 /// A shared memory of one page, and a function `w` that adds 1 at address 0 twice and answers the second old value: 8
 /// steps, 2 of them events.
@@ -94,12 +93,11 @@ fn bytes_shown(alloc: Global, world: &Threads<'_>, row: &Row) -> usize {
 }
 
 // Lets the threads move, and looks at the view, the bytes, object 1 and thread 1.
-fn seen(alloc: Global, valid: &Valid, world: &mut Threads<'_>, row: &Row) -> Result<String, Fail> {
+fn seen(alloc: Global, world: &mut Threads<'_>, row: &Row) -> Result<String, Fail> {
     go(world, row.moves)?;
     let mut text = text_of_view(alloc, world, row)?;
     let shown = bytes_shown(alloc, world, row);
-    let limits = memory_limits(valid.module(), Profile::One);
-    let count = versions(world, limits, 1);
+    let count = versions(world, 1);
     write!(
         text,
         "{shown} bytes\n{count:?}\n{:?}\n",
@@ -111,7 +109,7 @@ fn seen(alloc: Global, valid: &Valid, world: &mut Threads<'_>, row: &Row) -> Res
 // It alone owns a world, and the next one a module.
 fn seen_over(alloc: Global, valid: &Valid, row: &Row) -> Result<String, Fail> {
     let mut world = open(alloc, valid, "wreplay plan 1\nthread w\nthread w\n")?;
-    seen(alloc, valid, &mut world, row)
+    seen(alloc, &mut world, row)
 }
 
 fn seen_in(alloc: Global, row: &Row) -> Result<String, Fail> {
@@ -183,6 +181,23 @@ static VIEWS: &[Row] = &[
         stopped: Stopped::Finished,
         breaks: &[],
         range: (65_530, 7),
+        want: "OutOfView\n0 bytes\nSome(Count { version: 0, reads: 0 })\nSome(ThreadView { steps: 0, places: 0, outcome: Running })\n",
+    },
+    // A range of no bytes may stand at the memory's end, and may not pass it.
+    Row {
+        module: ONE_PAGE,
+        moves: &[],
+        stopped: Stopped::Finished,
+        breaks: &[],
+        range: (65_536, 0),
+        want: "finished\nthread 0 steps 0 places 0 running\nthread 1 steps 0 places 0 running\n0 bytes\nSome(Count { version: 0, reads: 0 })\nSome(ThreadView { steps: 0, places: 0, outcome: Running })\n",
+    },
+    Row {
+        module: ONE_PAGE,
+        moves: &[],
+        stopped: Stopped::Finished,
+        breaks: &[],
+        range: (65_537, 0),
         want: "OutOfView\n0 bytes\nSome(Count { version: 0, reads: 0 })\nSome(ThreadView { steps: 0, places: 0, outcome: Running })\n",
     },
     // The segment is written before the first step, and the memory has one page.

@@ -15,7 +15,7 @@ ghost use Rattle.block_objects.specs.Access.{is_within, number_at, loaded};
 ghost use Rattle.block_objects.specs.Queues.{after_wait, after_notify, after_resume, after_time_out};
 ghost use Rattle.block_objects.specs.Effects.{i32_reply, wait_reply, notify_reply};
 ghost use Rattle.block_objects.specs.Memory.{IsSound, access_answer, after_access, segment_fits};
-ghost use Rattle.block_objects.specs.SharedMemory.{shared_memory};
+ghost use Rattle.block_objects.specs.SharedMemory.{image_of, shared_memory};
 ghost use Rattle.block_objects.proofs.Laws.{memory_laws};
 ghost use Rattle.waiter_queues.specs.Shared.{queue_at, shared_values, opening_values};
 ghost use Rattle.waiter_queues.specs.Acts.{CanAct, Acts};
@@ -25,7 +25,8 @@ use block_objects::{Blocks, MemoryLimits, ObjectValue, block_number, ends_within
 use rw_objects::{Entry, Few, Kind, Mode, ObjectSpace, Touch, Versions};
 use std::alloc::Global;
 use wasm_types::{
-    Access, Action, Block, Data, Load, MOST_PAGES, NoMemory, Op, Reply, Trap, ValType, Value,
+    Access, Action, Block, Data, Load, MOST_PAGES, NoMemory, Op, PAGE_SIZE, Reply, Trap, ValType,
+    Value,
 };
 
 /// A shared memory as a space of objects: object 0 is its length in pages, object `1 + 2b` is block `b`, and object
@@ -88,6 +89,16 @@ impl SharedSpace {
         ensures { result ≡ self.now.blocks.pages }
     {
         self.blocks.pages()
+    }
+
+    /// The bytes at the present length. It takes no memory.
+    pub fn bytes(&self) -> &[u8]
+        ensures { result.now ≡ image_of self.now.blocks.limits (shared_values self.now.blocks self.now.queues) }
+    {
+        // A fact for the prover: the blocks are sound.
+        let _sound = self.blocks.limits();
+        let end = self.blocks.pages() as usize * PAGE_SIZE as usize;
+        &self.blocks.bytes()[..end]
     }
 
     /// A load that touches one object, of a block: counts it, and makes the load and its entry.

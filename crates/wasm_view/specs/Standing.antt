@@ -1,16 +1,12 @@
 -- Where threads stand, as notes behind their lines: ` at bump+5 from main+3`.
-use Rattle.std.specs.Prelude.{ℕ, zero, suc, ◌+◌, Bool, true, false, List, [], ◌∷◌, ◌++◌, codes, map, nat_le, cond, Option, Some, None}
+use Rattle.std.specs.Prelude.{ℕ, zero, suc, ◌+◌, Bool, true, false, List, [], ◌∷◌, ◌++◌, codes, map, cond, Option, Some, None}
 use Rattle.std.specs.Fmt.{decimal}
-use Rattle.std.specs.List.{list_all}
 use Rattle.event_core.specs.Threads.{ThreadAt}
 use Rattle.function_names.specs.Names.{function_name}
+use Rattle.function_names.specs.Printable.{fits_line}
 use Rattle.integer_machine.specs.declared.standing.CodePlace.{CodePlace}
 use Rattle.integer_machine.specs.Standing.{standing}
 use Rattle.thread_code.specs.ThreadCode.{ThreadAt as CodeThread}
-
--- a name without control characters, which may be put into a line
-abbrev pub fits_line : List ℕ → Bool
-fits_line name = list_all (λ byte. nat_le 32 byte) name
 
 -- the function by its name, or by its number where it has none that may be put into a line
 abbrev pub title : Option (List ℕ) → ℕ → List ℕ

@@ -3,10 +3,10 @@
 ghost use Rattle.std.specs.Prelude.{◌≡◌, ◌++◌, IfOk, OnOk, map, string_bytes};
 ghost use Rattle.event_core.specs.World.{world_of};
 ghost use Rattle.function_names.specs.Kept.{name_of};
-ghost use Rattle.wasm_view.specs.Standing.{fits_line, word_at, frame_text, note_of, notes_of, notes_if};
+ghost use Rattle.wasm_view.specs.Standing.{word_at, frame_text, note_of, notes_of, notes_if};
 
 use event_core::World;
-use function_names::FunctionNames;
+use function_names::{FunctionNames, fits_line};
 use integer_machine::{CodePlace, ThreadState};
 use std::alloc::Global;
 use std::fmt::Write;
@@ -19,17 +19,6 @@ fn word_at(depth: usize) -> &'static str
     ensures { result.now ≡ word_at depth }
 {
     if depth == 0 { " at " } else { " from " }
-}
-
-/// Whether a name has no control character, so that it may be put into a line.
-fn fits_line(name: &str) -> bool
-    ensures { result ≡ fits_line name.now }
-{
-    let mut fits = true;
-    for byte in name.as_bytes() {
-        fits &= *byte >= b' ';
-    }
-    fits
 }
 
 /// Writes where a thread stands in a function.
