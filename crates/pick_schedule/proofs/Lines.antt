@@ -24,7 +24,7 @@ behind_more : (picks more : List Pick) (rest : Result (List Pick) ScheduleFault)
 behind_more picks more (Ok others) = ap (λ (ps : List Pick). Ok ps) (sym (append_assoc picks more others))
 behind_more picks more (Err fault) = refl
 
-lines_are : (text : List ℕ) → 0 < length text → lines_in text ≡ lines text
+pub lines_are : (text : List ℕ) → 0 < length text → lines_in text ≡ lines text
 lines_are [] some = absurd (omega arith)
 lines_are (b ∷ bs) some = refl
 

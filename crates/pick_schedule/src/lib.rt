@@ -2,10 +2,12 @@
 #![tactic(auto)]
 
 mod fault;
+mod laws;
 mod line;
 mod reader;
 
 pub use fault::ScheduleFault;
+pub use laws::{SCHEDULE_BEGINNING, beginnings_say_all};
 pub use reader::schedule;
 
 #[cfg(test)]

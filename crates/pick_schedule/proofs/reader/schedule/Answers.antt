@@ -1,5 +1,5 @@
-use Rattle.std.proofs.Common.{◌≡◌, ◌++◌, ◌<◌, ℕ, List, length, subst, sym, arith}
-use Rattle.std.specs.Prelude.{Some, replicate}
+use Rattle.std.proofs.Common.{◌≡◌, ℕ, List, length, subst, sym, arith}
+use Rattle.std.specs.Prelude.{replicate}
 use Rattle.std.proofs.lemmas.List.{length-replicate}
 use Rattle.event_core.specs.declared.pick.Pick.{Pick}
 use Rattle.text_lines.specs.Parts.{parts_left}
