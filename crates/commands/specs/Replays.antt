@@ -4,7 +4,7 @@ use Rattle.wasm_types.specs.declared.modules.Module.{Module}
 use Rattle.event_core.specs.End.{RunEnd}
 use Rattle.thread_plan.specs.Plans.{PlanValue}
 use Rattle.replica.specs.declared.log.Log.{Log}
-use Rattle.wasm_replay.specs.Replays.{IsOrderedAnswer, EndsAsRecorded, IsRefusal}
+use Rattle.wasm_replay.specs.Replays.{IsOfRun, IsOrderedAnswer, EndsAsRecorded, IsRefusal}
 use Rattle.threaded_replay.specs.Threaded.{IsThreadsRefusal}
 use Rattle.run_report.specs.Report.{report_text}
 use Rattle.commands.specs.Inputs.{IsProgram, IsProgramRefused, IsLogFile, IsLinesRefused}
@@ -17,8 +17,9 @@ pub record IsReplayEnd (m : Module) (plan : PlanValue) (log : Log) (order : List
   pub ordered : IsOrderedAnswer m plan log order end
   pub recorded : EndsAsRecorded m plan log end
 
--- the report of that end
+-- the log can be of a run of the module and plan, and this is the report of that end
 pub record IsReplayReport (m : Module) (plan : PlanValue) (log : Log) (order : List ℕ) (text : List ℕ) : Type 0 where
+  pub of_run : IsOfRun m plan log
   pub end : RunEnd
   pub ends : IsReplayEnd m plan log order end
   pub is : text ≡ report_text end

@@ -8,6 +8,7 @@ use Rattle.replica.specs.Log.{key_of}
 use Rattle.replay_breaks.specs.declared.breaks.Break.{Break}
 use Rattle.replay_breaks.specs.declared.breaks.Break.TheVariants as break
 use Rattle.debug_views.specs.Writes.{IsWriteOfRange}
+use Rattle.wasm_replay.specs.Replays.{IsOfRun}
 use Rattle.wasm_view.specs.Views.{IsViewOfLog, IsNotViewed}
 use Rattle.wasm_view.specs.declared.viewing.WasmViewFault.{WasmViewFault}
 use Rattle.wasm_view.specs.declared.viewing.WasmViewFault.TheVariants as viewing
@@ -36,8 +37,10 @@ abbrev pub AreBreaks : ViewRequest → ℕ → List Break → Type 0
 AreBreaks r power breaks = (writes : List Break) × AreWrites power r.write writes × (breaks ≡ place_break r.place ++ (step_break r.step ++ writes))
 
 module _ (m : Module) (plan : PlanValue) (log : Log) (r : ViewRequest) where
-  -- the view of the log where its replay stops, at one of the breaks or where no thread goes on
+  -- the log can be of a run of the module and plan, and this is the view where its replay stops, at one of the breaks or where
+  -- no thread goes on
   pub record IsViewText (text : List ℕ) : Type 0 where
+    pub of_run : IsOfRun m plan log
     pub breaks : List Break
     pub are_breaks : AreBreaks r (block_power (key_of log).profile) breaks
     pub view : IsViewOfLog m plan log r.replay.order.items breaks r.names r.range.from r.range.len text
