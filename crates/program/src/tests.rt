@@ -25,6 +25,25 @@ const COUNTER: [u8; 55] = [
 /// Two threads of it.
 const PLAN: &str = "wreplay plan 1\nthread w\nthread w\n";
 
+/// A module of one shared page and a function `f0`, which waits at address 0 for 0, at most 1,000 nanoseconds, and a
+/// function `f1`, which wakes one there.
+const LIMITED: [u8; 67] = [
+    0x00, 0x61, 0x73, 0x6D, 0x01, 0x00, 0x00, 0x00, 0x01, 0x05, 0x01, 0x60, 0x00, 0x01, 0x7F, 0x03,
+    0x03, 0x02, 0x00, 0x00, 0x05, 0x04, 0x01, 0x03, 0x01, 0x01, 0x07, 0x0B, 0x02, 0x02, 0x66, 0x30,
+    0x00, 0x00, 0x02, 0x66, 0x31, 0x00, 0x01, 0x0A, 0x1A, 0x02, 0x0D, 0x00, 0x41, 0x00, 0x41, 0x00,
+    0x42, 0xE8, 0x07, 0xFE, 0x01, 0x02, 0x00, 0x0B, 0x0A, 0x00, 0x41, 0x00, 0x41, 0x01, 0xFE, 0x00,
+    0x02, 0x00, 0x0B,
+];
+
+/// A thread that waits, alone.
+const ALONE: &str = "wreplay plan 1\nthread f0\n";
+
+/// All its steps up to the wait, and the one behind it, without a time-out.
+const STEPS: &str = "go 0 5\n";
+
+/// The same, where the wait times out.
+const STEPS_AND_TIME_OUT: &str = "go 0 4\nout 0\ngo 0 1\n";
+
 /// A schedule of all their steps.
 const PICKS: &str = "go 0 3\ngo 1 8\ngo 0 5\n";
 
@@ -35,7 +54,8 @@ const MIXED: &str = "zz\n\
     49525001bbbbbbbbbbbbbbbbbbbbbbbbbbbbbbbbbbbbbbbbbbbbbbbbbbbbbbbbbbbbbbbb01000000000000000300000000000001030000000000000002\n\
     \n";
 
-/// The files `m`, `p`, `s` and `l`: a module, a plan, a schedule and piece lines.
+/// The files `m`, `p`, `s` and `l`: a module, a plan, a schedule and piece lines; `w` and `a`, a module whose thread
+/// waits and a plan of it alone; `g` and `o`, its steps without and with the time-out of its wait.
 #[derive(Drop)]
 struct MemoryFiles<'a> {
     lines: &'a str,
@@ -63,6 +83,10 @@ impl<'a> MemoryFiles<'a> {
             "p" => Ok(PLAN.as_bytes()),
             "s" => Ok(PICKS.as_bytes()),
             "l" => Ok(self.lines.as_bytes()),
+            "w" => Ok(&LIMITED),
+            "a" => Ok(ALONE.as_bytes()),
+            "g" => Ok(STEPS.as_bytes()),
+            "o" => Ok(STEPS_AND_TIME_OUT.as_bytes()),
             _ => Err(FileFault::NotRead),
         }
     }
@@ -324,6 +348,38 @@ fn records_by_threads(rt: HostRuntime) {
         known = known || report.ends_with(end);
     }
     assert!(rt; known);
+}
+
+/// Recordings of a thread that waits for a limited time and is not woken, what ends the report of each, and the files
+/// that it reads. Of threads at once `--timeouts` says whether the time is over; a schedule says that itself.
+const WAITING: &[(&[&str], &str, &str)] = &[
+    (&["--threads"], "waiting", "wa"),
+    (&["--threads", "--timeouts", "never"], "waiting", "wa"),
+    (&["--threads", "--timeouts", "now"], "i32 2", "wa"),
+    (&["--schedule", "g"], "waiting", "wag"),
+    (&["--schedule", "g", "--timeouts", "now"], "waiting", "wag"),
+    (&["--schedule", "o"], "i32 2", "wao"),
+    (&["--schedule", "o", "--timeouts", "never"], "i32 2", "wao"),
+];
+
+#[test]
+fn times_out_as_is_asked(rt: HostRuntime) -> Result<(), Fail> {
+    let rows = WAITING;
+    for (options, outcome, noted) in rows {
+        let mut words = vec![in rt.alloc(); "wreplay", "record", "w", "a", "--report"]?;
+        words.extend_from_slice(*options)?;
+        let case = Case {
+            words: words.as_slice(),
+            lines: "",
+            read_fails_at: None,
+            most: 65536,
+            write_fails_at: None,
+        };
+        let done = run_on(&rt, rt.alloc(), case);
+        let report = format!(in rt.alloc(); "pages 1\nthread 0 {outcome}\n")?;
+        assert!(rt; is_done(&done, 0, report.as_str(), "", *noted), "{report}");
+    }
+    Ok(())
 }
 
 #[test]
