@@ -8,13 +8,15 @@ use debug_views::ViewFault;
 use pick_schedule::ScheduleFault;
 use replica::GatherFault;
 use run_pieces::PiecesFault;
+use thiserror::Error;
 use thread_plan::PlanFault;
 use validator::ValidFault;
 use wasm_replay::WasmReplayFault;
 use wasm_types::NoMemory;
 
 /// Why a command is refused. `text` is the line that the program writes, without its end.
-#[derive(Clone, Copy, Debug, PartialEq, Eq)]
+#[derive(Clone, Copy, Debug, PartialEq, Eq, Error)]
+#[error("{}", self.text())]
 pub enum Fault {
     /// A file was not read.
     File(FileFault),

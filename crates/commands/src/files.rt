@@ -6,13 +6,16 @@ ghost use Rattle.commands.specs.Files.{IsRead, IsFileFault, IsOpened};
 use log::{Log, info};
 use replica::Source;
 use std::alloc::Global;
+use thiserror::Error;
 
 /// Why a file was not read.
-#[derive(Clone, Copy, Debug, PartialEq, Eq)]
+#[derive(Clone, Copy, Debug, PartialEq, Eq, Error)]
 pub enum FileFault {
     /// Refusal 44: it does not stand there, or reading it failed.
+    #[error("the file was not read")]
     NotRead,
     /// Refusal 23: memory for its bytes could not be had.
+    #[error("out of memory")]
     NoMemory,
 }
 

@@ -15,8 +15,6 @@ use pick_schedule::ScheduleFault;
 use replay_gate::ReplayFault;
 use replica::{GatherFault, Skipped};
 use run_pieces::PiecesFault;
-use std::error::Error;
-use std::fmt;
 use thread_plan::PlanFault;
 use validator::ValidFault;
 use wasm_replay::WasmReplayFault;
@@ -222,15 +220,3 @@ impl Fault {
         }
     }
 }
-
-impl fmt::Display for Fault {
-    ghost use Rattle.std.specs.Prelude.{Some};
-
-    ghost output = { λ fault. Some (fault_text fault) };
-
-    fn fmt<W: fmt::Write>(&self, f: &mut fmt::Formatter<W>) -> fmt::Result {
-        write!(f, "{}", self.text())
-    }
-}
-
-impl Error for Fault {}
