@@ -6,11 +6,11 @@ ghost use Rattle.commands.specs.Records.{IsScheduleFile, IsScheduleRefused};
 use crate::fault::Fault;
 use crate::files::{Files, read_file};
 use log::Log;
-use pick_schedule::schedule;
+use pick_schedule::{SCHEDULE_BEGINNING, schedule};
 use schedules::Schedule;
 use std::alloc::Global;
 
-/// The picks of the schedule in a file.
+/// The picks of the schedule in a file. No more is read of it than a schedule can have, and one byte.
 pub(crate) fn read_schedule<L: Log, F: Files>(
     rt: &L,
     alloc: Global,
@@ -20,11 +20,11 @@ pub(crate) fn read_schedule<L: Log, F: Files>(
     ensures found { IfOk result (λ picks. IsScheduleFile (F.holds files.old path.now) picks) }
     ensures refused { IfErr result (λ fault. IsScheduleRefused (F.holds files.old path.now) (F.fails files.old path.now) fault) }
 {
-    let bytes = match read_file(rt, alloc, files, path, None) {
-        Ok(bytes) => bytes,
+    let beginning = match read_file(rt, alloc, files, path, Some(SCHEDULE_BEGINNING)) {
+        Ok(beginning) => beginning,
         Err(fault) => return Err(Fault::File(fault)),
     };
-    match schedule(alloc, &bytes) {
+    match schedule(alloc, &beginning) {
         Ok(picks) => Ok(picks),
         Err(fault) => Err(Fault::Schedule(fault)),
     }
