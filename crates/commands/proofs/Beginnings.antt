@@ -1,6 +1,9 @@
 -- What is decoded from the beginning of a file is what its bytes spell: a module is shorter than the beginning.
-use Rattle.std.proofs.Common.{◌≡◌, ◌≤◌, ℕ, List, length, take, Result, Ok, Err, IfOk, IfErr, arith, sym, ap, ◌∙◌, subst}
+use Rattle.std.proofs.Common.{◌≡◌, ◌<◌, ◌≤◌, inl, inr, ℕ, true, List, length, take, Result, Ok, Err, IfOk, IfErr, arith, sym, ap, ◌∙◌, subst}
+use Rattle.std.proofs.lemmas.Bool.{cases_lt}
 use Rattle.std.proofs.lemmas.List.{length-take, take_all}
+use Rattle.byte_reader.specs.Fault.{Oversized}
+use Rattle.binary_decoder.specs.Reader.{parts_at}
 use Rattle.wasm_types.specs.declared.modules.Module.{Module}
 use Rattle.wasm_types.specs.Limits.{Within}
 use Rattle.byte_reader.specs.declared.fault.DecodeFault.{DecodeFault}
@@ -21,6 +24,20 @@ module _ (beginning bytes : List ℕ) (is : beginning ≡ take 1048577 bytes) wh
   few_stand : length bytes ≤ 1048576 → beginning ≡ bytes
   few_stand few = is ∙ take_all 1048577 bytes (omega (arith, few))
 
+  -- a beginning that is too long is that of a file that is
+  long : 1048576 < length beginning → 1048576 < length bytes
+  long many =
+      let same : length beginning ≡ length (take 1048577 bytes) = ap (λ (l : List ℕ). length l) is in
+      omega (arith, many, same, length-take 1048577 bytes)
+
+  -- so is one that passes a limit
+  too_large : IsFirst beginning TooLarge → IsFirst bytes TooLarge
+  too_large (inl many) = inl (long many)
+  too_large (inr over) = elim (cases_lt 1048576 (length beginning)) [
+    | inl many ↦ inl (long many)
+    | inr few ↦ inr (subst (λ (l : List ℕ). parts_at true l ≡ Err Oversized) (short few) over)
+  ]
+
   pub module_of : (m : Module) → Spells m beginning × Within m → IsModule bytes m
   module_of m h =
       let few : length beginning ≤ 1048576 = subst (λ (l : List ℕ). length l ≤ 1048576) h.0.source h.1.bytes in
@@ -30,10 +47,14 @@ module _ (beginning bytes : List ℕ) (is : beginning ≡ take 1048577 bytes) wh
       → (IsRefused {X = Module} (Err fault) → (m : Module) → Spells m beginning → ⊥)
       → (IsTooLarge {X = Module} (Err fault) → (m : Module) → Spells m beginning → Within m → ⊥)
       → IsDecodeFault bytes fault
-  fault_of (Refused offset) first refused large = λ m s. refused tt m (subst (Spells m) (sym (short first.0)) s)
-  fault_of TooLarge first refused large = λ m h.
-      let few : length bytes ≤ 1048576 = subst (λ (l : List ℕ). length l ≤ 1048576) h.spells.source h.within.bytes in
-      large tt m (subst (Spells m) (sym (few_stand few)) h.spells) h.within
+  fault_of (Refused offset) first refused large =
+      (subst (λ (l : List ℕ). IsFirst l (Refused offset)) (short first.0) first, λ m s. refused tt m (subst (Spells m) (sym (short first.0)) s))
+  fault_of TooLarge first refused large = (
+    too_large first,
+    λ m h.
+        let few : length bytes ≤ 1048576 = subst (λ (l : List ℕ). length l ≤ 1048576) h.spells.source h.within.bytes in
+        large tt m (subst (Spells m) (sym (few_stand few)) h.spells) h.within,
+  )
   fault_of NoMemory first refused large = tt
 
 module _ (beginning : List ℕ) where

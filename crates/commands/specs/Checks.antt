@@ -4,6 +4,7 @@ use Rattle.wasm_types.specs.declared.modules.Module.{Module}
 use Rattle.byte_reader.specs.declared.fault.DecodeFault.{DecodeFault}
 use Rattle.byte_reader.specs.declared.fault.DecodeFault.TheVariants as decoding
 use Rattle.binary_decoder.specs.Grammar.{Spells}
+use Rattle.binary_decoder.specs.First.{IsFirst}
 use Rattle.wasm_types.specs.Limits.{Within}
 use Rattle.binary_decoder.specs.Summary.{summary_text}
 use Rattle.validator.specs.Valid.{WellTyped, Refuses}
@@ -16,10 +17,10 @@ pub record IsModule (bytes : List ℕ) (m : Module) : Type 0 where
   pub spells : Spells m bytes
   pub within : Within m
 
--- why no module is read from the bytes
+-- why no module is read from the bytes, be it the grammar or a limit that they pass first
 abbrev pub IsDecodeFault : List ℕ → DecodeFault → Type 0
-IsDecodeFault bytes (decoding.Refused offset) = (m : Module) → Spells m bytes → ⊥
-IsDecodeFault bytes decoding.TooLarge = (m : Module) → IsModule bytes m → ⊥
+IsDecodeFault bytes (decoding.Refused offset) = IsFirst bytes (decoding.Refused offset) × ((m : Module) → Spells m bytes → ⊥)
+IsDecodeFault bytes decoding.TooLarge = IsFirst bytes decoding.TooLarge × ((m : Module) → IsModule bytes m → ⊥)
 IsDecodeFault bytes decoding.NoMemory = Unit {0}
 
 module _ (holds : List ℕ → Type 0) where
