@@ -2,7 +2,7 @@
 
 use crate::programs::{COUNTER, TWO, plan, valid};
 use crate::runs::gathered;
-use crossbeam_channel::{Receiver, Sender, unbounded};
+use crossbeam_channel::{Receiver, Sender, bounded, unbounded};
 use log_pieces::Piece;
 use pick_schedule::schedule;
 use piece_channel::{SendFault, receive, send};
@@ -94,6 +94,43 @@ fn all_pieces_come_in_another_thread(rt: HostRuntime) -> Result<(), Fail> {
     Ok(())
 }
 
+/// Takes two pieces out of a channel, and drops the receiving end. Answers whether they came.
+fn take_two<R: Wait>(rt: &R, from: Receiver<Piece>) -> [bool; 2] {
+    let first = from.recv(rt).is_ok();
+    let second = from.recv(rt).is_ok();
+    [first, second]
+}
+
+/// Sends a recording to another thread that takes two of its four pieces and leaves. In a channel of no capacity a send ends once its
+/// message was taken.
+fn left_after_two<R: Threads + Wait + Copy + Send + 'static>(
+    rt: R,
+    alloc: Global,
+    recording: &Recording,
+) -> Result<(Result<u64, SendFault>, [bool; 2]), Fail> {
+    let (to, from) = bounded(alloc, 0)?;
+    let reader = thread::spawn(&rt, move || take_two(&rt, from))?;
+    let sent = sent(&rt, alloc, recording, to);
+    Ok((sent, reader.join(&rt)))
+}
+
+/// The same of a recording that is made here.
+fn recorded_left_after_two<R: Threads + Wait + Copy + Send + 'static>(
+    rt: R,
+    alloc: Global,
+) -> Result<(Result<u64, SendFault>, [bool; 2]), Fail> {
+    let recording = recording(alloc, 1)?;
+    left_after_two(rt, alloc, &recording)
+}
+
+/// How many were sent is how many were taken: a fault that says another number is wrong.
+#[test]
+fn pieces_are_sent_until_the_receiver_leaves(rt: HostRuntime) -> Result<(), Fail> {
+    let wanted = (Err(SendFault::NotSent { sent: 2 }), [true, true]);
+    assert_eq!(rt; recorded_left_after_two(rt, rt.alloc())?, wanted);
+    Ok(())
+}
+
 /// Sends a recording in pieces of no entries, of too many, and to nobody.
 fn refusals<R: Wait>(
     rt: &R,
@@ -128,7 +165,8 @@ fn no_piece_is_sent_of_no_size_or_to_nobody(rt: HostRuntime) -> Result<(), Fail>
 /// What three calls receive, and whether the replica then has the log of the first recording.
 type OfTwo = ([Result<u64, ReplicaFault>; 3], bool);
 
-/// Sends the two pieces of one recording and then those of another, and receives them for the first by three calls.
+/// Sends the two pieces of one recording, those of another, and those of the first again, and receives them for the first by three
+/// calls.
 fn received_of_two<R: Wait>(
     rt: &R,
     alloc: Global,
@@ -138,6 +176,7 @@ fn received_of_two<R: Wait>(
     let (to, from) = unbounded(alloc)?;
     let _ = send(rt, alloc, recording, 4096, &to);
     let _ = send(rt, alloc, other, 4096, &to);
+    let _ = send(rt, alloc, recording, 4096, &to);
     drop(to);
     let mut replica = Replica::new(alloc, *recording.key());
     let first = receive(rt, alloc, &mut replica, &from);
@@ -156,13 +195,13 @@ fn recorded_of_two<R: Wait>(rt: &R, alloc: Global) -> Result<OfTwo, Fail> {
     received_of_two(rt, alloc, &first, &other)
 }
 
-/// Each piece of another run ends one call, and is out of the channel.
+/// Each piece of another run ends one call, and is out of the channel: those of the run that come behind it are received.
 #[test]
 fn a_piece_of_another_run_ends_the_receiving(rt: HostRuntime) -> Result<(), Fail> {
     let refused = Err(ReplicaFault::OtherRun);
     assert_eq!(rt;
         recorded_of_two(&rt, rt.alloc())?,
-        ([refused, refused, Ok(0)], true)
+        ([refused, refused, Ok(2)], true)
     );
     Ok(())
 }

@@ -9,8 +9,20 @@ mod counter;
 #[cfg(test)]
 mod counting;
 #[cfg(test)]
+mod ending;
+#[cfg(test)]
+mod meeting;
+#[cfg(test)]
+mod noting;
+#[cfg(test)]
+mod order;
+#[cfg(test)]
 mod programs;
 #[cfg(test)]
+mod readers;
+#[cfg(test)]
 mod runs;
+#[cfg(test)]
+mod timing;
 #[cfg(test)]
 mod waiting;

@@ -41,6 +41,25 @@ pub(crate) const FIVE: &str = "\
 pub(crate) const ALL_FIVE: &str =
     "wreplay plan 1\nthread f0\nthread f1\nthread f2\nthread f3\nthread f4\n";
 
+/// A function `r` that loads what stands at address 0.
+pub(crate) const READER: &str = "\
+    0061736d010000000105016000017f03020100050401030101070501017200000a0a01080041\
+    00fe1002000b";
+
+/// Two threads of it.
+pub(crate) const TWO_READERS: &str = "wreplay plan 1\nthread r\nthread r\n";
+
+/// `a` waits at address 0 without a limit of time, and then at 8, at most 1 nanosecond; `b` wakes one at address 0 until one was
+/// woken; `c` ends at once.
+pub(crate) const LEAVING: &str = "\
+    0061736d010000000108026000017f60000003040300010105040103010107\
+    0d03016100000162000101630002\
+    0a2d03170041004100427ffe0102001a410841004201fe0102000b\
+    1000034041004101fe000200450d000b0b02000b";
+
+/// A thread of each.
+pub(crate) const THREE: &str = "wreplay plan 1\nthread a\nthread b\nthread c\n";
+
 /// The valid module of these digits.
 pub(crate) fn valid(alloc: Global, module: &str) -> Result<Valid, Fail> {
     let bytes = hex::decode(alloc, module)?;

@@ -38,15 +38,44 @@ pub(crate) fn gathered(alloc: Global, recording: &Recording, most: u32) -> Resul
     Ok(replica)
 }
 
+/// How many events of a thread a log has, by its end.
+fn events_of(log: &Log, thread: u32) -> u32 {
+    match log.end(thread) {
+        Some(Flat::Known(end)) => end.places,
+        _ => 0,
+    }
+}
+
 /// How many events a log has, by its ends.
 fn events(log: &Log) -> u64 {
     let mut events = 0u64;
     for thread in 0..16 {
-        if let Some(Flat::Known(end)) = log.end(thread) {
-            events = events.wrapping_add(u64::from(end.places));
-        }
+        events = events.wrapping_add(u64::from(events_of(log, thread)));
     }
     events
+}
+
+/// Whether the calls of a thread at so many places were entered once each.
+fn are_entered(hold: &Counting, thread: u32, places: u32) -> bool {
+    for place in 0..places {
+        if hold.entered_at(thread, place) != 1 {
+            return false;
+        }
+    }
+    true
+}
+
+/// Checks that each event of a log was entered once, by its thread and at its place, and nothing else, and that two threads were at it
+/// at once.
+fn check(abort: &impl Abort, hold: &Counting, log: &Log) {
+    assert!(abort; hold.has_met(), "the threads took turns");
+    assert_eq!(abort; hold.entered(), events(log));
+    for thread in 0..16 {
+        assert!(abort;
+            are_entered(hold, thread, events_of(log, thread)),
+            "the calls of thread {thread} are not those of the log"
+        );
+    }
 }
 
 /// Records a run by threads, and checks that all its events were made by them, at once, and none once they had ended.
@@ -64,8 +93,7 @@ pub(crate) fn recorded<T: Timer + Sync, R: Threads + Wait + Sync>(
     let block = Block::least();
     let recording = record_threads(rt, alloc, valid, plan, 0, block, 1_000_000, timer, &hold)?;
     let replica = gathered(alloc, &recording, 1)?;
-    assert_eq!(abort; hold.entered(), events(replica.log()));
-    assert!(abort; hold.has_met(), "the threads took turns");
+    check(abort, &hold, replica.log());
     Ok(recording)
 }
 
@@ -96,8 +124,7 @@ fn replay_at_once<R: Threads + Wait + Sync>(
 {
     let hold = Counting::new();
     let ended = replay_threads(rt, alloc, valid, plan, log, &hold)?;
-    assert_eq!(abort; hold.entered(), events(log));
-    assert!(abort; hold.has_met(), "the threads took turns");
+    check(abort, &hold, log);
     same_report(abort, alloc, &ended, recorded)
 }
 
@@ -119,7 +146,23 @@ fn replay_both<R: Threads + Wait + Sync>(
     same_report(abort, alloc, &threaded, recorded)
 }
 
-/// Replays the log of a recording 20 times in an order and 20 times by threads, and once where all threads meet.
+/// Replays the log of a recording once in an order and once by threads.
+pub(crate) fn replay_once<R: Threads + Wait + Sync>(
+    rt: &R,
+    abort: &impl Abort,
+    alloc: Global,
+    valid: &Valid,
+    plan: &Plan,
+    recording: &Recording,
+) -> Result<(), Fail>
+    requires { IsPlanOf valid.now plan.now }
+{
+    let replica = gathered(alloc, recording, 4096)?;
+    let recorded = recording.recorded().end();
+    replay_both(rt, abort, alloc, valid, plan, replica.log(), recorded)
+}
+
+/// Replays the log of a recording 20 times in an order and 20 times by threads, and once where two threads meet.
 pub(crate) fn replays<R: Threads + Wait + Sync>(
     rt: &R,
     abort: &impl Abort,
