@@ -1,5 +1,5 @@
 -- Where the replay of a gathered log stops, of the log and the opening world that it was handed.
-use Rattle.std.proofs.Common.{◌≡◌, ℕ, ◌+◌, ◌<◌, Bool, List, length, refl, ap, ◌∙◌, subst}
+use Rattle.std.proofs.Common.{◌≡◌, ℕ, ◌+◌, ◌<◌, ◌≤◌, Bool, List, length, refl, ap, ◌∙◌, subst}
 use Rattle.std.proofs.lemmas.Option.{slice_get_within}
 use Rattle.block_objects.specs.SharedMemory.{shared_memory}
 use Rattle.thread_code.specs.ThreadCode.{thread_code}
@@ -52,20 +52,19 @@ module _ (m : Module) (plan : PlanValue) (log handed : GatheredLog) (order : Lis
       (subst (λ (l : GatheredLog). ShowsRecorded shared_memory thread_code (gathered_log l) (opened_world o.valid.now o.plan.now o.profile) shown_at) same_log h))
 
   -- the view of the world at which it stopped
-  pub view_of : (names : Bool) (notes : List (List ℕ)) (shown_at : WasmWorld) (s : Stopped) (power from len : ℕ) (text : List ℕ) → StopsAt shared_memory thread_code (gathered_log handed) opened order breaks v s → handed ≡ log → ((w : WasmWorld) → Opens m plan log w → opened ≡ w)
-      → shown_at ≡ v → power ≡ block_power (key_of log).profile → notes ≡ notes_if names m.source shown_at.threads → IsView shared_memory thread_code shown_at power s breaks notes from len text
+  pub view_of : (names : Bool) (shown_at : WasmWorld) (s : Stopped) (power from len : ℕ) (text : List ℕ) → StopsAt shared_memory thread_code (gathered_log handed) opened order breaks v s → handed ≡ log → ((w : WasmWorld) → Opens m plan log w → opened ≡ w)
+      → shown_at ≡ v → power ≡ block_power (key_of log).profile → IsView shared_memory thread_code shown_at power s breaks (notes_if names m.source shown_at.threads) from len text
       → ((w : WasmWorld) → Opens m plan log w → ShowsRecorded shared_memory thread_code (gathered_log log) w v) → IsViewOfLog m plan log order breaks names from len text
-  view_of names notes shown_at s power from len text h same_log same_world same_end same_power same_notes view recorded = record {
+  view_of names shown_at s power from len text h same_log same_world same_end same_power view recorded = record {
     world = v;
     stopped = s;
     stops = stops_of s h same_log same_world;
     view = subst (λ (x : WasmWorld). IsView shared_memory thread_code x (block_power (key_of log).profile) s breaks (notes_if names m.source x.threads) from len text) same_end
-        (subst (λ (n : List (List ℕ)). IsView shared_memory thread_code shown_at (block_power (key_of log).profile) s breaks n from len text) same_notes
-        (subst (λ (p : ℕ). IsView shared_memory thread_code shown_at p s breaks notes from len text) same_power view));
+        (subst (λ (p : ℕ). IsView shared_memory thread_code shown_at p s breaks (notes_if names m.source shown_at.threads) from len text) same_power view);
     recorded = recorded;
   }
 
-  -- the range passes that world's memory, or there was no memory for the view
+  -- the range passes that world's memory, or it does not and there was no memory for the view
   pub fault_of : (shown_at : WasmWorld) (s : Stopped) (from len : ℕ) (f : ViewFault) → StopsAt shared_memory thread_code (gathered_log handed) opened order breaks v s → handed ≡ log → ((w : WasmWorld) → Opens m plan log w → opened ≡ w)
       → shown_at ≡ v → IsOfRun m plan log → IsFault (memory_bytes shared_memory shown_at) from len f → IsNotViewed m plan log order breaks from len (View f)
   fault_of shown_at s from len showing.OutOfView h same_log same_world same_end of_run past = (
@@ -77,4 +76,12 @@ module _ (m : Module) (plan : PlanValue) (log handed : GatheredLog) (order : Lis
       past = subst (λ (x : WasmWorld). length (memory_bytes shared_memory x) < from + len) same_end past;
     },
   )
-  fault_of shown_at s from len showing.NoMemory h same_log same_world same_end of_run past = of_run
+  fault_of shown_at s from len showing.NoMemory h same_log same_world same_end of_run within = (
+    of_run,
+    record {
+      world = v;
+      stopped = s;
+      stops = stops_of s h same_log same_world;
+      within = subst (λ (x : WasmWorld). from + len ≤ length (memory_bytes shared_memory x)) same_end within;
+    },
+  )

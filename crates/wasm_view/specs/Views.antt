@@ -1,5 +1,5 @@
 -- Views of gathered logs: where the replay from the opening world of a module and a plan stops, and what is shown there.
-use Rattle.std.specs.Prelude.{◌≡◌, ◌⊎◌, ℕ, ◌+◌, ◌<◌, Bool, List, length}
+use Rattle.std.specs.Prelude.{◌≡◌, ◌⊎◌, ℕ, ◌+◌, ◌<◌, ◌≤◌, Bool, List, length}
 use Rattle.wasm_types.specs.declared.modules.Module.{Module}
 use Rattle.block_objects.specs.SharedMemory.{shared_memory}
 use Rattle.thread_plan.specs.Plans.{PlanValue}
@@ -45,6 +45,13 @@ module _ (m : Module) (plan : PlanValue) (log : GatheredLog) (order : List ℕ) 
     pub stops : Stops world stopped
     pub past : length (memory_bytes shared_memory world) < from + len
 
+  -- the replay stops at a world whose memory has the range
+  pub record IsInView (from len : ℕ) : Type 0 where
+    pub world : WasmWorld
+    pub stopped : Stopped
+    pub stops : Stops world stopped
+    pub within : from + len ≤ length (memory_bytes shared_memory world)
+
   -- the replay stops for this fault, or there is no memory for its opening world
   pub record IsFaultOfReplay (f : ReplayFault) : Type 0 where
     pub of_run : IsOfRun m plan log
@@ -55,8 +62,8 @@ module _ (m : Module) (plan : PlanValue) (log : GatheredLog) (order : List ℕ) 
   IsNotReplayed refusal.OldProfile = IsOfNoRun m plan log refusal.OldProfile
   IsNotReplayed (refusal.Replay f) = IsFaultOfReplay f
 
-  -- when each fault is answered
+  -- when each fault is answered: for want of memory alone a view is refused whose range the memory has
   abbrev pub IsNotViewed : ℕ → ℕ → WasmViewFault → Type 0
   IsNotViewed from len (Replay f) = IsNotReplayed f
   IsNotViewed from len (View showing.OutOfView) = IsOfRun m plan log × IsOutOfView from len
-  IsNotViewed from len (View showing.NoMemory) = IsOfRun m plan log
+  IsNotViewed from len (View showing.NoMemory) = IsOfRun m plan log × IsInView from len
