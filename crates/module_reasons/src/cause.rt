@@ -7,6 +7,9 @@ use crate::words::{write_number, write_numbers};
 use quoted_bytes::Quoted;
 use std::fmt;
 
+/// The most bytes of a module.
+pub(crate) const MOST_BYTES: usize = 1_048_576;
+
 /// Why bytes are not decoded.
 #[derive(Clone, Copy)]
 pub enum Cause<'a> {
@@ -126,8 +129,8 @@ pub enum CodeFault {
 /// A limit that is passed.
 #[derive(Clone, Copy)]
 pub enum Limit {
-    /// The file has so many bytes.
-    Bytes(usize),
+    /// The file has more bytes than a module may have. How many more is left open, since its beginning tells enough.
+    Bytes,
     /// A memory has so many pages at first.
     Pages(u32),
     /// A table has so many elements at first.
@@ -360,10 +363,10 @@ impl fmt::Display for CodeFault {
 impl fmt::Display for Limit {
     fn fmt<W: fmt::Write>(&self, f: &mut fmt::Formatter<W>) -> fmt::Result {
         let (before, number, behind) = match *self {
-            Limit::Bytes(bytes) => (
-                "the file has ",
-                bytes as u64,
-                " bytes, and may have 1048576",
+            Limit::Bytes => (
+                "the file has more than ",
+                MOST_BYTES as u64,
+                " bytes, the most that a module may have",
             ),
             Limit::Pages(pages) => (
                 "the memory begins with ",

@@ -6,15 +6,12 @@ ghost use Rattle.module_reasons.specs.declared.cause.Limit.TheVariants.{Bytes};
 ghost use Rattle.module_reasons.specs.declared.decoding.LimitReason.TheVariants.{Known};
 ghost use Rattle.module_reasons.specs.Headers.{begins_as_module, IsOfHeader};
 
-use crate::cause::{Cause, Limit};
+use crate::cause::{Cause, Limit, MOST_BYTES};
 use crate::header::{begins_as_module, header_fault};
 use crate::place::Place;
 use crate::reader::Stop;
 use crate::sections::pass_over;
 use std::fmt;
-
-/// The most bytes of a module.
-const MOST_BYTES: usize = 1_048_576;
 
 /// Why bytes spell no module: the offset from which on they spell nothing of the format, what stands there, and why it is
 /// refused.
@@ -82,15 +79,16 @@ impl fmt::Display for LimitReason {
     }
 }
 
-/// Which limit bytes pass that `binary_decoder::decode` answers to be too large, in words. It takes no memory.
+/// Which limit bytes pass that `binary_decoder::decode` answers to be too large, in words. They may be the beginning of a longer
+/// file, if it has more bytes than a module may have. It takes no memory.
 pub fn limit_reason(bytes: &[u8]) -> LimitReason
     // The size of the file goes before all else.
-    ensures file { 1048576 < length bytes.now → result ≡ Known End (Bytes (length bytes.now)) }
+    ensures file { 1048576 < length bytes.now → result ≡ Known End Bytes }
 {
     if bytes.len() > MOST_BYTES {
         return LimitReason::Known {
             place: Place::End,
-            limit: Limit::Bytes(bytes.len()),
+            limit: Limit::Bytes,
         };
     }
     match pass_over(bytes, bytes.len()) {

@@ -31,7 +31,7 @@ fn a_file_that_is_too_large_is_named(rt: HostRuntime) -> Result<(), Fail> {
     let text = format!(in rt.alloc(); "{}", limit_reason(bytes.as_slice()))?;
     assert_eq!(rt;
         text.as_str(),
-        "the file has 1048577 bytes, and may have 1048576"
+        "the file has more than 1048576 bytes, the most that a module may have"
     );
     Ok(())
 }
