@@ -8,7 +8,7 @@ ghost use Rattle.line_reasons.specs.declared.lines.Spaces.TheVariants as spaces;
 use text_lines::{Parts, without_end};
 
 /// The line of that number, from 1 on; None where the text has fewer lines.
-pub(crate) fn line_at(text: &[u8], number: u64) -> Option<&[u8]>
+pub fn line_at(text: &[u8], number: u64) -> Option<&[u8]>
     ensures { option_copied result ≡ line_of text.now number }
 {
     let mut lines = Parts::new(without_end(text), b'\n');

@@ -1,5 +1,6 @@
 -- What the reason of a refused replay says for certain. Its other words are open.
 use Rattle.std.specs.Prelude.{◌≡◌, ◌++◌, ℕ, List, Option, Some, None, cond, nat_lt, codes}
+use Rattle.replay_reasons.specs.Differences.{differences}
 use Rattle.sha2.specs.Sha256.{sha256}
 use Rattle.wasm_types.specs.declared.modules.Module.{Module}
 use Rattle.wasm_types.specs.declared.key.RunKey.{RunKey}
@@ -22,14 +23,20 @@ use Rattle.wasm_replay.specs.declared.replaying.WasmReplayFault.TheVariants as r
 abbrev pub own_key : Module → PlanValue → RunKey → RunKey
 own_key m plan key = record { digest = sha256 (m.source ++ plan.bytes); run = key.run; profile = key.profile }
 
--- first the key of the log, then that of the module and the plan
+-- first the key of the log, then that of the module and the plan, then what differs
 abbrev pub other_run : Module → PlanValue → RunKey → List ℕ
-other_run m plan key = codes "the pieces are of run " ++ (key_text key ++ (codes ", of another module or plan: that run of these has " ++ key_text (own_key m plan key)))
+other_run m plan key =
+    let own = own_key m plan key in
+    codes "the pieces are of run " ++ (key_text key ++ (codes ", of another module or plan: that run of these has " ++ (key_text own ++ differences key own)))
 
 -- what pieces claim differently, by the end of the thread
 abbrev pub clash : Option (Flat End) → List ℕ
 clash (Some Clash) = codes "pieces claim different ends of this thread"
 clash _ = codes "pieces claim different entries of this thread at this place"
+
+-- what pieces claim differently, and how that comes about most often
+abbrev pub mixed : Option (Flat End) → List ℕ
+mixed end = clash end ++ codes "; most often pieces of two recordings with one run number were put together (give each its own by --run)"
 
 -- what no piece claims, by the end of the thread
 abbrev pub missing : Option (Flat End) → List ℕ
@@ -51,7 +58,7 @@ BeginsWith first text = (rest : List ℕ) × (text ≡ first ++ rest)
 
 -- the reason of a fault of a replay
 abbrev pub IsGateReason : Log → ReplayFault → List ℕ → Type 0
-IsGateReason log (replaying.Clash thread place) text = text ≡ clash (end_at log thread)
+IsGateReason log (replaying.Clash thread place) text = text ≡ mixed (end_at log thread)
 IsGateReason log (replaying.Missing thread place) text = text ≡ missing (end_at log thread)
 IsGateReason log (replaying.Diverged thread place) text = BeginsWith (claim (end_at log thread) (entry_at log thread place) place) text
 IsGateReason log replaying.Shut text = BeginsWith (codes "no thread can go on") text

@@ -3,8 +3,9 @@
 ghost use Rattle.std.specs.Prelude.{◌≡◌, IfOk, codes, string_bytes};
 ghost use Rattle.replica.specs.Log.{key_of, entry_at, end_at};
 ghost use Rattle.thread_plan.specs.Plans.{IsPlanOf};
-ghost use Rattle.replay_reasons.specs.Reasons.{IsReason, IsGateReason, BeginsWith, claim, clash, known_claim, missing, other_run};
+ghost use Rattle.replay_reasons.specs.Reasons.{IsReason, IsGateReason, BeginsWith, claim, clash, known_claim, missing, mixed, other_run};
 
+use crate::differences::differences;
 use crate::doing::doing;
 use crate::settling::settled;
 use crate::waiting::waiting;
@@ -35,15 +36,16 @@ fn text_of(alloc: Global, words: &str) -> Result<String, NoMemory>
     Ok(text)
 }
 
-/// Whose pieces these are, and whose they should be.
+/// Whose pieces these are, whose they should be, and which parts of the keys differ.
 fn other_run(alloc: Global, valid: &Valid, plan: &Plan, log: &Log) -> Result<String, NoMemory>
     ensures { IfOk result (λ text. string_bytes text ≡ other_run valid.now plan.now (key_of log.now)) }
 {
     let key = log.key();
     let source = valid.module().source.as_slice();
     let own = RunKey::of(source, plan.bytes(), key.run, key.profile);
+    let differences = differences(alloc, key, &own)?;
     Ok(format!(in alloc;
-        "the pieces are of run {key}, of another module or plan: that run of these has {own}"
+        "the pieces are of run {key}, of another module or plan: that run of these has {own}{differences}"
     )?)
 }
 
@@ -55,6 +57,16 @@ fn clash(log: &Log, thread: u32) -> &'static str
         Some(Flat::Clash) => "pieces claim different ends of this thread",
         _ => "pieces claim different entries of this thread at this place",
     }
+}
+
+/// What pieces claim differently, and how that comes about most often.
+fn mixed(alloc: Global, log: &Log, thread: u32) -> Result<String, NoMemory>
+    ensures { IfOk result (λ text. string_bytes text ≡ mixed (end_at log.now thread)) }
+{
+    let claims = clash(log, thread);
+    Ok(format!(in alloc;
+        "{claims}; most often pieces of two recordings with one run number were put together (give each its own by --run)"
+    )?)
 }
 
 /// What no piece claims.
@@ -135,7 +147,7 @@ fn gate_reason(
     ensures { IfOk result (λ text. IsGateReason log.now fault (string_bytes text)) }
 {
     match fault {
-        ReplayFault::Clash { thread, .. } => text_of(alloc, clash(log, thread)),
+        ReplayFault::Clash { thread, .. } => mixed(alloc, log, thread),
         ReplayFault::Missing { thread, .. } => text_of(alloc, missing(log, thread)),
         ReplayFault::Diverged { thread, place } => diverged(alloc, valid, plan, log, thread, place),
         ReplayFault::Shut => stuck(alloc, valid, plan, log),
@@ -145,8 +157,8 @@ fn gate_reason(
 }
 
 /// Why the log of a module and a plan is refused by a replay with this fault, in words, without a line end: the keys of both
-/// runs, what pieces claim differently or don't claim, or first what the log has where a thread diverges. Where the fault is
-/// that threads diverge or wait, the replay is made again, as far as the log lets it.
+/// runs and what differs in them, what pieces claim differently or don't claim, or first what the log has where a thread diverges.
+/// Where the fault is that threads diverge or wait, the replay is made again, as far as the log lets it.
 pub fn replay_reason(
     alloc: Global,
     valid: &Valid,
