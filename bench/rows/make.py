@@ -314,6 +314,16 @@ line_refused('odd', FIRST_WRITE + FIRST_WRITE[1:], '43 BadLine 2')
 line_refused('upper', FIRST_WRITE.replace('aa', 'AA', 1), '43 BadLine 1')
 line_refused('ended', FIRST_WRITE.rstrip() + '\r\n', '43 BadLine 1')
 line_refused('short', FIRST_WRITE[:40] + '\n', '43 BadLine 1')
+# compressed pieces, each as the tool's format has it: gzip and zstd with the bytes as they are, of xz the beginning alone
+import zlib
+PLAIN = FIRST_WRITE.encode()
+line_refused('gzip', bytes.fromhex('1f8b08000000000000ff01') + struct.pack('<HH', len(PLAIN), 65535 - len(PLAIN)) + PLAIN + struct.pack('<II', zlib.crc32(PLAIN), len(PLAIN)), '43 BadLine 1')
+line_refused('zstd', bytes.fromhex('28b52ffd20') + bytes([len(PLAIN)]) + (len(PLAIN) << 3 | 1).to_bytes(3, 'little') + PLAIN, '43 BadLine 1')
+line_refused('xz', bytes.fromhex('fd377a585a000004e6d6b446'), '43 BadLine 1')
+line_refused('behind', PLAIN + bytes.fromhex('1f8b08000000000000ff'), '43 BadLine 2')
+refused('replay counter.wasm counter.plan gzip.pieces', '43 BadLine 1')
+# what only begins as the mark of a format does
+line_refused('mark', b'(\n', '43 BadLine 1')
 line_refused('foreign', TWO_WRITES % 1 + TWO_WRITES % 2, '41 OtherRun 2')
 
 # the hunt: its commands, and what they write, are kept with it; its pages show them

@@ -1,18 +1,39 @@
 //! A walk over a line that is no piece line, to the first reason. It takes no memory.
 
-ghost use Rattle.std.specs.Prelude.{◌≡◌, ◌<◌, ◌+◌, ◌∷◌, [], ◌++◌, List, ℕ, true, not, length, slice_index, IfSome};
+ghost use Rattle.std.specs.Prelude.{◌≡◌, ◌<◌, ◌+◌, ◌∷◌, [], ◌++◌, List, ℕ, true, not, length, slice_index, Some, IfSome};
 ghost use Rattle.std.specs.List.{list_all, position};
 ghost use Rattle.log_pieces.specs.Line.{is_lower_digit};
 ghost use Rattle.line_faults.specs.Reasons.{is_upper_digit, OtherAt, IsOdd};
+ghost use Rattle.line_faults.specs.Packings.{packing_of};
+ghost use Rattle.line_faults.specs.declared.packing.Packing.{Packing};
 ghost use Rattle.line_faults.specs.declared.reasons.LineFault.TheVariants as faults;
 
+use crate::packing::packing_of;
 use crate::reasons::{BytesFault, LineFault};
 use crate::walk::walk;
 use log_pieces::LONGEST_LINE;
 
-/// The first reason that a line, its bytes up to and with its `0A`, is no piece line. It is for a line that `read_line`
-/// refused; of another it says `Spelling`.
+/// The first reason that a line, its bytes up to and with its `0A`, is no piece line; before all else, that it begins as a
+/// compressed file does. It is for a line that `read_line` refused; of another it says `Spelling`.
 pub fn line_fault(line: &[u8]) -> LineFault
+    ensures compressed { (by : Packing) → result ≡ faults.Compressed by → packing_of line.now ≡ Some by }
+    ensures all_compressed { (by : Packing) → packing_of line.now ≡ Some by → result ≡ faults.Compressed by }
+    ensures too_long { result ≡ faults.TooLong → LONGEST_LINE < length line.now }
+    ensures empty { result ≡ faults.Empty → line.now ≡ 10 ∷ [] }
+    ensures carriage_return { result ≡ faults.CarriageReturn → (digits : List ℕ) × (line.now ≡ digits ++ 10 ∷ []) × OtherAt digits (length digits) 13 }
+    ensures upper_case { (column : ℕ) → result ≡ faults.UpperCase column → (digits : List ℕ) × (line.now ≡ digits ++ 10 ∷ []) × (byte : ℕ) × OtherAt digits column byte × (is_upper_digit byte ≡ true) }
+    ensures not_a_digit { (column byte : ℕ) → result ≡ faults.NotADigit column byte → (digits : List ℕ) × (line.now ≡ digits ++ 10 ∷ []) × OtherAt digits column byte }
+    ensures odd_digits { (count : ℕ) → result ≡ faults.OddDigits count → (digits : List ℕ) × (line.now ≡ digits ++ 10 ∷ []) × IsOdd digits count }
+{
+    match packing_of(line) {
+        Some(packing) => LineFault::Compressed(packing),
+        None => text_fault(line),
+    }
+}
+
+// The first reason in a line that does not begin as a compressed file does.
+fn text_fault(line: &[u8]) -> LineFault
+    ensures compressed { (by : Packing) → result ≡ faults.Compressed by → ⊥ }
     ensures too_long { result ≡ faults.TooLong → LONGEST_LINE < length line.now }
     ensures empty { result ≡ faults.Empty → line.now ≡ 10 ∷ [] }
     ensures carriage_return { result ≡ faults.CarriageReturn → (digits : List ℕ) × (line.now ≡ digits ++ 10 ∷ []) × OtherAt digits (length digits) 13 }
@@ -41,6 +62,7 @@ fn digits_of(line: &[u8]) -> Option<&[u8]>
 
 // The reason in digits, behind which the line end stands.
 fn digits_fault(digits: &[u8]) -> LineFault
+    ensures compressed { (by : Packing) → result ≡ faults.Compressed by → ⊥ }
     ensures too_long { result ≡ faults.TooLong → ⊥ }
     ensures empty { result ≡ faults.Empty → digits.now ≡ [] }
     ensures carriage_return { result ≡ faults.CarriageReturn → OtherAt digits.now (length digits.now) 13 }
@@ -77,6 +99,7 @@ fn is_lower_digit(byte: u8) -> bool
 // The reason of a byte that is no lower-case digit.
 fn byte_fault(digits: &[u8], place: usize) -> LineFault
     requires { OtherAt digits.now (place + 1) (slice_index digits.now place) }
+    ensures compressed { (by : Packing) → result ≡ faults.Compressed by → ⊥ }
     ensures too_long { result ≡ faults.TooLong → ⊥ }
     ensures empty { result ≡ faults.Empty → ⊥ }
     ensures odd_digits { (count : ℕ) → result ≡ faults.OddDigits count → ⊥ }

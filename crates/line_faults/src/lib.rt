@@ -2,8 +2,10 @@
 #![tactic(auto)]
 
 mod diagnosis;
+mod packing;
 mod reasons;
 mod walk;
 
 pub use diagnosis::line_fault;
+pub use packing::Packing;
 pub use reasons::{BytesFault, EntryFault, LineFault};

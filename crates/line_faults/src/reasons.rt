@@ -1,5 +1,6 @@
 //! Why a line is no piece line.
 
+use crate::packing::Packing;
 use log_pieces::PieceFault;
 use std::error::Error;
 use std::fmt;
@@ -8,6 +9,8 @@ use std::fmt;
 /// are counted from 1.
 #[derive(Clone, Copy, Debug, PartialEq, Eq)]
 pub enum LineFault {
+    /// It begins as a file does that this program compressed.
+    Compressed(Packing),
     /// It has more bytes than the longest piece line.
     TooLong,
     /// It lacks its `0A`.
@@ -135,6 +138,9 @@ fn write_byte<W: fmt::Write>(f: &mut fmt::Formatter<W>, column: usize, byte: u8)
 impl fmt::Display for LineFault {
     fn fmt<W: fmt::Write>(&self, f: &mut fmt::Formatter<W>) -> fmt::Result {
         match self {
+            LineFault::Compressed(packing) => {
+                write!(f, "it is compressed by {packing}; unpack it first")
+            }
             LineFault::TooLong => f.write_str("it is longer than any piece line"),
             LineFault::NoEnd => f.write_str("it lacks its line end"),
             LineFault::Empty => f.write_str("it is empty"),

@@ -1,5 +1,5 @@
 use Rattle.std.proofs.Common.{◌≡◌, ◌∷◌, [], ◌++◌, List, ℕ, ap, ◌∙◌}
-use Rattle.line_faults.proofs.diagnosis.line_fault.Goals as goal
+use Rattle.line_faults.proofs.diagnosis.text_fault.Goals as goal
 
 pub returns-in-Some-clause-empty : goal.returns-in-Some-clause-empty
 returns-in-Some-clause-empty c is = c.in-Some.ensures ∙ ap (λ (digits : List ℕ). digits ++ 10 ∷ []) (c.digits_fault.ensures.empty is)
