@@ -4,6 +4,9 @@ PREFIX ?= /usr/local
 JOBS ?= $(shell nproc)
 PROGRAM = crates/wreplay/out/wreplay
 BENCH = crates/wreplay_bench/out/wreplay_bench
+# The crates of tests whose threads do not run at once, so that each run asks for memory as the one before.
+TESTS = function_names log_divergence log_tests machine_tests module_tests parts_tests pick_schedule reason_tests replay_tests \
+	standard_streams
 
 .PHONY: build try test pages bench growths wrong-bodies install clean
 
@@ -39,10 +42,13 @@ bench: $(PROGRAM) $(BENCH)
 	python3 bench/recordings.py $(PROGRAM)
 	python3 bench/threads.py $(PROGRAM)
 
-# Refuses each growth of the programs in turn, on recordings, replays and listings of the worked rows, and on a thread alone.
+# Refuses each growth in turn: of the programs, on recordings, replays and listings of the worked rows and on a thread alone; and of
+# the tests, once they are proved and built.
 growths: $(PROGRAM) $(BENCH)
 	python3 bench/growths.py $(PROGRAM)
 	python3 bench/growths.py $(BENCH)
+	for it in $(TESTS) shared_tests; do (cd crates/$$it && rt test) || exit 1; done
+	python3 bench/test_growths.py $(TESTS:%=crates/%) crates/shared_tests:growths
 
 # The wrong bodies that the gate leaves out: the prover must refuse each. It takes hours.
 wrong-bodies:

@@ -159,4 +159,5 @@ def main():
                 refuse_each(path, library, data, line, words, source)
 
 
-main()
+if __name__ == "__main__":
+    main()

@@ -11,6 +11,8 @@ mod objects;
 #[cfg(test)]
 mod pieces;
 #[cfg(test)]
+mod refused;
+#[cfg(test)]
 mod replicas;
 #[cfg(test)]
 mod skipping;

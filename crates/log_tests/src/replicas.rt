@@ -4,16 +4,15 @@ ghost use Rattle.std.specs.Prelude.{◌<◌};
 
 use join_laws::Flat;
 use line_faults::{BytesFault, LineFault};
-use log_pieces::{End, Piece, read_line};
+use log_pieces::{Piece, read_line};
 use replica::{
     GatherFault, ListingForm, Log, MemorySink, MemorySource, Replica, ReplicaFault, Sink, Source,
     collect, gather, listing,
 };
-use rw_objects::{Entry, Few, Found, Kind};
 use std::alloc::Global;
 use std::process::Abort;
 use std::test::Fail;
-use wasm_types::{NoMemory, Outcome, Profile, RunKey, Same};
+use wasm_types::{NoMemory, Same};
 
 // Thread 0 with two writes and its end.
 pub(crate) const WHOLE: &str = "\
@@ -168,7 +167,7 @@ fn piece(alloc: Global, digits: &str) -> Result<Piece, Fail> {
 }
 
 /// These pieces delivered to a replica of the run of `WHOLE`.
-fn delivered(alloc: Global, pieces: &[&str]) -> Result<Replica, Fail> {
+pub(crate) fn delivered(alloc: Global, pieces: &[&str]) -> Result<Replica, Fail> {
     let mut replica = Replica::new(alloc, *piece(alloc, WHOLE)?.key());
     for digits in pieces {
         replica.deliver(alloc, &piece(alloc, digits)?)?;
@@ -619,11 +618,13 @@ fn a_piece_of_another_run_changes_nothing(rt: HostRuntime) -> Result<(), Fail> {
 fn halves_merge_into_the_whole(rt: HostRuntime) -> Result<(), Fail> {
     let alloc = rt.alloc();
     let wanted = format!(in alloc; "{RUN}\n{FOUR_LISTED}")?;
-    let halves: [([&str; 2], [&str; 2]); 4] = [
+    let halves: [([&str; 2], [&str; 2]); 6] = [
         ([FIRST, SECOND], [THIRD, FOURTH]),
-        ([THIRD, FOURTH], [FIRST, SECOND]),
         ([FIRST, THIRD], [SECOND, FOURTH]),
         ([FOURTH, FIRST], [THIRD, SECOND]),
+        ([SECOND, THIRD], [FOURTH, FIRST]),
+        ([SECOND, FOURTH], [FIRST, THIRD]),
+        ([THIRD, FOURTH], [FIRST, SECOND]),
     ];
     for (mine, theirs) in halves {
         let mut replica = delivered(alloc, &mine)?;
@@ -683,116 +684,5 @@ fn a_cursor_reads_places_in_any_order(rt: HostRuntime) -> Result<(), Fail> {
     cursor.read(0, &mut claim);
     assert_eq!(rt; claim, Some(Flat::Clash));
     assert!(rt; replica.log().cursor(16).is_none());
-    Ok(())
-}
-
-/// A piece of so many entries, which differ, and an end.
-fn long_piece(alloc: Global, count: u32) -> Result<Piece, Fail> {
-    let key = RunKey {
-        digest: [0xaa; 32],
-        run: 1,
-        profile: Profile::One,
-    };
-    let end = End {
-        steps: count,
-        places: count,
-        outcome: Outcome::Running,
-    };
-    let mut entries = Vec::new(alloc);
-    for version in 0..count {
-        let mut found = Few::new(alloc);
-        found.push(Found::Read {
-            object: 1,
-            version: u64::from(version),
-        });
-        entries.push(Entry {
-            kind: Kind::Access,
-            found,
-        })?;
-    }
-    Ok(Piece::new(key, 0, 0, entries, Some(end))?)
-}
-
-// Under `rt try --test --fail-alloc N` the Nth growth of each test below is refused. Without it none is.
-
-#[test]
-fn delivering_again_completes_what_want_of_memory_left(rt: HostRuntime) -> Result<(), Fail> {
-    let alloc = rt.alloc();
-    let piece = long_piece(alloc, 40)?;
-    let mut replica = Replica::new(alloc, *piece.key());
-    if let Err(fault) = replica.deliver(alloc, &piece) {
-        assert_eq!(rt; fault, ReplicaFault::NoMemory);
-        // The first entries stand, those behind them and the end do not.
-        let log = replica.log();
-        let mut stand = true;
-        for place in 0..40u32 {
-            let stands = log.entry(0, place).is_some();
-            assert!(rt; stand || !stands, "{place}");
-            stand = stands;
-        }
-        assert!(rt; log.end(0).is_none());
-        replica.deliver(alloc, &piece)?;
-    }
-    assert!(rt; replica.log().complete(1));
-    assert_eq!(rt; replica.log().clashes(), 0);
-    Ok(())
-}
-
-#[test]
-fn merging_again_completes_what_want_of_memory_left(rt: HostRuntime) -> Result<(), Fail> {
-    let alloc = rt.alloc();
-    let piece = long_piece(alloc, 5)?;
-    let mut other = Replica::new(alloc, *piece.key());
-    other.deliver(alloc, &piece)?;
-    let mut replica = Replica::new(alloc, *piece.key());
-    if let Err(fault) = replica.merge(alloc, other.log()) {
-        assert_eq!(rt; fault, ReplicaFault::NoMemory);
-        assert!(rt; replica.log().end(0).is_none());
-        replica.merge(alloc, other.log())?;
-    }
-    assert!(rt; replica.log().complete(1));
-    Ok(())
-}
-
-#[test]
-fn collecting_refused_memory_is_an_answer(rt: HostRuntime) -> Result<(), Fail> {
-    let alloc = rt.alloc();
-    match collect(alloc, &mut MemorySource::new(WHOLE.as_bytes(), 100, None)) {
-        Ok(None) => assert!(rt; false, "a piece came"),
-        Ok(Some(replica)) => assert!(rt; replica.log().complete(1)),
-        Err(fault) => assert_eq!(rt; fault, GatherFault::NoMemory),
-    }
-    Ok(())
-}
-
-#[test]
-fn gathering_with_refused_memory_writes_no_other_bytes(rt: HostRuntime) -> Result<(), Fail> {
-    let alloc = rt.alloc();
-    let mut source = MemorySource::new(WHOLE.as_bytes(), 100, None);
-    let mut sink = MemorySink::new(alloc, 10, None);
-    match gather(alloc, &mut source, &mut sink, ListingForm::Plain) {
-        Ok(()) => assert_eq!(rt; sink.taken(), WHOLE_TEXT.as_bytes()),
-        // A sink over memory fails where its own memory is refused.
-        Err(GatherFault::SinkFailed) => {
-            assert_eq!(rt; sink.failures(), 1);
-            assert!(rt; WHOLE_TEXT.as_bytes().starts_with(sink.taken()));
-        }
-        Err(fault) => {
-            assert_eq!(rt; fault, GatherFault::NoMemory);
-            assert!(rt; sink.taken().is_empty());
-        }
-    }
-    assert_eq!(rt; source.failures(), 0);
-    Ok(())
-}
-
-#[test]
-fn listing_with_refused_memory_is_an_answer(rt: HostRuntime) -> Result<(), Fail> {
-    let alloc = rt.alloc();
-    let replica = delivered(alloc, &[WHOLE])?;
-    match listing(alloc, replica.log()) {
-        Ok(text) => assert_eq!(rt; text.as_str(), WHOLE_TEXT),
-        Err(NoMemory) => {}
-    }
     Ok(())
 }

@@ -13,6 +13,10 @@ mod growths;
 #[cfg(test)]
 mod modules;
 #[cfg(test)]
+mod passing;
+#[cfg(test)]
+mod replays;
+#[cfg(test)]
 mod threads;
 #[cfg(test)]
 mod trials;

@@ -29,6 +29,17 @@ const COUNTER_SUMMARY: &str =
 const FUNCTION_SUMMARY: &str =
     "types 1\nfunctions 1\ntable none\nmemory none\nglobals 0\nexports 0\nstart none\n";
 
+// The counter with custom sections before the others, behind them, and everywhere.
+const CUSTOM_FIRST: &str =
+    "0061736d0100000000030178ff0105016000017f03020100050401030101070501017700000a1501130041004101fe1e02001a41004101fe1e02000b";
+
+const CUSTOM_LAST: &str =
+    "0061736d010000000105016000017f03020100050401030101070501017700000a1501130041004101fe1e02001a41004101fe1e02000b00030178ff";
+
+const CUSTOM_EVERYWHERE: &str =
+    "0061736d010000000105016000017f00030178ff00030178ff03020100050401030101070501017700000a15\
+    01130041004101fe1e02001a41004101fe1e02000b00030178ff";
+
 /// Modules with their summaries.
 static SUMMARIES: &[(&str, &str)] = &[
     (EACH_SECTION, EACH_SUMMARY),
@@ -39,19 +50,9 @@ static SUMMARIES: &[(&str, &str)] = &[
         COUNTER_SUMMARY,
     ),
     // The same with custom sections before, between and behind the others.
-    (
-        "0061736d0100000000030178ff0105016000017f03020100050401030101070501017700000a1501130041004101fe1e02001a41004101fe1e02000b",
-        COUNTER_SUMMARY,
-    ),
-    (
-        "0061736d010000000105016000017f03020100050401030101070501017700000a1501130041004101fe1e02001a41004101fe1e02000b00030178ff",
-        COUNTER_SUMMARY,
-    ),
-    (
-        "0061736d010000000105016000017f00030178ff00030178ff03020100050401030101070501017700000a15\
-        01130041004101fe1e02001a41004101fe1e02000b00030178ff",
-        COUNTER_SUMMARY,
-    ),
+    (CUSTOM_FIRST, COUNTER_SUMMARY),
+    (CUSTOM_LAST, COUNTER_SUMMARY),
+    (CUSTOM_EVERYWHERE, COUNTER_SUMMARY),
     // Beginnings of the counter that are modules.
     (
         "0061736d01000000",
@@ -286,6 +287,33 @@ fn modules_are_read_or_refused_at_their_first_fault(rt: HostRuntime) {
             digits,
         );
     }
+}
+
+/// All that a module has but the bytes that spell it.
+fn all_but_source(alloc: Global, digits: &str) -> Result<String, Fail> {
+    let m = module_of(alloc, digits)?;
+    let mut text = format!(in alloc;
+        "{:?} {:?} {:?} {:?}",
+        m.types, m.imports, m.functions, m.tables
+    )?;
+    write!(
+        text,
+        " {:?} {:?} {:?} {:?}",
+        m.memories, m.globals, m.exports, m.start
+    )?;
+    write!(text, " {:?} {:?} {:?}", m.elements, m.bodies, m.data)?;
+    Ok(text)
+}
+
+/// A custom section changes the bytes of a module, and nothing else of it.
+#[test]
+fn custom_sections_change_the_bytes_alone(rt: HostRuntime) -> Result<(), Fail> {
+    let plain = all_but_source(rt.alloc(), COUNTER)?;
+    for digits in [CUSTOM_FIRST, CUSTOM_LAST, CUSTOM_EVERYWHERE] {
+        let found = all_but_source(rt.alloc(), digits)?;
+        assert_eq!(rt; found.as_str(), plain.as_str(), "{digits}");
+    }
+    Ok(())
 }
 
 /// The preamble, and the head of a custom section that ends with byte 1,048,576.

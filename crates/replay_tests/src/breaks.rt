@@ -11,7 +11,7 @@ use std::test::Fail;
 use wasm_types::NoMemory;
 
 /// The log of a run by the schedule 0 0 1 1 2 2: by rounds 0 1 2 0 1 2 it is replayed too.
-const ACCESSES: Accesses = [
+pub(crate) const ACCESSES: Accesses = [
     [
         Some(Some(Found::Read {
             object: 0,
@@ -46,7 +46,7 @@ const ACCESSES: Accesses = [
     ],
 ];
 
-const SUMS: [Option<u64>; 3] = [Some(0), Some(2), Some(7)];
+pub(crate) const SUMS: [Option<u64>; 3] = [Some(0), Some(2), Some(7)];
 
 const ENDS: [Option<u32>; 3] = [Some(2), Some(2), Some(2)];
 

@@ -9,4 +9,6 @@ mod logs;
 #[cfg(test)]
 mod recordings;
 #[cfg(test)]
+mod refused;
+#[cfg(test)]
 mod replays;
