@@ -1,6 +1,9 @@
 -- What the program answers.
-use Rattle.std.specs.Prelude.{◌≡◌, ◌≤◌, ◌⊎◌, ℕ, List, [], ◌∷◌, ◌++◌, ◌==◌, Bool, Option, true, false, codes, cond, map, nat_le}
+use Rattle.std.specs.Prelude.{◌≡◌, ◌≤◌, ◌⊎◌, ℕ, List, [], ◌∷◌, ◌++◌, ◌==◌, Bool, Option, Some, None, true, false, codes, cond, map, nat_le}
+use Rattle.std.specs.Fmt.{decimal}
 use Rattle.clap.specs.Words.{Text}
+use Rattle.quoted_bytes.specs.Quotes.{quoted}
+use Rattle.program.specs.declared.answering.OddWord.{OddWord}
 use Rattle.log_pieces.specs.Piece.{PieceValue}
 use Rattle.replica.specs.Gathered.{IsText, IsListing, IsBadLine, IsOtherRun, IsCutText}
 use Rattle.replica.specs.Judged.{AreJudged, IsSkipped}
@@ -88,6 +91,15 @@ IsReason r fault text = IsExplanation r fault text ⊎ (text ≡ codes "memory: 
 abbrev pub IsTold : (List ℕ → Type 0) → Bool → Request → Fault → Type 0
 IsTold tells false r fault = tells (fault_line fault)
 IsTold tells true r fault = (text : List ℕ) × IsReason r fault text × tells (fault_line fault ++ (map shown text ++ 10 ∷ []))
+
+-- what is said of a word of the command line that is no text: its number, and its bytes as they are quoted
+abbrev pub odd_line : ℕ → List ℕ → List ℕ
+odd_line number bytes = codes "error: word " ++ (decimal number ++ (codes " of the command line is not UTF-8: " ++ (quoted bytes ++ codes "\n")))
+
+-- what is said where words of the command line are no text: which of them, or just that one is
+abbrev pub IsNotText : Option OddWord → List ℕ → Type 0
+IsNotText None text = text ≡ codes "error: a word of the command line is not UTF-8\n"
+IsNotText (Some word) text = (text ≡ odd_line word.number word.bytes.now) ⊎ (text ≡ codes "error: a word of the command line is not UTF-8\n")
 
 module _ (took : List ℕ → Type 0) where
   -- the output took such a text

@@ -1,12 +1,12 @@
 //! What the words of a command line do.
 
-ghost use Rattle.std.specs.Prelude.{◌≡◌, ◌<◌, ◌-◌, ◌^◌, ◌⊎◌, ◌++◌, ◌+◌, ℕ, [], ◌∷◌, Err, OnOk, OnErr, IfErr, map};
+ghost use Rattle.std.specs.Prelude.{◌≡◌, ◌<◌, ◌-◌, ◌^◌, ◌⊎◌, ◌++◌, ◌+◌, ℕ, List, [], ◌∷◌, Err, OnOk, OnErr, IfErr, Some, codes, map};
 ghost use Rattle.std.specs.IoError.{error_kind};
 ghost use Rattle.commands.specs.Texts.{skipped_text};
 ghost use Rattle.commands.specs.declared.fault.Fault.TheVariants as faults;
 ghost use Rattle.replica.specs.declared.fault.GatherFault.TheVariants as gathering;
 ghost use Rattle.replica.specs.Lines.{IsDeviceFault};
-ghost use Rattle.program.specs.Answers.{WritesSome, IsShown, IsCut, IsListedSkipping, IsDone, IsStopped, IsAnswered, fault_of, form_of};
+ghost use Rattle.program.specs.Answers.{WritesSome, IsShown, IsCut, IsListedSkipping, IsDone, IsStopped, IsAnswered, IsNotText, fault_line, fault_of, form_of};
 
 use crate::refusing::{refuse, refuse_request};
 use arrayvec::ArrayString;
@@ -61,7 +61,8 @@ fn show_recorded<W: Sink>(output: &mut W, answer: RecordAnswer) -> Result<(), Fa
 /// Writes what is wrong with a command line, and answers the exit status of one that is not understood.
 fn complain<E: Sink>(errors: &mut E, text: &str) -> u8
     requires { E.failed errors.old < 2 ^ 64 - 1 }
-    ensures { result ≡ 2 }
+    ensures status { result ≡ 2 }
+    ensures tells { (E.takes errors.old text.now errors.new) ⊎ (E.failed errors.new ≡ E.failed errors.old + 1) }
 {
     let _ = write_all(errors, text.as_bytes());
     2
@@ -192,23 +193,36 @@ pub struct OddWord<'a> {
 }
 
 /// What is said of a word that is not UTF-8: its number and its bytes, as they are quoted.
-fn not_text(word: &OddWord<'_>) -> ArrayString<128> {
+fn not_text(word: &OddWord<'_>) -> ArrayString<128>
+    ensures { IsNotText (Some word.now) result.bytes }
+{
     let number = word.number;
     let bytes = Quoted { bytes: word.bytes };
     let mut text = ArrayString::<128>::new();
-    let _ = write!(
+    match write!(
         text,
         "error: word {number} of the command line is not UTF-8: {bytes}\n"
-    );
+    ) {
+        Ok(()) => text,
+        Err(_) => plainly_not_text(),
+    }
+}
+
+/// The same without number and bytes.
+fn plainly_not_text() -> ArrayString<128>
+    ensures { result.bytes ≡ codes "error: a word of the command line is not UTF-8\n" }
+{
+    let mut text = ArrayString::<128>::new();
+    text.push_str(NOT_UTF_8);
     text
 }
 
-/// Answers the exit status where the words of the command line could not be had: this one is not UTF-8, or they do not fit into
-/// memory.
+/// Answers the exit status where the words of the command line could not be had, and says why: this one is not UTF-8, or they do not
+/// fit into memory.
 pub fn refuse_words<E: Sink>(errors: &mut E, error: &io::Error, odd: Option<OddWord<'_>>) -> u8
     requires { E.failed errors.old < 2 ^ 64 - 1 }
-    ensures no_memory { error_kind error.now ≡ ErrorKind.OutOfMemory → result ≡ 1 }
-    ensures not_text { (error_kind error.now ≡ ErrorKind.OutOfMemory → ⊥) → result ≡ 2 }
+    ensures no_memory { error_kind error.now ≡ ErrorKind.OutOfMemory → (result ≡ 1) × ((E.takes errors.old (fault_line faults.NoMemory) errors.new) ⊎ (E.failed errors.new ≡ E.failed errors.old + 1)) }
+    ensures not_text { (error_kind error.now ≡ ErrorKind.OutOfMemory → ⊥) → (result ≡ 2) × (((text : List ℕ) × IsNotText odd text × E.takes errors.old text errors.new) ⊎ (E.failed errors.new ≡ E.failed errors.old + 1)) }
 {
     match (error.kind(), odd) {
         (ErrorKind::OutOfMemory, _) => refuse(errors, &Fault::NoMemory),
