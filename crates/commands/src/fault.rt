@@ -16,7 +16,6 @@ use wasm_types::NoMemory;
 
 /// Why a command is refused. `text` is the line that the program writes, without its end.
 #[derive(Clone, Copy, Debug, PartialEq, Eq, Error)]
-#[error("{}", self.text())]
 pub enum Fault {
     /// A file was not read.
     File(FileFault),

@@ -15,6 +15,7 @@ use pick_schedule::ScheduleFault;
 use replay_gate::ReplayFault;
 use replica::{GatherFault, Skipped};
 use run_pieces::PiecesFault;
+use std::fmt;
 use thread_plan::PlanFault;
 use validator::ValidFault;
 use wasm_replay::WasmReplayFault;
@@ -218,5 +219,15 @@ impl Fault {
             Fault::NoMemory => plain("refused 23 NoMemory"),
             Fault::SinkFailed => plain("refused 45 SinkFailed"),
         }
+    }
+}
+
+impl fmt::Display for Fault {
+    ghost use Rattle.std.specs.Prelude.{Some};
+
+    ghost output = { λ fault. Some (fault_text fault) };
+
+    fn fmt<W: fmt::Write>(&self, f: &mut fmt::Formatter<W>) -> fmt::Result {
+        write!(f, "{}", self.text())
     }
 }

@@ -12,7 +12,7 @@ use debug_views::ViewFault;
 use line_reasons::{plan_reason, schedule_reason};
 use log::Log;
 use module_reasons::{ValidCause, decode_reason, limit_reason, valid_reason};
-use pick_schedule::ScheduleFault;
+use pick_schedule::{SCHEDULE_BEGINNING, ScheduleFault};
 use replay_reasons::{other_line_reason, replay_reason};
 use replica::GatherFault;
 use run_pieces::PiecesFault;
@@ -140,7 +140,12 @@ fn schedule_words<F: Files>(
     request: &Request<'_>,
     fault: &ScheduleFault,
 ) -> Words {
-    match again(alloc, files, schedule_path(request), None) {
+    match again(
+        alloc,
+        files,
+        schedule_path(request),
+        Some(SCHEDULE_BEGINNING),
+    ) {
         Some(text) => Ok(format!(in alloc; "{}", schedule_reason(&text, fault))?),
         None => Ok(format!(in alloc; "{fault}")?),
     }
