@@ -11,7 +11,7 @@ ghost use Rattle.thread_plan.specs.Plans.{IsPlanOf};
 ghost use Rattle.threaded_replay.specs.Threaded.{IsThreadsEnd, IsThreadsRefusal};
 ghost use Rattle.validator.specs.Valid.{fits_profile};
 ghost use Rattle.waiter_queues.specs.Shared.{shared_values};
-ghost use Rattle.wasm_replay.specs.Replays.{EndsAsRecorded, IsOfRun, IsOrderedAnswer, gathered_log};
+ghost use Rattle.wasm_replay.specs.Replays.{EndsAsRecorded, HasWorld, IsOfRun, IsOrderedAnswer, gathered_log};
 ghost use Rattle.wasm_world.specs.Opening.{WasmWorld, opening_world_of};
 
 use event_core::Ended;
@@ -96,6 +96,8 @@ pub fn replay_threads<H: Hold + Sync, R: Threads + Wait + Sync>(
 ) -> Result<Ended, WasmReplayFault>
     requires { IsPlanOf valid.now plan.now }
     ensures of_run { OnOk result (IsOfRun valid.now plan.now log.now) }
+    // There is a world from which the runs of the log begin; of it speak the clauses below.
+    ensures has_world { HasWorld valid.now plan.now log.now }
     ensures ended { IfOk result (IsThreadsEnd valid.now plan.now log.now) }
     ensures ordered { IfOk result (λ end. (order : List ℕ) → IsOrderedAnswer valid.now plan.now log.now order end) }
     ensures recorded { IfOk result (EndsAsRecorded valid.now plan.now log.now) }

@@ -15,7 +15,7 @@ use Rattle.replay_breaks.specs.declared.breaks.Break.{Break}
 use Rattle.replay_breaks.specs.declared.breaks.Stopped.{Stopped}
 use Rattle.replay_breaks.specs.declared.breaks.Stopped.TheVariants as stopped
 use Rattle.replay_breaks.specs.Stops.{StopsAt}
-use Rattle.debug_views.specs.Text.{IsView}
+use Rattle.debug_views.specs.Text.{IsShown, IsView}
 use Rattle.debug_views.specs.Values.{memory_bytes}
 use Rattle.debug_views.specs.declared.fault.ViewFault.TheVariants as showing
 use Rattle.wasm_replay.specs.Replays.{Opens, IsOfRun, IsOfNoRun, gathered_log}
@@ -30,26 +30,32 @@ module _ (m : Module) (plan : PlanValue) (log : GatheredLog) (order : List ℕ) 
   abbrev pub Stops : WasmWorld → Stopped → Type 0
   Stops v s = (w : WasmWorld) → Opens m plan log w → StopsAt shared_memory thread_code (gathered_log log) w order breaks v s
 
-  -- the view of the world at which the replay stops, with where its threads stand if names are asked for; on a log below that of a run, that world is right by the run
+  -- the same where the world is shown: at one of the breaks, or where no thread goes on
+  pub record StopsToShow (v : WasmWorld) (s : Stopped) : Type 0 where
+    pub stops : Stops v s
+    pub shown : IsShown s breaks
+
+  -- the view of the world at which the replay stops, which has the range, with where its threads stand if names are asked for; on a log below that of a run, that world is right by the run
   pub record IsViewOfLog (names : Bool) (from len : ℕ) (text : List ℕ) : Type 0 where
     pub world : WasmWorld
     pub stopped : Stopped
-    pub stops : Stops world stopped
+    pub stops : StopsToShow world stopped
     pub view : IsView shared_memory thread_code world (block_power (key_of log).profile) stopped breaks (notes_if names m.source world.threads) from len text
+    pub within : from + len ≤ length (memory_bytes shared_memory world)
     pub recorded : (w : WasmWorld) → Opens m plan log w → ShowsRecorded shared_memory thread_code (gathered_log log) w world
 
   -- the replay stops at a world whose memory the range passes
   pub record IsOutOfView (from len : ℕ) : Type 0 where
     pub world : WasmWorld
     pub stopped : Stopped
-    pub stops : Stops world stopped
+    pub stops : StopsToShow world stopped
     pub past : length (memory_bytes shared_memory world) < from + len
 
   -- the replay stops at a world whose memory has the range
   pub record IsInView (from len : ℕ) : Type 0 where
     pub world : WasmWorld
     pub stopped : Stopped
-    pub stops : Stops world stopped
+    pub stops : StopsToShow world stopped
     pub within : from + len ≤ length (memory_bytes shared_memory world)
 
   -- the replay stops for this fault, or there is no memory for its opening world

@@ -1,6 +1,6 @@
 //! The view of a replay that stops.
 
-ghost use Rattle.std.specs.Prelude.{OnOk, IfOk, IfErr, string_bytes};
+ghost use Rattle.std.specs.Prelude.{◌+◌, ◌≤◌, length, OnOk, IfOk, IfErr, string_bytes};
 ghost use Rattle.block_objects.specs.SharedMemory.{shared_memory};
 ghost use Rattle.debug_views.specs.Text.{IsShown, IsView};
 ghost use Rattle.debug_views.specs.Values.{IsFault, memory_bytes};
@@ -51,6 +51,7 @@ fn show(
 ) -> Result<String, ViewFault>
     requires { IsShown stopped breaks.now }
     ensures view { IfOk result (λ text. IsView shared_memory thread_code (world_of world.now) block stopped breaks.now (notes_if names valid.now.source (world_of world.now).threads) from len (string_bytes text)) }
+    ensures within { IfOk result (λ text. from + len ≤ length (memory_bytes shared_memory (world_of world.now))) }
     ensures fault { IfErr result (IsFault (memory_bytes shared_memory (world_of world.now)) from len) }
 {
     if !is_in_view(world, from, len) {
