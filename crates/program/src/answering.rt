@@ -222,7 +222,7 @@ fn plainly_not_text() -> ArrayString<128>
 pub fn refuse_words<E: Sink>(errors: &mut E, error: &io::Error, odd: Option<OddWord<'_>>) -> u8
     requires { E.failed errors.old < 2 ^ 64 - 1 }
     ensures no_memory { error_kind error.now ≡ ErrorKind.OutOfMemory → (result ≡ 1) × ((E.takes errors.old (fault_line faults.NoMemory) errors.new) ⊎ (E.failed errors.new ≡ E.failed errors.old + 1)) }
-    ensures not_text { (error_kind error.now ≡ ErrorKind.OutOfMemory → ⊥) → (result ≡ 2) × (((text : List ℕ) × IsNotText odd text × E.takes errors.old text errors.new) ⊎ (E.failed errors.new ≡ E.failed errors.old + 1)) }
+    ensures not_text { (error_kind error.now ≡ ErrorKind.OutOfMemory → ⊥) → (result ≡ 2) × (((text : List ℕ) × IsNotText odd.entry text × E.takes errors.old text errors.new) ⊎ (E.failed errors.new ≡ E.failed errors.old + 1)) }
 {
     match (error.kind(), odd) {
         (ErrorKind::OutOfMemory, _) => refuse(errors, &Fault::NoMemory),
