@@ -4,9 +4,9 @@ PREFIX ?= /usr/local
 JOBS ?= $(shell nproc)
 PROGRAM = crates/wreplay/out/wreplay
 BENCH = crates/wreplay_bench/out/wreplay_bench
-# The crates of tests whose threads do not run at once, so that each run asks for memory as the one before.
-TESTS = function_names log_divergence log_tests machine_tests module_tests parts_tests pick_schedule reason_tests replay_tests \
-	standard_streams
+# The tests that wait for a refused growth, or hand it on.
+REFUSED = log_tests:refused log_tests:again machine_tests:growths module_tests:refused_memory replay_tests:refused shared_tests:growths \
+	function_names log_divergence pick_schedule parts_tests
 
 .PHONY: build try test pages bench growths wrong-bodies install clean
 
@@ -47,8 +47,8 @@ bench: $(PROGRAM) $(BENCH)
 growths: $(PROGRAM) $(BENCH)
 	python3 bench/growths.py $(PROGRAM)
 	python3 bench/growths.py $(BENCH)
-	for it in $(TESTS) shared_tests; do (cd crates/$$it && rt test) || exit 1; done
-	python3 bench/test_growths.py $(TESTS:%=crates/%) crates/shared_tests:growths
+	for it in $(REFUSED); do (cd crates/$${it%:*} && rt test) || exit 1; done
+	python3 bench/test_growths.py $(REFUSED:%=crates/%)
 
 # The wrong bodies that the gate leaves out: the prover must refuse each. It takes hours.
 wrong-bodies:

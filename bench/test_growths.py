@@ -17,8 +17,8 @@ import tempfile
 
 from growths import LIBRARY
 
-# What a test answers that hands on its want of memory.
-WANTS = ("AllocError", "NoMemory", "out of memory", "memory could not be had", "OutOfMemory")
+# What a test answers that hands on its want of memory. A sink over memory fails where its own memory is refused.
+WANTS = ("AllocError", "AllocFailed", "NoMemory", "OutOfMemory", "SinkFailed")
 
 
 def binary_of(crate):
