@@ -5,8 +5,8 @@ JOBS ?= $(shell nproc)
 PROGRAM = crates/wreplay/out/wreplay
 BENCH = crates/wreplay_bench/out/wreplay_bench
 # The tests that wait for a refused growth, or hand it on.
-REFUSED = log_tests:refused log_tests:again machine_tests:growths module_tests:refused_memory replay_tests:refused shared_tests:growths \
-	function_names log_divergence pick_schedule parts_tests
+REFUSED = log_tests:refused:: log_tests:joining_again log_tests:skipping_with_refused machine_tests:growths \
+	module_tests:refused_memory replay_tests:refused shared_tests:growths function_names log_divergence pick_schedule parts_tests
 
 .PHONY: build try test pages bench growths wrong-bodies install clean
 
@@ -47,7 +47,7 @@ bench: $(PROGRAM) $(BENCH)
 growths: $(PROGRAM) $(BENCH)
 	python3 bench/growths.py $(PROGRAM)
 	python3 bench/growths.py $(BENCH)
-	for it in $(REFUSED); do (cd crates/$${it%:*} && rt test) || exit 1; done
+	for it in $(REFUSED); do (cd crates/$${it%%:*} && rt test) || exit 1; done
 	python3 bench/test_growths.py $(REFUSED:%=crates/%)
 
 # The wrong bodies that the gate leaves out: the prover must refuse each. It takes hours.
