@@ -9,7 +9,7 @@ ghost use Rattle.wasm_types.specs.Widths.{width_of};
 ghost use Rattle.std.specs.Int.{byte_len};
 
 use crate::bounds::ends_within;
-use rw_objects::{Few, Kind, Mode, Touch};
+use rw_objects::{Kind, Mode, Touch, Touches};
 use std::alloc::Global;
 use wasm_types::{Access, Action, Block, Extent, Op, Width};
 
@@ -70,11 +70,11 @@ pub fn lone_block(extent: &Extent, address: u32, len: u32) -> Option<u32>
 }
 
 /// The touch of the length, where so many bytes at an address end past the initial length.
-fn touch_length(alloc: Global, extent: &Extent, address: u32, len: u32) -> Few<Touch>
+fn touch_length(alloc: Global, extent: &Extent, address: u32, len: u32) -> Touches
     ensures touches { result ≡ length_touches extent.now address len }
     ensures room { length result ≤ 1 }
 {
-    let mut touches = Few::new(alloc);
+    let mut touches = Touches::new(alloc);
     if !ends_within(extent.initial, address, len) {
         touches.push(Touch {
             object: 0,
@@ -85,13 +85,7 @@ fn touch_length(alloc: Global, extent: &Extent, address: u32, len: u32) -> Few<T
 }
 
 /// The touches of an access.
-fn touch_access(
-    alloc: Global,
-    extent: &Extent,
-    mode: Mode,
-    address: u32,
-    width: Width,
-) -> Few<Touch>
+fn touch_access(alloc: Global, extent: &Extent, mode: Mode, address: u32, width: Width) -> Touches
     ensures { result ≡ access_touches extent.now mode address (byte_len (width_of width)) }
 {
     let first = block_at(extent.block, address);
@@ -101,7 +95,7 @@ fn touch_access(
         mode,
     };
     if first == last && ends_within(extent.initial, address, width.bytes()) {
-        return Few::one(alloc, touch);
+        return Touches::one(alloc, touch);
     }
     let mut touches = touch_length(alloc, extent, address, width.bytes());
     touches.push(touch);
@@ -112,14 +106,14 @@ fn touch_access(
 }
 
 /// The touches of an access that writes.
-fn touch_write(alloc: Global, extent: &Extent, address: u32, access: Access) -> Few<Touch>
+fn touch_write(alloc: Global, extent: &Extent, address: u32, access: Access) -> Touches
     ensures { result ≡ access_touches extent.now Write address (byte_len (access_width access)) }
 {
     touch_access(alloc, extent, Mode::Write, address, access.width())
 }
 
 /// Pushes a write of the waiter queue of an address.
-fn touch_queue(touches: &mut Few<Touch>, extent: &Extent, address: u32)
+fn touch_queue(touches: &mut Touches, extent: &Extent, address: u32)
     requires { length touches.old < 3 }
     ensures { touches.new ≡ touches.old ++ queue_touches extent.now address }
 {
@@ -130,7 +124,7 @@ fn touch_queue(touches: &mut Few<Touch>, extent: &Extent, address: u32)
 }
 
 /// The objects that an operation touches, 1 to 3 of them, in rising order. It takes no memory.
-pub fn touches(alloc: Global, op: &Op) -> Few<Touch>
+pub fn touches(alloc: Global, op: &Op) -> Touches
     ensures { result ≡ op_touches op.now }
 {
     let extent = &op.extent;
@@ -167,23 +161,23 @@ pub fn touches(alloc: Global, op: &Op) -> Few<Touch>
 }
 
 /// The touch of the length alone.
-fn touch_of_length(alloc: Global, mode: Mode) -> Few<Touch>
+fn touch_of_length(alloc: Global, mode: Mode) -> Touches
     ensures { result ≡ touch_of mode 0 ∷ [] }
 {
-    Few::one(alloc, Touch { object: 0, mode })
+    Touches::one(alloc, Touch { object: 0, mode })
 }
 
 /// The touch of a waiter queue alone.
-fn touch_of_queue(alloc: Global, extent: &Extent, address: u32) -> Few<Touch>
+fn touch_of_queue(alloc: Global, extent: &Extent, address: u32) -> Touches
     ensures { result ≡ queue_touches extent.now address }
 {
-    let mut touches = Few::new(alloc);
+    let mut touches = Touches::new(alloc);
     touch_queue(&mut touches, extent, address);
     touches
 }
 
 /// The touches of a wait.
-fn touch_wait(alloc: Global, extent: &Extent, address: u32, width: Width) -> Few<Touch>
+fn touch_wait(alloc: Global, extent: &Extent, address: u32, width: Width) -> Touches
     ensures { result ≡ wait_touches extent.now address (byte_len (width_of width)) }
 {
     let mut touches = touch_length(alloc, extent, address, width.bytes());

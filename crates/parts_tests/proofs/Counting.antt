@@ -11,10 +11,8 @@ below_push : (n : ℕ) (ts : List Touch) (t : Touch) → AllBelow n ts → t.obj
 below_push n [] t all h = (h, tt)
 below_push n (x ∷ xs) t all h = (all.0, below_push n xs t all.1 h)
 
-pub below_more : (n : ℕ) (ts : List Touch) (i : ℕ) (t : Touch) → i < length ts → t ≡ get_or ts i t → AllBelow n (take i ts) → t.object < n → AllBelow n (take (i + 1) ts)
-below_more n ts i t within is all h =
-    let more : take (i + 1) ts ≡ take i ts ++ t ∷ [] = take_more ts i t within ∙ ap (λ (y : Touch). take i ts ++ y ∷ []) (sym is) in
-    subst (λ (l : List Touch). AllBelow n l) (sym more) (below_push n (take i ts) t all h)
+pub below_more : (n : ℕ) (ts : List Touch) (i : ℕ) (d : Touch) → i < length ts → AllBelow n (take i ts) → (get_or ts i d).object < n → AllBelow n (take (i + 1) ts)
+below_more n ts i d within all h = subst (λ (l : List Touch). AllBelow n l) (sym (take_more ts i d within)) (below_push n (take i ts) (get_or ts i d) all h)
 
 touched_push : (ts : List Touch) (t : Touch) (o : ℕ) → is_touched (ts ++ t ∷ []) o ≡ true → (is_touched ts o ≡ true) ⊎ (t.object ≡ o)
 touched_push [] t o h = last (t.object == o) refl h where
@@ -26,8 +24,7 @@ touched_push (x ∷ xs) t o h = first (x.object == o) (touched_push xs t o) h wh
   first true rest h = inl refl
   first false rest h = rest h
 
-pub counted_more : (counts : List Count) (ts : List Touch) (i : ℕ) (t : Touch) → i < length ts → t ≡ get_or ts i t → ((o : ℕ) → is_touched (take i ts) o ≡ true → CanCount (count_at counts o)) → CanCount (count_at counts t.object)
+pub counted_more : (counts : List Count) (ts : List Touch) (i : ℕ) (d : Touch) → i < length ts → ((o : ℕ) → is_touched (take i ts) o ≡ true → CanCount (count_at counts o)) → CanCount (count_at counts (get_or ts i d).object)
     → (o : ℕ) → is_touched (take (i + 1) ts) o ≡ true → CanCount (count_at counts o)
-counted_more counts ts i t within is all h o touched =
-    let more : take (i + 1) ts ≡ take i ts ++ t ∷ [] = take_more ts i t within ∙ ap (λ (y : Touch). take i ts ++ y ∷ []) (sym is) in
-    elim (touched_push (take i ts) t o (ap (λ (l : List Touch). is_touched l o) (sym more) ∙ touched)) [ inl before ↦ all o before | inr here ↦ subst (λ (p : ℕ). CanCount (count_at counts p)) here h ]
+counted_more counts ts i d within all h o touched =
+    elim (touched_push (take i ts) (get_or ts i d) o (ap (λ (l : List Touch). is_touched l o) (sym (take_more ts i d within)) ∙ touched)) [ inl before ↦ all o before | inr here ↦ subst (λ (p : ℕ). CanCount (count_at counts p)) here h ]

@@ -5,18 +5,17 @@ ghost use Rattle.rw_objects.specs.Space.{AllBelow, Fits};
 ghost use Rattle.rw_objects.specs.Counts.{CanCountAll};
 ghost use Rattle.block_objects.specs.SharedMemory.{shared_memory};
 
-use rw_objects::{Entry, Few, ObjectSpace, Touch, Versioned, Versions};
+use rw_objects::{Entry, ObjectSpace, Touches, Versioned, Versions};
 use std::alloc::Global;
 use waiter_queues::SharedSpace;
 use wasm_types::{Op, Reply};
 
 /// Whether all touches are of the first `count` objects.
-fn all_below(count: u32, touches: &Few<Touch>) -> bool
+fn all_below(count: u32, touches: &Touches) -> bool
     ensures { result ≡ true → AllBelow count touches.now }
 {
-    for i in 0..touches.len() {
-        let seen = touches.at(i);
-        if seen.object >= count {
+    for touch in touches.as_slice() {
+        if touch.object >= count {
             return false;
         }
     }
@@ -24,12 +23,11 @@ fn all_below(count: u32, touches: &Few<Touch>) -> bool
 }
 
 /// Whether the touched objects can be counted once more.
-fn can_count(versions: &Versions, touches: &Few<Touch>) -> bool
+fn can_count(versions: &Versions, touches: &Touches) -> bool
     ensures { result ≡ true → CanCountAll touches.now versions.now }
 {
-    for i in 0..touches.len() {
-        let seen = touches.at(i);
-        let count = versions.at(seen.object);
+    for touch in touches.as_slice() {
+        let count = versions.at(touch.object);
         if count.version == u64::MAX || count.reads == u64::MAX {
             return false;
         }

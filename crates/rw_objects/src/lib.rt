@@ -8,6 +8,7 @@ mod machine;
 mod next;
 mod space;
 mod touch;
+mod touches;
 mod versioned;
 mod versions;
 
@@ -18,5 +19,6 @@ pub use machine::Machine;
 pub use next::Next;
 pub use space::ObjectSpace;
 pub use touch::{Found, Mode, Touch};
+pub use touches::Touches;
 pub use versioned::Versioned;
 pub use versions::Versions;

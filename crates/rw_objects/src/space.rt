@@ -5,8 +5,7 @@ ghost use Rattle.rw_objects.specs.Space.{Space, Fits, RisesFrom, AllBelow, is_re
 ghost use Rattle.rw_objects.specs.Counts.{count_at, counts_after, CanCountAll, all_found};
 
 use crate::entry::{Entry, Kind};
-use crate::few::Few;
-use crate::touch::Touch;
+use crate::touches::Touches;
 use crate::versions::Versions;
 use std::alloc::Global;
 use wasm_types::NoMemory;
@@ -40,7 +39,7 @@ pub trait ObjectSpace {
         ensures { result ≡ meaning.objects (fixed self.now) };
 
     /// The objects that an operation touches, 1 to 3 of them, in rising order. It takes no memory.
-    fn touches(alloc: Global, op: &Self::Op) -> Few<Touch>
+    fn touches(alloc: Global, op: &Self::Op) -> Touches
         ensures { result ≡ meaning.touches op.now };
 
     /// The kind of an operation's entry.

@@ -7,6 +7,7 @@ ghost use Rattle.rw_objects.specs.Space.{RisesFrom, AllBelow};
 use crate::count::Count;
 use crate::few::Few;
 use crate::touch::{Found, Mode, Touch};
+use crate::touches::Touches;
 use std::alloc::Global;
 use std::marker::Model;
 use wasm_types::NoMemory;
@@ -107,7 +108,7 @@ impl Versions {
     }
 
     /// Counts the touches of an operation, and answers what they found. It takes no memory.
-    pub fn touch_all(&mut self, touches: &Few<Touch>) -> Few<Found>
+    pub fn touch_all(&mut self, touches: &Touches) -> Few<Found>
         requires rising { RisesFrom 0 touches.now }
         requires below { AllBelow (length self.old) touches.now }
         requires room { CanCountAll touches.now self.old }

@@ -8,7 +8,7 @@ ghost use Rattle.shared_core.specs.Resting.{none_goes};
 
 use crate::gates::{Gates, Seats, first_shut};
 use crate::resting::Resting;
-use rw_objects::{Entry, Few, Touch};
+use rw_objects::{Entry, Touches};
 use shared_journal::Held;
 use shared_parts::Opening;
 use striped_objects::Striped;
@@ -30,7 +30,7 @@ impl<S: Striped, J: Opening<S, S::Value, S::Fixed>> Journal<S, J> {
     }
 
     /// Whether the call that was just entered with these touches opened gates, and of each seat whether its gate is one of them.
-    pub(crate) fn opens(&self, touches: &Few<Touch>, opened: &mut Seats) -> bool
+    pub(crate) fn opens(&self, touches: &Touches, opened: &mut Seats) -> bool
         ensures some { result ≡ list_any (is_opened touches.now (memory_after_calls S.meaning J.named.memory self.now.held).counts) self.now.gates.awaited.items }
         ensures seats { opened.new ≡ map (is_opened touches.now (memory_after_calls S.meaning J.named.memory self.now.held).counts) self.now.gates.awaited.items ++ drop (length self.now.gates.awaited.items) opened.old }
     {

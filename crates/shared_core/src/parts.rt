@@ -10,7 +10,7 @@ ghost use Rattle.shared_parts.specs.Ones.{CoversOne};
 
 use crate::looking::{read, write};
 use call_chain::{Latest, SecondHalf};
-use rw_objects::{Few, Mode, ObjectSpace, Touch};
+use rw_objects::{Mode, ObjectSpace, Touch, Touches};
 use shared_parts::{
     Call, KeptPart, KeptParts, Lane, OneOf, OnePart, Opening, Stripe, Written, lane_writes,
 };
@@ -35,7 +35,7 @@ pub struct Parts<S: Striped, J: Opening<S, S::Value, S::Fixed>> {
 fn wait_for<'a, S: Striped, J: Opening<S, S::Value, S::Fixed>, R: Wait, const I: u64>(
     rt: &R,
     lock: &'a RwLock<Stripe<S, J, I>>,
-    touches: &Few<Touch>,
+    touches: &Touches,
 ) -> KeptPart<'a, S, J, I>
     requires { I < 8 }
     ensures { IsKept I touches.now result }
@@ -99,7 +99,7 @@ impl<S: Striped, J: Opening<S, S::Value, S::Fixed>> Parts<S, J> {
     }
 
     /// Waits for the parts that an operation touches, each once, in rising order.
-    pub(crate) fn keep<R: Wait>(&self, rt: &R, touches: &Few<Touch>) -> KeptParts<'_, S, J>
+    pub(crate) fn keep<R: Wait>(&self, rt: &R, touches: &Touches) -> KeptParts<'_, S, J>
         ensures { Covers touches.now result }
     {
         KeptParts {

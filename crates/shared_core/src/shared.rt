@@ -16,7 +16,7 @@ use crate::parts::Parts;
 use crate::resting::Wakes;
 use crate::waking::Conditions;
 use crossbeam_utils::CachePadded;
-use rw_objects::{Entry, Few, ObjectSpace, Touch};
+use rw_objects::{Entry, ObjectSpace, Touches};
 use shared_journal::{Seat, Tried, decide_one};
 use shared_parts::{Keeps, Opening};
 use std::alloc::Global;
@@ -55,7 +55,7 @@ impl<S: Striped, J: Opening<S, S::Value, S::Fixed>> Shared<S, J> {
         op: &S::Op,
         expected: Option<&Entry>,
         next: Option<&Entry>,
-        touches: &Few<Touch>,
+        touches: &Touches,
         kept: K,
         decision: &S::Decision,
         hold: &H,
@@ -105,7 +105,7 @@ impl<S: Striped, J: Opening<S, S::Value, S::Fixed>> Shared<S, J> {
         op: &S::Op,
         expected: Option<&Entry>,
         next: Option<&Entry>,
-        touches: &Few<Touch>,
+        touches: &Touches,
         hold: &H,
     ) -> Result<Tried<S::Reply>, NoMemory>
         requires fits { Fits S.meaning J.named.memory.fixed op.now }

@@ -11,7 +11,7 @@ ghost use Rattle.shared_journal.specs.Tries.{IfDone, IfShut, IfNotReady, IsDone}
 use crate::seat::Seat;
 use crate::tried::Tried;
 use call_chain::Latest;
-use rw_objects::{Entry, Few, Found, Mode, ObjectSpace, Touch, Versions};
+use rw_objects::{Entry, Few, Found, Mode, ObjectSpace, Touches, Versions};
 use shared_parts::{Call, Count, Keeps, Opening, Written};
 use std::alloc::Global;
 use std::marker::Model;
@@ -61,7 +61,7 @@ impl<S: Striped, J: Opening<S, S::Value, S::Fixed>> Model for Held<S, J> {
 }
 
 /// What touches would find.
-fn find(alloc: Global, versions: &Versions, touches: &Few<Touch>) -> Few<Found>
+fn find(alloc: Global, versions: &Versions, touches: &Touches) -> Few<Found>
     ensures { result ≡ all_found touches.now (count_at versions.now) }
 {
     let mut found = Few::new(alloc);
@@ -113,7 +113,7 @@ impl<S: Striped, J: Opening<S, S::Value, S::Fixed>> Held<S, J> {
         seat: &mut Seat<S, J>,
         op: &S::Op,
         expected: Option<&Entry>,
-        touches: &Few<Touch>,
+        touches: &Touches,
         kept: &mut K,
         decision: &S::Decision,
     ) -> Result<Tried<S::Reply>, NoMemory>

@@ -7,7 +7,7 @@ ghost use Rattle.shared_parts.specs.Calls.{IsWithin, entries_in, part_of};
 
 use call_chain::{Latest, Pile, Reached};
 use packed_entries::PackedEntries;
-use rw_objects::{Few, ObjectSpace, Touch};
+use rw_objects::{ObjectSpace, Touches};
 use shared_parts::{Call, Count, Keeps, Opening};
 use std::marker::Model;
 use std::sync::ledger::Share;
@@ -43,7 +43,7 @@ impl<S: Striped, J: Opening<S, S::Value, S::Fixed>> Model for Seat<S, J> {
 /// What an operation sees of the objects that it touches, whatever the space is of which the parts are parts.
 fn look<S: Striped, J: Opening<S, S::Value, S::Fixed>, K: Keeps<S, J>>(
     kept: &K,
-    touches: &Few<Touch>,
+    touches: &Touches,
     op: &S::Op,
     seen: &mut Vec<S::Seen>,
 ) -> Result<(), NoMemory>
@@ -78,7 +78,7 @@ impl<S: Striped, J: Opening<S, S::Value, S::Fixed>> Seat<S, J> {
     pub fn decide<K: Keeps<S, J>>(
         &mut self,
         kept: &K,
-        touches: &Few<Touch>,
+        touches: &Touches,
         op: &S::Op,
     ) -> Result<S::Decision, NoMemory>
         requires fits { Fits S.meaning J.named.memory.fixed op.now }

@@ -13,7 +13,7 @@ use crate::call::Call;
 use crate::kept::Written;
 use crate::naming::Opening;
 use call_chain::{Latest, Reached};
-use rw_objects::{Few, ObjectSpace, Touch};
+use rw_objects::{ObjectSpace, Touches};
 use striped_objects::Striped;
 
 /// The parts that an operation touches, each kept for reading or for writing: `KeptParts` for any operation, `OnePart` for one that
@@ -41,7 +41,7 @@ pub trait Keeps<S: Striped, J: Opening<S, S::Value, S::Fixed>> {
         written: &mut Written<S, J>,
         before: &Reached<Call<S::Op, S::Reply>, J>,
         latest: &Latest<Call<S::Op, S::Reply>, J>,
-        touches: &Few<Touch>,
+        touches: &Touches,
         op: &S::Op,
         decision: &S::Decision,
     )

@@ -15,7 +15,7 @@ use crate::keeps::Keeps;
 use crate::naming::{Lane, Opening};
 use crate::stripe::Stripe;
 use call_chain::{Latest, Reached, SecondHalf};
-use rw_objects::{Few, ObjectSpace, Touch};
+use rw_objects::{ObjectSpace, Touches};
 use std::marker::Model;
 use std::sync::{RwLockReadGuard, RwLockWriteGuard};
 use striped_objects::Striped;
@@ -117,7 +117,7 @@ pub(crate) fn advance<S: Striped, J: Opening<S, S::Value, S::Fixed>, const I: u6
     written: &mut SecondHalf<Lane<S, J, I>>,
     before: &Reached<Call<S::Op, S::Reply>, J>,
     latest: &Latest<Call<S::Op, S::Reply>, J>,
-    touches: &Few<Touch>,
+    touches: &Touches,
     op: &S::Op,
     decision: &S::Decision,
 )
@@ -212,7 +212,7 @@ impl<'a, S: Striped, J: Opening<S, S::Value, S::Fixed>> Keeps<S, J> for KeptPart
         written: &mut Written<S, J>,
         before: &Reached<Call<S::Op, S::Reply>, J>,
         latest: &Latest<Call<S::Op, S::Reply>, J>,
-        touches: &Few<Touch>,
+        touches: &Touches,
         op: &S::Op,
         decision: &S::Decision,
     ) {

@@ -9,7 +9,7 @@ use crate::keeps::Keeps;
 use crate::kept::{KeptPart, Written, advance};
 use crate::naming::Opening;
 use call_chain::{Latest, Reached};
-use rw_objects::{Few, ObjectSpace, Touch};
+use rw_objects::{ObjectSpace, Touches};
 use std::marker::Model;
 use striped_objects::Striped;
 
@@ -115,7 +115,7 @@ impl<'a, S: Striped, J: Opening<S, S::Value, S::Fixed>> Keeps<S, J> for OnePart<
         written: &mut Written<S, J>,
         before: &Reached<Call<S::Op, S::Reply>, J>,
         latest: &Latest<Call<S::Op, S::Reply>, J>,
-        touches: &Few<Touch>,
+        touches: &Touches,
         op: &S::Op,
         decision: &S::Decision,
     ) {

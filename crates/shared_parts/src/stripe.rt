@@ -11,7 +11,7 @@ ghost use Rattle.shared_parts.specs.Steps.{IsStep};
 use crate::call::Call;
 use crate::naming::{Lane, Opening};
 use call_chain::{FirstHalf, Latest, Reached, SecondHalf};
-use rw_objects::{Few, Mode, ObjectSpace, Touch};
+use rw_objects::{Mode, ObjectSpace, Touches};
 use std::boxed::Box;
 use std::marker::Model;
 use striped_objects::{Striped, change_lane};
@@ -65,7 +65,7 @@ impl<S: Striped, J: Opening<S, S::Value, S::Fixed>, const I: u64> Stripe<S, J, I
         written: &mut SecondHalf<Lane<S, J, I>>,
         before: &Reached<Call<S::Op, S::Reply>, J>,
         latest: &Latest<Call<S::Op, S::Reply>, J>,
-        touches: &Few<Touch>,
+        touches: &Touches,
         op: &S::Op,
         decision: &S::Decision,
     )
@@ -94,7 +94,7 @@ impl<S: Striped, J: Opening<S, S::Value, S::Fixed>, const I: u64> Stripe<S, J, I
 }
 
 /// How many objects of part `lane` are written.
-pub fn lane_writes(lane: u64, touches: &Few<Touch>) -> u64
+pub fn lane_writes(lane: u64, touches: &Touches) -> u64
     ensures { result ≡ lane_writes lane touches.now }
 {
     let mut count = 0;

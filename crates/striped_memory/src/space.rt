@@ -14,7 +14,7 @@ use crate::split::split_parts;
 use crate::unite::unite_parts;
 use block_objects::{MemoryLimits, ObjectValue};
 use memory_parts::{Decision, Seen};
-use rw_objects::{Entry, Few, Kind, ObjectSpace, Touch, Versions};
+use rw_objects::{Entry, Kind, ObjectSpace, Touches, Versions};
 use std::alloc::Global;
 use std::boxed::Box;
 use striped_objects::{Eight, Striped};
@@ -46,7 +46,7 @@ impl ObjectSpace for StripedMemory {
         self.space.objects()
     }
 
-    fn touches(alloc: Global, op: &Op) -> Few<Touch> {
+    fn touches(alloc: Global, op: &Op) -> Touches {
         SharedSpace::touches(alloc, op)
     }
 

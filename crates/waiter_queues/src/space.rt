@@ -22,7 +22,7 @@ ghost use Rattle.waiter_queues.specs.Acts.{CanAct, Acts};
 
 use crate::queues::Queues;
 use block_objects::{Blocks, MemoryLimits, ObjectValue, block_number, ends_within, lone_block};
-use rw_objects::{Entry, Few, Kind, Mode, ObjectSpace, Touch, Versions};
+use rw_objects::{Entry, Kind, Mode, ObjectSpace, Touch, Touches, Versions};
 use std::alloc::Global;
 use wasm_types::{
     Access, Action, Block, Data, Load, MOST_PAGES, NoMemory, Op, PAGE_SIZE, Reply, Trap, ValType,
@@ -275,7 +275,7 @@ impl ObjectSpace for SharedSpace {
         1 + 2 * self.blocks.count()
     }
 
-    fn touches(alloc: Global, op: &Op) -> Few<Touch> {
+    fn touches(alloc: Global, op: &Op) -> Touches {
         block_objects::touches(alloc, op)
     }
 

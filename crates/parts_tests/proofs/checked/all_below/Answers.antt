@@ -1,7 +1,9 @@
 -- One more touch is below.
 use Rattle.std.proofs.Common.{arith}
+use Rattle.rw_objects.specs.declared.touch.Mode.TheVariants.{Read}
 use Rattle.parts_tests.proofs.Counting.{below_more}
 use Rattle.parts_tests.proofs.checked.all_below.Goals as goal
 
-pub loop-i-preserved : goal.loop-i-preserved
-loop-i-preserved c = below_more c.args.count c.args.touches.now c.loop-i.i c.at-seen.result (omega arith) c.at-seen.ensures c.loop-i.invariant (omega arith)
+pub loop-touch-preserved : goal.loop-touch-preserved
+loop-touch-preserved c =
+    below_more c.args.count c.as_slice-touch-items.result.now c.loop-touch.touch-index (record { object = 0; mode = Read }) c.loop-touch-test.true c.loop-touch.invariant (omega arith)

@@ -5,7 +5,7 @@ use Rattle.rw_objects.specs.declared.touch.Touch.{Touch}
 use Rattle.rw_objects.specs.declared.touch.Mode.TheVariants.{Read}
 use Rattle.rw_objects.specs.Counts.{CanCountAll}
 use Rattle.rw_objects.specs.Space.{RisesFrom, AllBelow}
-use Rattle.rw_objects.proofs.Touches.{drop_here, counts_step, found_step, room_step, below_len, touched}
+use Rattle.rw_objects.proofs.CountingTouches.{drop_here, counts_step, found_step, room_step, below_len, touched}
 use Rattle.rw_objects.proofs.versions.Versions.touch_all.Goals as goal
 
 pub loop-touch-preserved : goal.loop-touch-preserved
