@@ -1,68 +1,48 @@
--- The map of names, and the exports that it shows.
-use Rattle.std.proofs.Common.{◌≡◌, ℕ, suc, ◌+◌, ◌<◌, Bool, true, false, List, [], ◌∷◌, ◌++◌, Option, Some, None, refl, sym, ◌∙◌, ap, subst, take, drop, length, get_or, arith, Vec, Global, cond, ◌&&◌, drop-cons}
-use Rattle.std.specs.Prelude.{is_none}
-use Rattle.std.specs.Str.{bytes_eq}
-use Rattle.std.specs.Map.{lookup}
-use Rattle.std.specs.BTreeMap.{is_at, insert_entry}
-use Rattle.std.specs.Ordering.{is_eq, nat_cmp, match_ordering}
-use Rattle.std.specs.Cmp.Lexicographic.{slice_cmp}
-use Rattle.std.specs.declared.cmp.Ordering.{Ordering}
-use Rattle.std.specs.declared.cmp.Ordering.TheVariants.{Less, Equal, Greater}
+-- The names of exports: which were seen, and the map of functions that shows them.
+use Rattle.std.proofs.Common.{◌≡◌, ℕ, suc, ◌+◌, ◌<◌, ◌≤◌, Bool, true, false, List, [], ◌∷◌, ◌++◌, Option, Some, None, refl, sym, ◌∙◌, ap, subst, take, drop, length, get_or, arith, Global, cond, ◌&&◌, ◌||◌, not, if◌then◌else◌, drop-cons, String, string_bytes, string_eq}
+use Rattle.std.specs.Prelude.{is_none, is_some}
+use Rattle.std.specs.List.{list_any}
+use Rattle.std.specs.Str.{IsUtf8, bytes_eq}
 use Rattle.std.proofs.lemmas.Slice.Eq.{bytes_eq-Decides}
-use Rattle.std.proofs.lemmas.Map.Text.{is_eq-slice_cmp}
-use Rattle.std.proofs.lemmas.List.{take-append-drop}
+use Rattle.std.proofs.lemmas.List.{take-append-drop, take_all}
 use Rattle.std.proofs.Math.Seq.{take-suc}
+use Rattle.indexmap.specs.IndexMap.{insert_entry}
 use Rattle.wasm_types.specs.declared.modules.Export.{Export}
-use Rattle.validator.specs.Exports.{function_index, found_by, find_export, distinct, value_of, AreNames}
+use Rattle.validator.specs.Exports.{function_index, found_by, find_export, distinct, only_some, value_of, put_function, AreNames, AddsExport}
 
 abbrev pub Entry : Type 0
-Entry = Vec ℕ Global × Option ℕ
+Entry = String Global × ℕ
 
--- names compare byte by byte
-abbrev pub name_cmp : Vec ℕ Global → Vec ℕ Global → Ordering
-name_cmp a b = slice_cmp nat_cmp a.items b.items
-
--- a name is compared as its bytes are
-tests : (name : List ℕ) (k : Vec ℕ Global) → is_at (λ (x : Vec ℕ Global). slice_cmp nat_cmp name x.items) k ≡ bytes_eq name k.items
-tests name k = is_eq-slice_cmp name k.items
-
-same_bytes : (a b : List ℕ) → slice_cmp nat_cmp a b ≡ Equal → a ≡ b
-same_bytes a b h = (bytes_eq-Decides a b).0 (sym (is_eq-slice_cmp a b) ∙ ap is_eq h)
-
-not_same : (a b : List ℕ) → slice_cmp nat_cmp a b ≡ Greater → a ≡ b → ⊥
-not_same a b h e = let q : true ≡ false = sym ((bytes_eq-Decides a b).1 e) ∙ sym (is_eq-slice_cmp a b) ∙ ap is_eq h in cc
-
-abbrev put : {X : Type 0} → Bool → X → Option X → Option X
+abbrev pub put : {X : Type 0} → Bool → X → Option X → Option X
 put b x others = cond b (Some x) others
 
 -- what the map has at a name once another was put in
-value_put : (name : List ℕ) (es : List Entry) (k : Vec ℕ Global) (v : Option ℕ) → value_of (insert_entry name_cmp es k v) name ≡ put (bytes_eq name k.items) v (value_of es name)
-value_put name [] k v = ap (λ b. cond b (Some v) None) (tests name k)
-value_put name (e ∷ es) k v = by (name_cmp k e.0) refl (value_put name es k v)
+pub value_put : (name : List ℕ) (es : List Entry) (k : String Global) (v : ℕ) → value_of (insert_entry string_eq es k v) name ≡ put (bytes_eq name (string_bytes k)) v (value_of es name)
+value_put name [] k v = refl
+value_put name (e ∷ es) k v = by (string_eq k e.0) refl (value_put name es k v)
   where
-    first : (rest : Option (Option ℕ)) (x : Option ℕ) (j : Vec ℕ Global) → cond (is_at (λ (x : Vec ℕ Global). slice_cmp nat_cmp name x.items) j) (Some x) rest ≡ put (bytes_eq name j.items) x rest
-    first rest x j = ap (λ b. cond b (Some x) rest) (tests name j)
-
-    over : (b : Bool) (x : Option ℕ) (rest : Option (Option ℕ)) → put b v rest ≡ put b v (put b x rest)
+    over : (b : Bool) (x : ℕ) (rest : Option ℕ) → put b v rest ≡ put b v (put b x rest)
     over true x rest = refl
     over false x rest = refl
 
-    swap : (b c : Bool) → bytes_eq name e.0.items ≡ b → bytes_eq name k.items ≡ c → name_cmp k e.0 ≡ Greater → put b e.1 (put c v (value_of es name)) ≡ put c v (put b e.1 (value_of es name))
-    swap true true p q g = absurd (not_same k.items e.0.items g (sym ((bytes_eq-Decides name k.items).0 q) ∙ (bytes_eq-Decides name e.0.items).0 p))
-    swap true false p q g = refl
-    swap false true p q g = refl
-    swap false false p q g = refl
+    apart : string_eq k e.0 ≡ false → bytes_eq name (string_bytes k) ≡ true → bytes_eq name (string_bytes e.0) ≡ true → ⊥
+    apart q p r = let same = (bytes_eq-Decides (string_bytes k) (string_bytes e.0)).1 (sym ((bytes_eq-Decides name (string_bytes k)).0 p) ∙ (bytes_eq-Decides name (string_bytes e.0)).0 r) in let f : true ≡ false = sym same ∙ q in cc
 
-    by : (o : Ordering) → name_cmp k e.0 ≡ o → value_of (insert_entry name_cmp es k v) name ≡ put (bytes_eq name k.items) v (value_of es name)
-        → value_of (match_ordering o ((k, v) ∷ e ∷ es) ((e.0, v) ∷ es) (e ∷ insert_entry name_cmp es k v)) name ≡ put (bytes_eq name k.items) v (value_of (e ∷ es) name)
-    by Less h rest = first (value_of (e ∷ es) name) v k
-    by Equal h rest =
-        first (value_of es name) v e.0 ∙ ap (λ x. put (bytes_eq name x) v (value_of es name)) (sym (same_bytes k.items e.0.items h)) ∙ over (bytes_eq name k.items) e.1 (value_of es name)
-        ∙ ap (λ x. put (bytes_eq name k.items) v (put (bytes_eq name x) e.1 (value_of es name))) (same_bytes k.items e.0.items h)
-        ∙ ap (put (bytes_eq name k.items) v) (sym (first (value_of es name) e.1 e.0))
-    by Greater h rest =
-        first (value_of (insert_entry name_cmp es k v) name) e.1 e.0 ∙ ap (put (bytes_eq name e.0.items) e.1) rest ∙ swap (bytes_eq name e.0.items) (bytes_eq name k.items) refl refl h
-        ∙ ap (put (bytes_eq name k.items) v) (sym (first (value_of es name) e.1 e.0))
+    swap : (b c : Bool) → string_eq k e.0 ≡ false → bytes_eq name (string_bytes e.0) ≡ b → bytes_eq name (string_bytes k) ≡ c → put b e.1 (put c v (value_of es name)) ≡ put c v (put b e.1 (value_of es name))
+    swap true true q p r = absurd (apart q r p)
+    swap true false q p r = refl
+    swap false true q p r = refl
+    swap false false q p r = refl
+
+    by : (b : Bool) → string_eq k e.0 ≡ b → value_of (insert_entry string_eq es k v) name ≡ put (bytes_eq name (string_bytes k)) v (value_of es name)
+        → value_of (if b then (e.0, v) ∷ es else e ∷ insert_entry string_eq es k v) name ≡ put (bytes_eq name (string_bytes k)) v (value_of (e ∷ es) name)
+    by true q rest =
+        let same : string_bytes k ≡ string_bytes e.0 = (bytes_eq-Decides (string_bytes k) (string_bytes e.0)).0 q in
+        over (bytes_eq name (string_bytes e.0)) e.1 (value_of es name)
+        ∙ ap (λ x. put (bytes_eq name x) v (put (bytes_eq name (string_bytes e.0)) e.1 (value_of es name))) (sym same)
+    by false q rest =
+        ap (put (bytes_eq name (string_bytes e.0)) e.1) rest
+        ∙ swap (bytes_eq name (string_bytes e.0)) (bytes_eq name (string_bytes k)) q refl refl
 
 same_name : (a b : List ℕ) → bytes_eq a b ≡ bytes_eq b a
 same_name a b = by (bytes_eq a b) (bytes_eq b a) refl refl
@@ -135,31 +115,109 @@ find_more name xs e h = by (bytes_eq name e.name) refl
     by true q = at_end name xs e q (ap (λ x. find_export x xs) ((bytes_eq-Decides name e.name).0 q) ∙ h)
     by false q = behind name xs e q
 
--- as far as the exports are noted
-pub record Noted (entries : List Entry) (exports : List Export) (count : ℕ) : Type 0 where
-  pub names : AreNames entries (take count exports)
+-- the names that were seen are those of the exports so far, which are distinct
+pub record Seen {K : Type 0} (text : K → List ℕ) (keys : List K) (exports : List Export) (count : ℕ) : Type 0 where
+  pub has : (name : List ℕ) → list_any (λ k. bytes_eq name (text k)) keys ≡ is_some (find_export name (take count exports))
   pub distinct_names : distinct (take count exports) ≡ true
 
-next_noted : (entries later : List Entry) (exports : List Export) (count : ℕ) (e : Export) (k : Vec ℕ Global) (v : Option ℕ) → count < length exports → Noted entries exports count → get_or exports count e ≡ e
-    → k.items ≡ e.name → v ≡ function_index e.kind e.index → lookup (is_at (name_cmp k)) entries ≡ None → later ≡ insert_entry name_cmp entries k v → Noted later exports (suc count)
-next_noted entries later exports count e k v l n g ks vs h p =
-    let t : take (suc count) exports ≡ take count exports ++ e ∷ [] = take-suc exports count e l ∙ ap (λ x. take count exports ++ x ∷ []) g in
-    let f : find_export e.name (take count exports) ≡ None = sym (ap (λ x. find_export x (take count exports)) ks) ∙ sym (n.names k.items) ∙ h in
-    record {
-      names = λ name.
-          ap (λ x. value_of x name) p ∙ value_put name entries k v ∙ ap (put (bytes_eq name k.items) v) (n.names name)
-          ∙ ap (λ x. put (bytes_eq name x) v (find_export name (take count exports))) ks ∙ ap (λ x. put (bytes_eq name e.name) x (find_export name (take count exports))) vs
-          ∙ sym (find_more name (take count exports) e f) ∙ ap (find_export name) (sym t);
-      distinct_names = ap distinct t ∙ distinct_more (take count exports) e n.distinct_names f;
-    }
+one_more : (exports : List Export) (count : ℕ) (e : Export) → count < length exports → get_or exports count e ≡ e → take (count + 1) exports ≡ take count exports ++ e ∷ []
+one_more exports count e l g =
+    ap (λ n. take n exports) (let q : count + 1 ≡ suc count = omega arith in q) ∙ take-suc exports count e l ∙ ap (λ x. take count exports ++ x ∷ []) g
 
-pub note_next : (entries later : List Entry) (exports : List Export) (count : ℕ) (e : Export) (k : Vec ℕ Global) (v : Option ℕ) → count < length exports → Noted entries exports count → get_or exports count e ≡ e
-    → k.items ≡ e.name → v ≡ function_index e.kind e.index → lookup (is_at (name_cmp k)) entries ≡ None → later ≡ insert_entry name_cmp entries k v → Noted later exports (count + 1)
-note_next entries later exports count e k v l n g ks vs h p = subst (Noted later exports) (let q : suc count ≡ count + 1 = omega arith in q) (next_noted entries later exports count e k v l n g ks vs h p)
+is_some_none : {X : Type 0} (o : Option X) → is_some o ≡ false → o ≡ None
+is_some_none None h = refl
+is_some_none (Some x) h = cc
 
-pub noted_twice : (entries : List Entry) (exports : List Export) (count : ℕ) (e : Export) (k : Vec ℕ Global) (v : Option ℕ) → count < length exports → Noted entries exports count → get_or exports count e ≡ e
-    → k.items ≡ e.name → lookup (is_at (name_cmp k)) entries ≡ Some v → distinct exports ≡ false
-noted_twice entries exports count e k v l n g ks h =
-    let f : find_export e.name (take count exports) ≡ Some v = sym (ap (λ x. find_export x (take count exports)) ks) ∙ sym (n.names k.items) ∙ h in
-    let d : drop count exports ≡ e ∷ drop (suc count) exports = drop-cons exports count e l ∙ ap (λ x. x ∷ drop (suc count) exports) g in
-    ap distinct (sym (take-append-drop count exports) ∙ ap (λ x. take count exports ++ x) d) ∙ twice (take count exports) (drop (suc count) exports) e v f
+any_push : {K : Type 0} (test : K → Bool) (keys : List K) (k : K) → list_any test (keys ++ k ∷ []) ≡ (test k || list_any test keys)
+any_push test [] k = refl
+any_push test (x ∷ xs) k = ap (λ b. test x || b) (any_push test xs k) ∙ turn (test x) (test k) (list_any test xs)
+  where
+    turn : (a b c : Bool) → (a || (b || c)) ≡ (b || (a || c))
+    turn true true c = refl
+    turn true false c = refl
+    turn false true c = refl
+    turn false false c = refl
+
+some_put : {X : Type 0} (b : Bool) (x : X) (o : Option X) → is_some (put b x o) ≡ (b || is_some o)
+some_put true x o = refl
+some_put false x o = refl
+
+module _ {K : Type 0} (text : K → List ℕ) (keys later : List K) (exports : List Export) (count : ℕ) (e : Export) (k : K) where
+  new_name : Seen text keys exports count → text k ≡ e.name → list_any (λ x. bytes_eq (text k) (text x)) keys ≡ false → find_export e.name (take count exports) ≡ None
+  new_name n ks h = is_some_none (find_export e.name (take count exports)) (sym (ap (λ x. is_some (find_export x (take count exports))) ks) ∙ sym (n.has (text k)) ∙ h)
+
+  pub seen_next : count < length exports → Seen text keys exports count → get_or exports count e ≡ e → text k ≡ e.name → list_any (λ x. bytes_eq (text k) (text x)) keys ≡ false → later ≡ keys ++ k ∷ []
+      → Seen text later exports (count + 1)
+  seen_next l n g ks h p =
+      let t = one_more exports count e l g in
+      let f = new_name n ks h in
+      record {
+        has = λ name.
+            ap (list_any (λ x. bytes_eq name (text x))) p ∙ any_push (λ x. bytes_eq name (text x)) keys k ∙ ap (λ b. bytes_eq name (text k) || b) (n.has name)
+            ∙ ap (λ x. bytes_eq name x || is_some (find_export name (take count exports))) ks
+            ∙ sym (some_put (bytes_eq name e.name) (function_index e.kind e.index) (find_export name (take count exports)))
+            ∙ ap is_some (sym (find_more name (take count exports) e f)) ∙ ap (λ x. is_some (find_export name x)) (sym t);
+        distinct_names = ap distinct t ∙ distinct_more (take count exports) e n.distinct_names f;
+      }
+
+found_twice : (exports : List Export) (count : ℕ) (e : Export) → count < length exports → get_or exports count e ≡ e → is_some (find_export e.name (take count exports)) ≡ true → distinct exports ≡ false
+found_twice exports count e l g h = by (find_export e.name (take count exports)) refl h
+  where
+    d : drop count exports ≡ e ∷ drop (suc count) exports
+    d = drop-cons exports count e l ∙ ap (λ x. x ∷ drop (suc count) exports) g
+
+    by : (o : Option (Option ℕ)) → find_export e.name (take count exports) ≡ o → is_some o ≡ true → distinct exports ≡ false
+    by None q k = cc
+    by (Some v) q k = ap distinct (sym (take-append-drop count exports) ∙ ap (λ x. take count exports ++ x) d) ∙ twice (take count exports) (drop (suc count) exports) e v q
+
+pub seen_twice : {K : Type 0} (text : K → List ℕ) (keys : List K) (exports : List Export) (count : ℕ) (e : Export) (k : K) → count < length exports → Seen text keys exports count → get_or exports count e ≡ e
+    → text k ≡ e.name → list_any (λ x. bytes_eq (text k) (text x)) keys ≡ true → distinct exports ≡ false
+seen_twice text keys exports count e k l n g ks h =
+    found_twice exports count e l g (sym (ap (λ x. is_some (find_export x (take count exports))) ks) ∙ sym (n.has (text k)) ∙ h)
+
+pub was_there : (there added : Bool) → added ≡ not there → added ≡ false → there ≡ true
+was_there true added h k = refl
+was_there false true h k = cc
+was_there false false h k = cc
+
+pub was_new : (there added : Bool) → added ≡ not there → added ≡ true → there ≡ false
+was_new true true h k = cc
+was_new true false h k = cc
+was_new false added h k = refl
+
+pub pushed : {K : Type 0} (there : Bool) (keys : List K) (k : K) → there ≡ false → (if there then keys else keys ++ k ∷ []) ≡ keys ++ k ∷ []
+pushed true keys k h = cc
+pushed false keys k h = refl
+
+-- an export more in the map
+pub names_next : (entries later : List Entry) (exports : List Export) (count : ℕ) (e : Export) → count < length exports → distinct exports ≡ true → get_or exports count e ≡ e
+    → AreNames entries (take count exports) → AddsExport entries e later → AreNames later (take (count + 1) exports)
+names_next entries later exports count e l d g n a =
+    let t = one_more exports count e l g in
+    let f : find_export e.name (take count exports) ≡ None = new (find_export e.name (take count exports)) refl in
+    λ name u.
+    a name u ∙ ap (put_function (bytes_eq name e.name) (function_index e.kind e.index)) (n name u)
+    ∙ puts (bytes_eq name e.name) (function_index e.kind e.index) (find_export name (take count exports)) (λ q. ap (λ x. find_export x (take count exports)) ((bytes_eq-Decides name e.name).0 q) ∙ f)
+    ∙ ap only_some (sym (find_more name (take count exports) e f) ∙ ap (find_export name) (sym t))
+  where
+    new : (o : Option (Option ℕ)) → find_export e.name (take count exports) ≡ o → find_export e.name (take count exports) ≡ None
+    new None q = q
+    new (Some v) q = let no : true ≡ false = sym d ∙ found_twice exports count e l g (ap is_some q) in cc
+
+    puts : (b : Bool) (function : Option ℕ) (o : Option (Option ℕ)) → (b ≡ true → o ≡ None) → put_function b function (only_some o) ≡ only_some (put b function o)
+    puts true (Some index) o h = refl
+    puts true None o h = ap only_some (h refl)
+    puts false function o h = refl
+
+-- the map with a function put in
+pub adds : (names later : List Entry) (e : Export) (k : String Global) → function_index e.kind e.index ≡ Some e.index → string_bytes k ≡ e.name → later ≡ insert_entry string_eq names k e.index → AddsExport names e later
+adds names later e k is ks p = λ name u.
+    ap (λ x. value_of x name) p ∙ value_put name names k e.index ∙ ap (λ x. put (bytes_eq name x) e.index (value_of names name)) ks
+    ∙ with_it (bytes_eq name e.name) (value_of names name) ∙ ap (λ o. put_function (bytes_eq name e.name) o (value_of names name)) (sym is)
+  where
+    with_it : (b : Bool) (others : Option ℕ) → put b e.index others ≡ put_function b (Some e.index) others
+    with_it true others = refl
+    with_it false others = refl
+
+pub all_names : (names : List Entry) (exports : List Export) (count : ℕ) → length exports ≤ count → AreNames names (take count exports) → AreNames names exports
+all_names names exports count h n = subst (AreNames names) (take_all count exports h) n

@@ -1,11 +1,8 @@
 -- Exported functions by name. WebAssembly Core 1.0, structure and validation, exports.
-use Rattle.std.specs.Prelude.{◌≡◌, ℕ, ◌&&◌, Bool, true, false, List, [], ◌∷◌, Option, Some, None, is_none, Vec}
+use Rattle.std.specs.Prelude.{◌≡◌, ℕ, ◌&&◌, Bool, true, false, List, [], ◌∷◌, Option, Some, None, is_none, String, string_bytes}
 use Rattle.std.specs.Global.{Global}
-use Rattle.std.specs.Str.{bytes_eq}
+use Rattle.std.specs.Str.{IsUtf8, bytes_eq}
 use Rattle.std.specs.Map.{lookup}
-use Rattle.std.specs.BTreeMap.{is_at}
-use Rattle.std.specs.Cmp.Lexicographic.{slice_cmp}
-use Rattle.std.specs.Ordering.{nat_cmp}
 use Rattle.wasm_types.specs.declared.modules.Export.{Export}
 use Rattle.wasm_types.specs.declared.modules.ExportKind.{ExportKind}
 use Rattle.wasm_types.specs.declared.modules.ExportKind.TheVariants as export
@@ -40,9 +37,19 @@ abbrev pub exported_function : List Export → List ℕ → Option ℕ
 exported_function exports name = only_some (find_export name exports)
 
 -- what a map by name has at a name
-abbrev pub value_of : List (Vec ℕ Global × Option ℕ) → List ℕ → Option (Option ℕ)
-value_of names name = lookup (is_at (λ (k : Vec ℕ Global). slice_cmp nat_cmp name k.items)) names
+abbrev pub value_of : List (String Global × ℕ) → List ℕ → Option ℕ
+value_of names name = lookup (λ k. bytes_eq name (string_bytes k)) names
 
--- a map by name has at each name what the exports have
-abbrev pub AreNames : List (Vec ℕ Global × Option ℕ) → List Export → Type 0
-AreNames names exports = (name : List ℕ) → value_of names name ≡ find_export name exports
+-- a map by name has at each text the function that is exported under it
+abbrev pub AreNames : List (String Global × ℕ) → List Export → Type 0
+AreNames names exports = (name : List ℕ) → IsUtf8 name → value_of names name ≡ exported_function exports name
+
+-- with a function, if there is one, at a name
+abbrev pub put_function : Bool → Option ℕ → Option ℕ → Option ℕ
+put_function true (Some index) others = Some index
+put_function true None others = others
+put_function false function others = others
+
+-- at each text a map by name has the function that is exported, if it is the export's name, and else what it had
+abbrev pub AddsExport : List (String Global × ℕ) → Export → List (String Global × ℕ) → Type 0
+AddsExport names e later = (name : List ℕ) → IsUtf8 name → value_of later name ≡ put_function (bytes_eq name e.name) (function_index e.kind e.index) (value_of names name)

@@ -9,6 +9,7 @@ mod labels;
 mod laws;
 mod limits;
 mod locals;
+mod name_hasher;
 mod profile;
 mod rules;
 mod stacks;

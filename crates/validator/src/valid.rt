@@ -11,12 +11,13 @@ use crate::exports::names_of;
 use crate::fault::{CheckFault, ValidFault};
 use crate::function::check_function;
 use crate::limits::keeps_limits;
+use crate::name_hasher::NameHasher;
 use crate::rules::keeps_rules;
 use crate::stacks::Stacks;
 use crate::table::type_of_function;
 use control_flow::{TargetFinder, Targets};
+use indexmap::IndexMap;
 use std::alloc::Global;
-use std::collections::BTreeMap;
 use std::marker::Model;
 use wasm_types::Module;
 
@@ -25,8 +26,8 @@ use wasm_types::Module;
 #[derive(Drop)]
 pub struct Valid {
     module: Module,
-    // The names of the exports, each with the index of the function that it names, if it names one.
-    names: BTreeMap<Vec<u8>, Option<u32>>,
+    // The index of each function that is exported under a name in UTF-8.
+    names: IndexMap<String, u32, NameHasher>,
     // The targets of each function.
     targets: Vec<Targets>,
 }
@@ -63,7 +64,12 @@ pub fn validate(alloc: Global, module: Module) -> Result<Valid, ValidFault>
             instruction: 0,
         });
     }
-    let Some(names) = names_of(alloc, module.exports.as_slice())? else {
+    let Some(names) = names_of(
+        alloc,
+        NameHasher::of(module.source.as_slice()),
+        module.exports.as_slice(),
+    )?
+    else {
         return Err(ValidFault::Invalid {
             function: None,
             instruction: 0,
@@ -164,10 +170,7 @@ impl Valid {
     pub fn export(&self, name: &str) -> Option<u32>
         ensures { result ≡ exported_function self.now.exports name.now }
     {
-        match self.names.get(name.as_bytes()) {
-            None => None,
-            Some(found) => *found,
-        }
+        self.names.get(name).copied()
     }
 
     /// How many functions there are. It takes no memory.
