@@ -96,10 +96,10 @@ IsTold tells true r fault = (text : List ℕ) × IsReason r fault text × tells 
 abbrev pub odd_line : ℕ → List ℕ → List ℕ
 odd_line number bytes = codes "error: word " ++ (decimal number ++ (codes " of the command line is not UTF-8: " ++ (quoted bytes ++ codes "\n")))
 
--- what is said where words of the command line are no text: which of them, or just that one is
-abbrev pub IsNotText : Option OddWord → List ℕ → Type 0
-IsNotText None text = text ≡ codes "error: a word of the command line is not UTF-8\n"
-IsNotText (Some word) text = (text ≡ odd_line word.number word.bytes.now) ⊎ (text ≡ codes "error: a word of the command line is not UTF-8\n")
+-- what is said where words of the command line are no text: which of them, where that is known, or just that one is
+abbrev pub not_text_line : Option OddWord → List ℕ
+not_text_line None = codes "error: a word of the command line is not UTF-8\n"
+not_text_line (Some word) = odd_line word.number word.bytes.now
 
 module _ (took : List ℕ → Type 0) where
   -- the output took such a text

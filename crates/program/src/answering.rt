@@ -1,17 +1,18 @@
 //! What the words of a command line do.
 
-ghost use Rattle.std.specs.Prelude.{◌≡◌, ◌<◌, ◌-◌, ◌^◌, ◌⊎◌, ◌++◌, ◌+◌, ℕ, List, [], ◌∷◌, Err, OnOk, OnErr, IfErr, Some, codes, map};
+ghost use Rattle.std.specs.Prelude.{◌≡◌, ◌<◌, ◌-◌, ◌^◌, ◌⊎◌, ◌++◌, ◌+◌, List, [], ◌∷◌, Err, OnOk, OnErr, IfErr, Some, map};
 ghost use Rattle.std.specs.IoError.{error_kind};
 ghost use Rattle.commands.specs.Texts.{skipped_text};
 ghost use Rattle.commands.specs.declared.fault.Fault.TheVariants as faults;
 ghost use Rattle.replica.specs.declared.fault.GatherFault.TheVariants as gathering;
 ghost use Rattle.replica.specs.Lines.{IsDeviceFault};
-ghost use Rattle.program.specs.Answers.{WritesSome, IsShown, IsCut, IsListedSkipping, IsDone, IsStopped, IsAnswered, IsNotText, fault_line, fault_of, form_of};
+ghost use Rattle.program.specs.Answers.{WritesSome, IsShown, IsCut, IsListedSkipping, IsDone, IsStopped, IsAnswered, fault_line, fault_of, form_of, not_text_line, odd_line};
 
 use crate::refusing::{refuse, refuse_request};
 use arrayvec::ArrayString;
 use command_words::{Asked, Request, requested};
 use commands::{Fault, Files, RecordAnswer, check, record, replay, skipped_text, view};
+use itoa::Buffer;
 use log::Log;
 use quoted_bytes::Quoted;
 use replica::{
@@ -19,7 +20,6 @@ use replica::{
 };
 use std::alloc::Global;
 use std::convert::AsStr;
-use std::fmt::Write;
 use std::io::{self, ErrorKind};
 use std::sync::Wait;
 use std::thread::Threads;
@@ -192,28 +192,18 @@ pub struct OddWord<'a> {
     pub bytes: &'a [u8],
 }
 
-/// What is said of a word that is not UTF-8: its number and its bytes, as they are quoted.
-fn not_text(word: &OddWord<'_>) -> ArrayString<128>
-    ensures { IsNotText (Some word.now) result.bytes }
+/// What is said of a word that is not UTF-8: its number and its bytes, as they are quoted. It has at most 110 bytes.
+fn not_text(word: &OddWord<'_>) -> ArrayString<110>
+    ensures { result.bytes ≡ odd_line word.now.number word.now.bytes.now }
 {
-    let number = word.number;
+    let mut number = Buffer::new();
     let bytes = Quoted { bytes: word.bytes };
-    let mut text = ArrayString::<128>::new();
-    match write!(
-        text,
-        "error: word {number} of the command line is not UTF-8: {bytes}\n"
-    ) {
-        Ok(()) => text,
-        Err(_) => plainly_not_text(),
-    }
-}
-
-/// The same without number and bytes.
-fn plainly_not_text() -> ArrayString<128>
-    ensures { result.bytes ≡ codes "error: a word of the command line is not UTF-8\n" }
-{
-    let mut text = ArrayString::<128>::new();
-    text.push_str(NOT_UTF_8);
+    let mut text = ArrayString::<110>::new();
+    text.push_str("error: word ");
+    text.push_str(number.format(word.number));
+    text.push_str(" of the command line is not UTF-8: ");
+    text.push_str(bytes.text().as_str());
+    text.push_str("\n");
     text
 }
 
@@ -222,7 +212,7 @@ fn plainly_not_text() -> ArrayString<128>
 pub fn refuse_words<E: Sink>(errors: &mut E, error: &io::Error, odd: Option<OddWord<'_>>) -> u8
     requires { E.failed errors.old < 2 ^ 64 - 1 }
     ensures no_memory { error_kind error.now ≡ ErrorKind.OutOfMemory → (result ≡ 1) × ((E.takes errors.old (fault_line faults.NoMemory) errors.new) ⊎ (E.failed errors.new ≡ E.failed errors.old + 1)) }
-    ensures not_text { (error_kind error.now ≡ ErrorKind.OutOfMemory → ⊥) → (result ≡ 2) × (((text : List ℕ) × IsNotText odd.entry text × E.takes errors.old text errors.new) ⊎ (E.failed errors.new ≡ E.failed errors.old + 1)) }
+    ensures not_text { (error_kind error.now ≡ ErrorKind.OutOfMemory → ⊥) → (result ≡ 2) × ((E.takes errors.old (not_text_line odd.entry) errors.new) ⊎ (E.failed errors.new ≡ E.failed errors.old + 1)) }
 {
     match (error.kind(), odd) {
         (ErrorKind::OutOfMemory, _) => refuse(errors, &Fault::NoMemory),

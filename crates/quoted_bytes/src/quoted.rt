@@ -1,8 +1,9 @@
 //! Quoted bytes.
 
-ghost use Rattle.std.specs.Prelude.{◌≡◌, take};
-ghost use Rattle.quoted_bytes.specs.Quotes.{shown, rest};
+ghost use Rattle.std.specs.Prelude.{◌≡◌, ◌<◌, take};
+ghost use Rattle.quoted_bytes.specs.Quotes.{shown, rest, quoted};
 
+use arrayvec::ArrayString;
 use std::fmt;
 
 /// The most bytes that are shown.
@@ -17,7 +18,8 @@ pub struct Quoted<'a> {
 
 /// The character that stands for a byte.
 fn shown(byte: u8) -> char
-    ensures { result ≡ shown byte }
+    ensures shown { result ≡ shown byte }
+    ensures ascii { result < 128 }
 {
     match byte {
         0x20..=0x7E => char::from(byte),
@@ -43,17 +45,27 @@ fn rest(bytes: &[u8]) -> &'static str
     if bytes.len() > MOST_SHOWN { ".." } else { "" }
 }
 
+impl<'a> Quoted<'a> {
+    /// The text that is shown: the first 40 bytes, and `..` where there are more. It takes no memory.
+    pub fn text(&self) -> ArrayString<42>
+        ensures { result.bytes ≡ quoted self.now.bytes.now }
+    {
+        let mut text = ArrayString::<42>::new();
+        for byte in first(self.bytes) {
+            text.push(shown(*byte));
+        }
+        text.push_str(rest(self.bytes));
+        text
+    }
+}
+
 impl<'a> fmt::Display for Quoted<'a> {
     ghost use Rattle.std.specs.Prelude.{Some};
     ghost use Rattle.quoted_bytes.specs.Quotes.{quoted};
 
     ghost output = { λ q. Some (quoted q.bytes.now) };
 
-    /// The first 40 bytes, and `..` where there are more.
     fn fmt<W: fmt::Write>(&self, f: &mut fmt::Formatter<W>) -> fmt::Result {
-        for byte in first(self.bytes) {
-            write!(f, "{}", shown(*byte))?;
-        }
-        f.write_str(rest(self.bytes))
+        f.write_str(self.text().as_str())
     }
 }
