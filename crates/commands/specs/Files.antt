@@ -15,9 +15,9 @@ IsFileFault fails NoMemory = Unit {0}
 
 module _ {Stream : Type 0} (brings : Stream → List ℕ → Stream → Type 0) (failed : Stream → ℕ) (ended : Stream → Type 0) where
   -- the stream stands at the first byte of a file: what it brings begins the file, and is the whole file where nothing more
-  -- comes; a call of it fails only where the file may fail
+  -- comes; the file may fail where the stream comes to a state in which more calls failed than when it was opened
   pub record IsOpened (holds : List ℕ → Type 0) (fails : Type 0) (stream : Stream) : Type 0 where
     pub begins : (came : List ℕ) (later : Stream) → brings stream came later → (rest : List ℕ) × holds (came ++ rest)
     pub whole : (came : List ℕ) (later : Stream) → brings stream came later → ended later → holds came
     pub none_failed : failed stream ≡ 0
-    pub breaks : (came : List ℕ) (later : Stream) → brings stream came later → 0 < failed later → fails
+    pub breaks : (came : List ℕ) (later : Stream) → brings stream came later → failed stream < failed later → fails

@@ -72,7 +72,7 @@ impl Chunk {
         ensures brought { OnOk result (R.brings source.old self.new source.new) }
         ensures few { OnOk result (length self.new ≤ 65536) }
         ensures ended { OnOk result (self.new ≡ [] → R.ended source.new) }
-        ensures fewer { OnOk result (R.calls source.new < R.calls source.old) }
+        ensures fewer { OnOk result ((self.new ≡ [] → ⊥) → R.calls source.new < R.calls source.old) }
         ensures none_failed { OnOk result (R.failed source.new ≡ R.failed source.old) }
         ensures one_failed { OnErr result (R.failed source.new ≡ R.failed source.old + 1) }
         ensures nothing_brought { OnErr result (R.brings source.old [] source.new) }

@@ -22,6 +22,7 @@ impl<'a> MemorySource<'a> {
     pub fn new(bytes: &'a [u8], most: usize, fails_at: Option<u64>) -> MemorySource<'a>
         requires { 0 < most }
         ensures bytes { result.rest.now ≡ bytes.now }
+        ensures fails_at { result.fails_at ≡ fails_at }
         ensures none_failed { result.failures ≡ 0 }
     {
         MemorySource {
@@ -35,23 +36,19 @@ impl<'a> MemorySource<'a> {
 }
 
 impl<'a> Source for MemorySource<'a> {
-    ghost use Rattle.std.specs.Prelude.{◌≡◌, ◌++◌, ◌-◌, ◌^◌, []};
+    ghost use Rattle.std.specs.Prelude.{◌≡◌, ◌++◌, [], None, length};
     ghost use Rattle.std.proofs.Common.{refl, ap, ◌∙◌, sym, append_assoc};
 
-    ghost brings = { λ s xs t. s.rest.now ≡ xs ++ t.rest.now };
+    ghost brings = { λ s xs t. (s.rest.now ≡ xs ++ t.rest.now) × (s.fails_at ≡ None → (t.fails_at ≡ None) × (t.failures ≡ s.failures)) };
 
     ghost failed = { λ s. s.failures };
 
-    ghost calls = { λ s. 2 ^ 64 - 1 - s.made };
+    ghost calls = { λ s. length s.rest.now };
 
     ghost ended = { λ s. s.rest.now ≡ [] };
 
     fn read(&mut self, buffer: &mut [u8]) -> Result<usize, Failed> {
-        if self.made == u64::MAX {
-            self.failures += 1;
-            return Err(Failed);
-        }
-        self.made += 1;
+        self.made = self.made.saturating_add(1);
         if self.fails_at == Some(self.made) {
             self.failures += 1;
             return Err(Failed);
@@ -68,9 +65,12 @@ impl<'a> Source for MemorySource<'a> {
         self.failures
     }
 
-    ghost brings_nothing = { λ s. refl };
+    ghost brings_nothing = { λ s. (refl, λ never. (never, refl)) };
 
-    ghost brings_more = { λ s t u xs ys h g. h ∙ ap (λ l. xs ++ l) g ∙ sym (append_assoc xs ys u.rest.now) };
+    ghost brings_more = { λ s t u xs ys h g. (
+      h.0 ∙ ap (λ l. xs ++ l) g.0 ∙ sym (append_assoc xs ys u.rest.now),
+      λ never. let m = h.1 never in let l = g.1 m.0 in (l.0, l.1 ∙ m.1),
+    ) };
 }
 
 /// Bytes that were taken, so many at a call at most. The call of that number, from 1, fails.

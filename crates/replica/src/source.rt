@@ -6,10 +6,11 @@ ghost use Rattle.std.specs.Prelude.{◌≡◌, ℕ, ◌+◌, ◌-◌, ◌^◌, �
 #[derive(Clone, Copy, Debug, PartialEq, Eq)]
 pub struct Failed;
 
-/// What bytes come from, as a file or standard input. A source counts its failing calls, and answers finitely many.
+/// What bytes come from, as a file or standard input. A source counts its failing calls, and only finitely many calls bring bytes.
 ///
 /// `brings` relates two states and the bytes that came between them. A source whose bytes no contract can know,
-/// as standard input, may have it hold always; a source over memory says exactly which bytes come.
+/// as standard input, may have it hold always; a source over memory says exactly which bytes come, and a source of which no
+/// call fails says that no call failed between the two.
 pub trait Source {
     /// That these bytes came, from one state to another.
     ghost brings: { Self → List ℕ → Self → Type 0 };
@@ -17,7 +18,7 @@ pub trait Source {
     /// How many calls failed.
     ghost failed: { Self → ℕ };
 
-    /// How many more calls it answers at most.
+    /// How many more calls bring bytes at most.
     ghost calls: { Self → ℕ };
 
     /// That nothing more comes.
@@ -30,7 +31,7 @@ pub trait Source {
         ensures within { IfOk result (λ n. n ≤ length buffer.old) }
         ensures brought { IfOk result (λ n. brings self.old (take n buffer.new) self.new) }
         ensures end { IfOk result (λ n. n ≡ 0 → ended self.new) }
-        ensures fewer { OnOk result (calls self.new < calls self.old) }
+        ensures fewer { IfOk result (λ n. 0 < n → calls self.new < calls self.old) }
         ensures none_failed { OnOk result (failed self.new ≡ failed self.old) }
         ensures one_failed { OnErr result (failed self.new ≡ failed self.old + 1) }
         ensures nothing_brought { OnErr result (brings self.old [] self.new) };

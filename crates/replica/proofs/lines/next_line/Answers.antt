@@ -56,7 +56,7 @@ loop-line-preserved g c =
     let b = c.loop-line.invariant.begun in
     let w = c.in_ok-take_line.ensures.open (cc (c.if-branch.false)) in
     let l = line_more (c.args.chunk.now ++ b.0) c.loop-line.line.items c.loop-line.chunk c.take_line.new.self c.take_line.new.line.items b.2 b.3 w.0 w.2 in
-    let fewer : g.R.Source.calls c.refill.new.source < g.R.Source.calls c.loop-line.source = c.in-Ok.ensures.fewer in
+    let fewer : g.R.Source.calls c.refill.new.source < g.R.Source.calls c.loop-line.source = c.in-Ok.ensures.fewer (λ none. let e = c.is_empty.ensures.1 none in absurd cc) in
     let few : length c.refill.new.self ≤ 65536 = c.in-Ok.ensures.few in
     record {
       begun = (

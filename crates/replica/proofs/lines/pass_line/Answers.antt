@@ -29,7 +29,7 @@ loop-chunk-preserved g c =
     let b = c.loop-chunk.invariant.passed in
     let w = c.in_ok-take_line.ensures.open (cc (c.if-branch.false)) in
     let l = line_more (c.args.chunk.now ++ b.0) b.1 c.loop-chunk.chunk c.take_line.new.self (b.1 ++ c.loop-chunk.chunk) b.3 b.4 w.0 refl in
-    let fewer : g.R.Source.calls c.refill.new.source < g.R.Source.calls c.loop-chunk.source = c.in-Ok.ensures.fewer in
+    let fewer : g.R.Source.calls c.refill.new.source < g.R.Source.calls c.loop-chunk.source = c.in-Ok.ensures.fewer (λ none. let e = c.is_empty.ensures.1 none in absurd cc) in
     let few : length c.refill.new.self ≤ 65536 = c.in-Ok.ensures.few in
     record {
       passed = (
