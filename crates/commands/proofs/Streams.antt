@@ -1,6 +1,7 @@
 -- What is gathered from a file that is read as a stream.
 use Rattle.std.proofs.Common.{◌≡◌, ℕ, List, [], ◌++◌, inl, inr, refl, sym, ap, ◌<◌, ◌+◌, arith, Option, Some, None, Result, Ok, Err}
 use Rattle.std.proofs.lemmas.List.{append-nil}
+use Rattle.wasm_types.specs.declared.key.RunKey.{RunKey}
 use Rattle.replica.specs.declared.log.Log.{Log}
 use Rattle.replica.specs.declared.fault.GatherFault.{GatherFault}
 use Rattle.replica.specs.declared.fault.GatherFault.TheVariants as gathering
@@ -33,20 +34,20 @@ module _ {Stream : Type 0} {brings : Stream → List ℕ → Stream → Type 0} 
   at_end text n reason came bad (inr h) =
       (text, opened.whole text later came h.0, (text, [], sym (append-nil text), record { key = bad.key; pieces = bad.pieces; rest = bad.rest; begins = bad.begins; counted = bad.counted; bad = inr (refl, h.1, h.2) }))
 
-  other_run_in : (n : ℕ) → Refuses (brings stream) later (λ text. IsOtherRun text n) → (bytes : List ℕ) × holds bytes × IsLinesFault bytes (gathering.OtherRun n)
-  other_run_in n h =
+  other_run_in : (n : ℕ) (own first : RunKey) → Refuses (brings stream) later (λ text. IsOtherRun text n own first) → (bytes : List ℕ) × holds bytes × IsLinesFault bytes (gathering.OtherRun n own first)
+  other_run_in n own first h =
       let more : (rest : List ℕ) × holds (h.0 ++ rest) = opened.begins h.0 later h.1 in
       (h.0 ++ more.0, more.1, (h.0, more.0, refl, h.2))
 
   pub fault_in : (fault : GatherFault) → IsCollectFault fault → brings stream [] stream
       → ((n : ℕ) (reason : LineFault) → ◌≡◌ {A = Result (Option Replica) GatherFault} (Err fault) (Err (gathering.BadLine n reason)) → Refuses (brings stream) later (λ text. IsBadLine (ended later) text n))
-      → ((n : ℕ) → ◌≡◌ {A = Result (Option Replica) GatherFault} (Err fault) (Err (gathering.OtherRun n)) → Refuses (brings stream) later (λ text. IsOtherRun text n))
+      → ((n : ℕ) (own first : RunKey) → ◌≡◌ {A = Result (Option Replica) GatherFault} (Err fault) (Err (gathering.OtherRun n own first)) → Refuses (brings stream) later (λ text. IsOtherRun text n own first))
       → (◌≡◌ {A = Result (Option Replica) GatherFault} (Err fault) (Err gathering.SourceFailed) → Refuses (brings stream) later IsCutText × (failed later ≡ failed stream + 1))
       → IsLinesRefused holds fails (lines_fault fault)
   fault_in gathering.NoMemory may nothing bad other broke =
       let more : (rest : List ℕ) × holds ([] ++ rest) = opened.begins [] stream nothing in
       (more.0, more.1, tt)
-  fault_in (gathering.OtherRun n) may nothing bad other broke = other_run_in n (other n refl)
+  fault_in (gathering.OtherRun n own first) may nothing bad other broke = other_run_in n own first (other n own first refl)
   fault_in (gathering.BadLine n reason) may nothing bad other broke =
       let h : Refuses (brings stream) later (λ text. IsBadLine (ended later) text n) = bad n reason refl in
       at_end h.0 n reason h.1 h.2 h.2.bad

@@ -35,7 +35,7 @@ IsLogIn text m plan log = IsLogOfLines text log ⊎ ((text ≡ []) × IsEmptyLog
 
 -- which line is refused, and why; what stands behind it is not judged
 abbrev pub IsLinesFault : List ℕ → GatherFault → Type 0
-IsLinesFault text (gathering.OtherRun line) = (read rest : List ℕ) × (text ≡ read ++ rest) × IsOtherRun read line
+IsLinesFault text (gathering.OtherRun line own first) = (read rest : List ℕ) × (text ≡ read ++ rest) × IsOtherRun read line own first
 IsLinesFault text gathering.NoMemory = Unit {0}
 IsLinesFault text (gathering.BadLine line reason) = (read rest : List ℕ) × (text ≡ read ++ rest) × IsBadLine (rest ≡ []) read line
 IsLinesFault text gathering.SourceFailed = ⊥

@@ -66,7 +66,7 @@ pieces_text cutting.TooMany = codes "refused 32 TooMany"
 pieces_text cutting.NoMemory = codes "refused 23 NoMemory"
 
 abbrev pub gather_text : GatherFault → List ℕ
-gather_text (gathering.OtherRun line) = codes "refused 41 OtherRun " ++ decimal line
+gather_text (gathering.OtherRun line own first) = codes "refused 41 OtherRun " ++ decimal line
 gather_text gathering.NoMemory = codes "refused 42 NoMemory"
 gather_text (gathering.BadLine line reason) = codes "refused 43 BadLine " ++ decimal line
 gather_text gathering.SourceFailed = codes "refused 44 SourceFailed"

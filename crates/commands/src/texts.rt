@@ -157,7 +157,7 @@ fn text_of_gather(fault: &GatherFault) -> ArrayString<64>
     ensures short { array_string_len result ≤ 63 }
 {
     match *fault {
-        GatherFault::OtherRun { line } => numbered("refused 41 OtherRun ", line),
+        GatherFault::OtherRun { line, .. } => numbered("refused 41 OtherRun ", line),
         GatherFault::NoMemory => plain("refused 42 NoMemory"),
         GatherFault::BadLine { line, .. } => numbered("refused 43 BadLine ", line),
         GatherFault::SourceFailed => plain("refused 44 SourceFailed"),

@@ -69,7 +69,7 @@ in_schedule file (scheduling.BadLine line) = at_line file line
 in_schedule file fault = file
 
 abbrev pub in_lines : List ℕ → GatherFault → List ℕ
-in_lines file (gathering.OtherRun line) = at_line file line
+in_lines file (gathering.OtherRun line own first) = at_line file line
 in_lines file (gathering.BadLine line reason) = at_line file line
 in_lines file fault = file
 

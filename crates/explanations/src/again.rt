@@ -6,9 +6,7 @@ ghost use Rattle.thread_plan.specs.Plans.{IsPlanOf};
 use binary_decoder::decode;
 use command_words::ReplayRequest;
 use commands::{FileState, Files, MODULE_BEGINNING, ReplayInput, read_replay_input};
-use line_reasons::line_at;
 use log::Log;
-use log_pieces::{Piece, read_line};
 use std::alloc::Global;
 use validator::{Valid, validate};
 
@@ -57,11 +55,4 @@ pub(crate) fn input_again<L: Log, F: Files>(
         }
     }
     read_replay_input(rt, alloc, files, request).ok()
-}
-
-/// The piece whose line has that number in a file with these bytes; None where it can't be had again.
-pub(crate) fn piece_at(alloc: Global, bytes: &[u8], line: u64) -> Option<Piece> {
-    let mut whole = Vec::from_slice(alloc, line_at(bytes, line)?).ok()?;
-    whole.push(b'\n').ok()?;
-    read_line(alloc, &whole).ok()
 }

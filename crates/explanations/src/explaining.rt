@@ -72,7 +72,7 @@ fn in_lines<'a>(file: &'a str, fault: &GatherFault) -> Place<'a>
     ensures { place_text result ≡ in_lines file.now fault.now }
 {
     match *fault {
-        GatherFault::OtherRun { line } => Place::Line { file, line },
+        GatherFault::OtherRun { line, .. } => Place::Line { file, line },
         GatherFault::BadLine { line, .. } => Place::Line { file, line },
         _ => Place::Whole(file),
     }

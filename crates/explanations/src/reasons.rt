@@ -2,7 +2,7 @@
 
 ghost use Rattle.thread_plan.specs.Plans.{IsPlanOf};
 
-use crate::again::{again, input_again, module_again, piece_at, valid_again};
+use crate::again::{again, input_again, module_again, valid_again};
 use crate::paths::{files_of, module_path, plan_path, replay_of, schedule_path};
 use binary_decoder::decode;
 use byte_reader::DecodeFault;
@@ -21,9 +21,6 @@ use thread_plan::PlanFault;
 use validator::ValidFault;
 use wasm_replay::WasmReplayFault;
 use wasm_types::NoMemory;
-
-/// What is said of a piece line of another run, whose key is not known.
-const OTHER_LINE: &str = "its piece is of another run than that of line 1";
 
 /// The words of an explanation.
 type Words = Result<String, NoMemory>;
@@ -160,42 +157,10 @@ fn size_words(fault: &PiecesFault) -> &'static str {
     }
 }
 
-/// Why the piece of that line does not belong to that of line 1, in the file with these bytes.
-fn other_line_words(alloc: Global, bytes: &[u8], line: u64) -> Words {
-    let Some(own) = piece_at(alloc, bytes, line) else {
-        return words(alloc, OTHER_LINE);
-    };
-    let Some(first) = piece_at(alloc, bytes, 1) else {
-        return words(alloc, OTHER_LINE);
-    };
-    other_line_reason(alloc, own.key(), first.key())
-}
-
-/// The same of the piece lines of a request: what differs in the keys, where the lines can be read again.
-fn other_run_words<F: Files>(
-    alloc: Global,
-    files: &mut F,
-    request: &Request<'_>,
-    line: u64,
-) -> Words {
-    let Some(replay) = replay_of(request) else {
-        return words(alloc, OTHER_LINE);
-    };
-    match again(alloc, files, replay.pieces, None) {
-        Some(bytes) => other_line_words(alloc, &bytes, line),
-        None => words(alloc, OTHER_LINE),
-    }
-}
-
-/// Why piece lines give no log.
-fn gather_words<F: Files>(
-    alloc: Global,
-    files: &mut F,
-    request: &Request<'_>,
-    fault: &GatherFault,
-) -> Words {
+/// Why piece lines give no log; of a line of another run, what differs in the keys.
+fn gather_words(alloc: Global, fault: &GatherFault) -> Words {
     match fault {
-        GatherFault::OtherRun { line } => other_run_words(alloc, files, request, *line),
+        GatherFault::OtherRun { own, first, .. } => other_line_reason(alloc, own, first),
         GatherFault::NoMemory => words(alloc, "memory for the log could not be had"),
         GatherFault::BadLine { reason, .. } => Ok(format!(in alloc; "{reason}")?),
         GatherFault::SourceFailed => words(alloc, "reading it failed"),
@@ -257,7 +222,7 @@ pub(crate) fn reason_of<L: Log, F: Files>(
         Fault::Plan(fault) => plan_words(alloc, files, request, fault),
         Fault::Schedule(fault) => schedule_words(alloc, files, request, fault),
         Fault::Pieces(fault) => words(alloc, size_words(fault)),
-        Fault::Gather(fault) => gather_words(alloc, files, request, fault),
+        Fault::Gather(fault) => gather_words(alloc, fault),
         Fault::Replay(fault) => log_words(rt, alloc, files, request, fault),
         Fault::View(fault) => words(alloc, view_words(fault)),
         Fault::NoMemory => words(alloc, "memory for the answer could not be had"),

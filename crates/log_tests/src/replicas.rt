@@ -12,7 +12,7 @@ use replica::{
 use std::alloc::Global;
 use std::process::Abort;
 use std::test::Fail;
-use wasm_types::{NoMemory, Same};
+use wasm_types::{Block, NoMemory, Profile, RunKey, Same};
 
 // Thread 0 with two writes and its end.
 pub(crate) const WHOLE: &str = "\
@@ -382,22 +382,6 @@ static REFUSED: &[(&[&str], GatherFault)] = &[
             reason: LineFault::NotADigit { column: 1, byte: 0 },
         },
     ),
-    (
-        &[WHOLE, "\n", OTHER_RUN, "\nno piece\n"],
-        GatherFault::OtherRun { line: 2 },
-    ),
-    (
-        &[WHOLE, "\n", FIRST, "\n", OTHER_RUN],
-        GatherFault::OtherRun { line: 3 },
-    ),
-    (
-        &[WHOLE, "\n", BLOCK_64, "\n"],
-        GatherFault::OtherRun { line: 2 },
-    ),
-    (
-        &[BLOCK_64, "\n", WHOLE, "\n"],
-        GatherFault::OtherRun { line: 2 },
-    ),
 ];
 
 #[test]
@@ -406,6 +390,36 @@ fn refused_lines_have_their_numbers(rt: HostRuntime) -> Result<(), Fail> {
         let found = gathered_parts(rt.alloc(), parts)?;
         same(&rt, &found, &failed(*fault, 0, 0), "refused");
     }
+    Ok(())
+}
+
+/// The key of a run of the lines above.
+const fn key(run: u64, profile: Profile) -> RunKey {
+    RunKey {
+        digest: [0xAA; 32],
+        run,
+        profile,
+    }
+}
+
+/// What gathering comes to where that line is the first of another run.
+const fn of_other_run(line: u64, own: RunKey, first: RunKey) -> Gathered {
+    failed(GatherFault::OtherRun { line, own, first }, 0, 0)
+}
+
+#[test]
+fn lines_of_other_runs_are_refused_with_both_keys(rt: HostRuntime) -> Result<(), Fail> {
+    let first = key(1, Profile::One);
+    let second = key(2, Profile::One);
+    let wide = key(1, Profile::Two(Block::least()));
+    let found = gathered_parts(rt.alloc(), &[WHOLE, "\n", OTHER_RUN, "\nno piece\n"])?;
+    same(&rt, &found, &of_other_run(2, second, first), "the run");
+    let found = gathered_parts(rt.alloc(), &[WHOLE, "\n", FIRST, "\n", OTHER_RUN])?;
+    same(&rt, &found, &of_other_run(3, second, first), "the run");
+    let found = gathered_parts(rt.alloc(), &[WHOLE, "\n", BLOCK_64, "\n"])?;
+    same(&rt, &found, &of_other_run(2, wide, first), "the block");
+    let found = gathered_parts(rt.alloc(), &[BLOCK_64, "\n", WHOLE, "\n"])?;
+    same(&rt, &found, &of_other_run(2, first, wide), "the block");
     Ok(())
 }
 

@@ -1,5 +1,6 @@
 -- How a command stops.
 use Rattle.std.proofs.Common.{◌≡◌, ℕ, List, ◌++◌, Bool, true, false, Result, Ok, Err, OnErr, IfErr, inl, inr, sym, subst, refl}
+use Rattle.wasm_types.specs.declared.key.RunKey.{RunKey}
 use Rattle.command_words.specs.declared.requests.Request.{Request}
 use Rattle.command_words.specs.declared.requests.ReplayRequest.{ReplayRequest}
 use Rattle.commands.specs.Replays.{IsReplayRefused}
@@ -32,20 +33,20 @@ module _ (holds : List ℕ → List ℕ → Type 0) (fails brought : List ℕ �
   module _ {T : Type 0} (objects : Bool) where
     stops : (fault : GatherFault)
         → ((n : ℕ) (reason : LineFault) → ◌≡◌ {A = Result T GatherFault} (Err fault) (Err (gathering.BadLine n reason)) → (text : List ℕ) × brought text × IsBadLine ended text n)
-        → ((n : ℕ) → ◌≡◌ {A = Result T GatherFault} (Err fault) (Err (gathering.OtherRun n)) → (text : List ℕ) × brought text × IsOtherRun text n)
+        → ((n : ℕ) (own first : RunKey) → ◌≡◌ {A = Result T GatherFault} (Err fault) (Err (gathering.OtherRun n own first)) → (text : List ℕ) × brought text × IsOtherRun text n own first)
         → (◌≡◌ {A = Result T GatherFault} (Err fault) (Err gathering.SourceFailed) → ((text : List ℕ) × brought text × IsCutText text) × broke)
         → (◌≡◌ {A = Result T GatherFault} (Err fault) (Err gathering.SinkFailed) → IsCut took (IsListed (form_of objects) brought ended) × unwritable)
         → ((◌≡◌ {A = Result T GatherFault} (Err fault) (Err gathering.SinkFailed) → ⊥) → unwritten)
         → IsStopped holds fails brought ended broke took unwritten unwritable (request.Gather false objects) (fault_of fault)
     stops (gathering.BadLine n reason) bad other source sink kept = inl (bad n reason refl, kept (λ e. absurd cc))
-    stops (gathering.OtherRun n) bad other source sink kept = inl (other n refl, kept (λ e. absurd cc))
+    stops (gathering.OtherRun n own first) bad other source sink kept = inl (other n own first refl, kept (λ e. absurd cc))
     stops gathering.NoMemory bad other source sink kept = inl (tt, kept (λ e. absurd cc))
     stops gathering.SourceFailed bad other source sink kept = inl (source refl, kept (λ e. absurd cc))
     stops gathering.SinkFailed bad other source sink kept = let s = sink refl in inr (refl, s.1, s.0)
 
     pub gather_stops : (asked : Request) (told : Fault) (fault : GatherFault) → asked ≡ request.Gather false objects → told ≡ fault_of fault
         → ((n : ℕ) (reason : LineFault) → ◌≡◌ {A = Result T GatherFault} (Err fault) (Err (gathering.BadLine n reason)) → (text : List ℕ) × brought text × IsBadLine ended text n)
-        → ((n : ℕ) → ◌≡◌ {A = Result T GatherFault} (Err fault) (Err (gathering.OtherRun n)) → (text : List ℕ) × brought text × IsOtherRun text n)
+        → ((n : ℕ) (own first : RunKey) → ◌≡◌ {A = Result T GatherFault} (Err fault) (Err (gathering.OtherRun n own first)) → (text : List ℕ) × brought text × IsOtherRun text n own first)
         → (◌≡◌ {A = Result T GatherFault} (Err fault) (Err gathering.SourceFailed) → ((text : List ℕ) × brought text × IsCutText text) × broke)
         → (◌≡◌ {A = Result T GatherFault} (Err fault) (Err gathering.SinkFailed) → IsCut took (IsListed (form_of objects) brought ended) × unwritable)
         → ((◌≡◌ {A = Result T GatherFault} (Err fault) (Err gathering.SinkFailed) → ⊥) → unwritten)
@@ -62,7 +63,7 @@ module _ (holds : List ℕ → List ℕ → Type 0) (fails brought : List ℕ �
         → ((◌≡◌ {A = Result T GatherFault} (Err fault) (Err gathering.SinkFailed) → ⊥) → unwritten)
         → IsStopped holds fails brought ended broke took unwritten unwritable (request.Gather true objects) (fault_of fault)
     skipping (gathering.BadLine n reason) device source sink kept = absurd device
-    skipping (gathering.OtherRun n) device source sink kept = absurd device
+    skipping (gathering.OtherRun n own first) device source sink kept = absurd device
     skipping gathering.NoMemory device source sink kept = inl (tt, kept (λ e. absurd cc))
     skipping gathering.SourceFailed device source sink kept = inl (source refl, kept (λ e. absurd cc))
     skipping gathering.SinkFailed device source sink kept = let s = sink refl in inr (refl, s.1, s.0)

@@ -63,7 +63,7 @@ pub record IsListedSkipping (form : ListingForm) (brought : List ℕ → Type 0)
 
 -- why what the source brought is refused; `broke` says that the source failed
 abbrev pub IsGatherRefused : (List ℕ → Type 0) → Type 0 → Type 0 → Fault → Type 0
-IsGatherRefused brought ended broke (Gather (gathering.OtherRun line)) = (text : List ℕ) × brought text × IsOtherRun text line
+IsGatherRefused brought ended broke (Gather (gathering.OtherRun line own first)) = (text : List ℕ) × brought text × IsOtherRun text line own first
 IsGatherRefused brought ended broke (Gather gathering.NoMemory) = Unit {0}
 IsGatherRefused brought ended broke (Gather (gathering.BadLine line reason)) = (text : List ℕ) × brought text × IsBadLine ended text line
 IsGatherRefused brought ended broke (Gather gathering.SourceFailed) = ((text : List ℕ) × brought text × IsCutText text) × broke

@@ -71,12 +71,11 @@ module _ {Source : Type 0} (brings : List ℕ → Source → Type 0) (step : Sou
       },
     )
 
-    pub all_other : (key : RunKey) (n : ℕ) → key ≡ first.key → RestOther (step source) chunk next key n → Refuses brings next (λ text. IsOtherRun text n)
-    all_other key n is rest = (
+    pub all_other : (key : RunKey) (n : ℕ) (own : RunKey) → key ≡ first.key → RestOther (step source) chunk next key n own → Refuses brings next (λ text. IsOtherRun text n own key)
+    all_other key n own is rest = (
       got ++ rest.got,
       more_brought source next got rest.got came rest.came,
       record {
-        key = key;
         pieces = first ∷ rest.pieces;
         rest = rest.rest;
         begins = subst (λ l. BeginsWith key l (first ∷ rest.pieces) rest.rest) (sym (whole rest.got)) (begins_first key (chunk ++ rest.got) line rest.rest rest.pieces first is_line (sym is) rest.begins);
@@ -86,6 +85,7 @@ module _ {Source : Type 0} (brings : List ℕ → Source → Type 0) (step : Sou
         line = rest.line;
         is_line = rest.is_line;
         stands = rest.stands;
+        of = rest.of;
         other = rest.other;
       },
     )

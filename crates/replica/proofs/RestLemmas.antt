@@ -179,9 +179,9 @@ module _ {Source : Type 0} (brings : List ℕ → Source → Type 0) (step : Sou
           (subst (λ (l : List PieceValue). IsLogOf (Among l) new) (sym (onto_push so_far.pieces (first ∷ []) piece)) (joined (onto so_far.pieces (first ∷ [])) (so_far.items (first ∷ []) has)));
     }
 
-    pub rest_other : (n : ℕ) (piece : PieceValue) (line : List ℕ) → n ≡ min (number + 1) (2 ^ 64 - 1) → IsLineOf line piece
-        → (((behind : List ℕ) × (chunk ++ more ≡ line ++ behind)) ⊎ (chunk ++ more ++ 10 ∷ [] ≡ line)) → piece.key ≢ key_of log → RestOther brings held next (key_of old) n
-    rest_other n piece line is is_line stands other = record {
+    pub rest_other : (n : ℕ) (own : RunKey) (piece : PieceValue) (line : List ℕ) → n ≡ min (number + 1) (2 ^ 64 - 1) → IsLineOf line piece
+        → (((behind : List ℕ) × (chunk ++ more ≡ line ++ behind)) ⊎ (chunk ++ more ++ 10 ∷ [] ≡ line)) → own ≡ piece.key → piece.key ≢ key_of log → RestOther brings held next (key_of old) n own
+    rest_other n own piece line is is_line stands same other = record {
       got = so_far.got ++ more;
       came = more_brought source next so_far.got more so_far.came came;
       pieces = so_far.pieces;
@@ -192,7 +192,8 @@ module _ {Source : Type 0} (brings : List ℕ → Source → Type 0) (step : Sou
       line = line;
       is_line = is_line;
       stands = stands;
-      other = λ e. other (e ∙ sym so_far.run);
+      of = sym same;
+      other = λ e. other (sym same ∙ e ∙ sym so_far.run);
     }
 
     pub so_far_more : (n : ℕ) (piece : PieceValue) (line later : List ℕ) (new : Log) → n ≡ min (number + 1) (2 ^ 64 - 1) → IsLineOf line piece → chunk ++ more ≡ line ++ later → piece.key ≡ key_of log → key_of new ≡ key_of log

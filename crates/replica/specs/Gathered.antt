@@ -53,19 +53,19 @@ pub record IsBadLine (ended : Type 0) (text : List ℕ) (number : ℕ) : Type 0 
   pub counted : number ≡ line_after (length pieces)
   pub bad : HasNoLine ended rest
 
--- the line of that number is the first whose piece is of another run
-pub record IsOtherRun (text : List ℕ) (number : ℕ) : Type 0 where
-  pub key : RunKey
+-- the line of that number is the first whose piece is of another run, that of `own`, than the lines before it, those of `first`
+pub record IsOtherRun (text : List ℕ) (number : ℕ) (own first : RunKey) : Type 0 where
   pub pieces : List PieceValue
   pub rest : List ℕ
-  pub begins : BeginsWith key text pieces rest
+  pub begins : BeginsWith first text pieces rest
   pub some : 0 < length pieces
   pub counted : number ≡ line_after (length pieces)
   pub piece : PieceValue
   pub line : List ℕ
   pub is_line : IsLineOf line piece
   pub stands : ((behind : List ℕ) × (rest ≡ line ++ behind)) ⊎ (rest ++ 10 ∷ [] ≡ line)
-  pub other : piece.key ≢ key
+  pub of : piece.key ≡ own
+  pub other : own ≢ first
 
 -- the text is piece lines of one run, and the beginning of a line
 pub record IsCutText (text : List ℕ) : Type 0 where

@@ -31,8 +31,8 @@ module _ {Source : Type 0} (brings : List ℕ → Source → Type 0) where
     pub counted : number ≡ line_after (suc (length pieces))
     pub bad : HasNoLine ended rest
 
-  -- one of them is the first of another run
-  pub record RestOther (held : List ℕ) (source : Source) (key : RunKey) (number : ℕ) : Type 0 where
+  -- one of them is the first of another run, that of `own`
+  pub record RestOther (held : List ℕ) (source : Source) (key : RunKey) (number : ℕ) (own : RunKey) : Type 0 where
     pub got : List ℕ
     pub came : brings got source
     pub pieces : List PieceValue
@@ -43,7 +43,8 @@ module _ {Source : Type 0} (brings : List ℕ → Source → Type 0) where
     pub line : List ℕ
     pub is_line : IsLineOf line piece
     pub stands : ((behind : List ℕ) × (rest ≡ line ++ behind)) ⊎ (rest ++ 10 ∷ [] ≡ line)
-    pub other : piece.key ≢ key
+    pub of : piece.key ≡ own
+    pub other : own ≢ key
 
   -- they are cut within a line
   pub record RestCut (held : List ℕ) (source : Source) (key : RunKey) : Type 0 where

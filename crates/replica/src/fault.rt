@@ -2,7 +2,7 @@
 
 use line_faults::LineFault;
 use thiserror::Error;
-use wasm_types::NoMemory;
+use wasm_types::{NoMemory, RunKey};
 
 /// Why a piece, or another log, was not joined whole.
 #[derive(Clone, Copy, Debug, PartialEq, Eq, Error)]
@@ -19,15 +19,23 @@ pub enum ReplicaFault {
 /// greatest u64 stays there.
 #[derive(Clone, Copy, Debug, PartialEq, Eq, Error)]
 pub enum GatherFault {
-    /// Refusal 41: that line is the first whose piece is of another run than the lines before it.
+    /// Refusal 41: that line is the first whose piece is of another run than the lines before it. `own` is the key of its piece,
+    /// `first` that of line 1.
     #[error("line {line} is of another run")]
-    OtherRun { line: u64 },
+    OtherRun {
+        line: u64,
+        own: RunKey,
+        first: RunKey,
+    },
     /// Refusal 42: memory could not be had.
     #[error("out of memory")]
     NoMemory,
     /// Refusal 43: that line is the first that is no piece line, for that reason.
     #[error("line {line} is no piece line: {reason}")]
-    BadLine { line: u64, reason: LineFault },
+    BadLine {
+        line: u64,
+        reason: LineFault,
+    },
     /// Refusal 44: a call of the source failed.
     #[error("the source failed")]
     SourceFailed,

@@ -1,7 +1,8 @@
-use Rattle.std.proofs.Common.{◌≡◌, ◌+◌, ap, subst, ◌∙◌}
+use Rattle.std.proofs.Common.{◌≡◌, ◌+◌, ap, sym, subst, ◌∙◌}
+use Rattle.wasm_types.specs.declared.key.RunKey.{RunKey}
 use Rattle.replica.specs.declared.replica.Replica.{Replica}
 use Rattle.replica.specs.Log.{log_of}
-use Rattle.replica.specs.Gathered.{Collects}
+use Rattle.replica.specs.Gathered.{Collects, Refuses, IsOtherRun}
 use Rattle.replica.proofs.CollectLemmas.{first_bad, first_cut, all_gathered, all_bad, all_other, all_cut}
 use Rattle.replica.proofs.gathering.collect.Goals as goal
 
@@ -28,9 +29,11 @@ returns-in-Ok-replica_of-clause-bad_line g c n reason is =
     all_bad (g.R.Source.brings c.args.source.now) g.R.Source.brings (λ s t got more h k. g.met.R.Source.brings_more c.args.source.now s t got more h k) c.in_ok-chunk.chunk next.0 next.1 c.next_piece.new.chunk c.in-Ok-Piece.piece c.next_piece.new.source c.collect_rest.new.source c.in_ok-chunk.ensures next.2 next.3 next.4 (g.R.Source.ended c.collect_rest.new.source) c.in-Ok-replica_of.replica.log.key n c.in-Ok-replica_of.ensures.key (c.in-Err-collect_rest.ensures.bad n reason (cc (is)))
 
 pub returns-in-Ok-replica_of-clause-other_run : goal.returns-in-Ok-replica_of-clause-other_run
-returns-in-Ok-replica_of-clause-other_run g c n is =
+returns-in-Ok-replica_of-clause-other_run g c n own first is =
+    let other = c.in-Err-collect_rest.ensures.other n own first (cc (is)) in
     let next = c.in-Ok-Piece.ensures.piece c.in-Ok-Piece.piece (cc (c.in-Ok-Piece.field-0-is)) in
-    all_other (g.R.Source.brings c.args.source.now) g.R.Source.brings (λ s t got more h k. g.met.R.Source.brings_more c.args.source.now s t got more h k) c.in_ok-chunk.chunk next.0 next.1 c.next_piece.new.chunk c.in-Ok-Piece.piece c.next_piece.new.source c.collect_rest.new.source c.in_ok-chunk.ensures next.2 next.3 next.4 c.in-Ok-replica_of.replica.log.key n c.in-Ok-replica_of.ensures.key (c.in-Err-collect_rest.ensures.other n (cc (is)))
+    subst (λ (key : RunKey). Refuses (g.R.Source.brings c.args.source.now) c.collect_rest.new.source (λ text. IsOtherRun text n own key)) (sym other.0)
+    (all_other (g.R.Source.brings c.args.source.now) g.R.Source.brings (λ s t got more h k. g.met.R.Source.brings_more c.args.source.now s t got more h k) c.in_ok-chunk.chunk next.0 next.1 c.next_piece.new.chunk c.in-Ok-Piece.piece c.next_piece.new.source c.collect_rest.new.source c.in_ok-chunk.ensures next.2 next.3 next.4 c.in-Ok-replica_of.replica.log.key n own c.in-Ok-replica_of.ensures.key other.1)
 
 pub returns-in-Ok-replica_of-clause-source_failed : goal.returns-in-Ok-replica_of-clause-source_failed
 returns-in-Ok-replica_of-clause-source_failed g c is =

@@ -30,16 +30,16 @@ returns-in-Ok-Last-clause-gathered g c =
     c.join.ensures.same_run c.join.ensures.key c.join.ensures.log
 
 pub returns-in-Ok-Last-clause-other : goal.returns-in-Ok-Last-clause-other
-returns-in-Ok-Last-clause-other g c n is =
+returns-in-Ok-Last-clause-other g c n own first is =
     let last = c.in-Ok-Last.ensures.last c.in-Ok-Last.piece (cc (c.in-Ok-Last.field-0-is)) in
-    let other = c.join.ensures.other n (cc (is)) in
-    rest_other (g.R.Source.brings c.args.source.now) g.R.Source.brings (λ s t got more h k. g.met.R.Source.brings_more c.args.source.now s t got more h k) c.args.chunk.now c.args.replica.now.log c.loop-fault.source c.loop-fault.chunk c.loop-fault.replica.log c.loop-fault.number c.loop-fault.invariant.so_far c.next_piece.new.source last.0 last.1 n c.in-Ok-Last.piece (c.loop-fault.chunk ++ last.0 ++ 10 ∷ []) (other.0 ∙ c.saturating_add-number.ensures) last.3 (inr refl) other.1
+    let other = c.join.ensures.other n own first (cc (is)) in
+    (other.2 ∙ c.loop-fault.invariant.so_far.run, rest_other (g.R.Source.brings c.args.source.now) g.R.Source.brings (λ s t got more h k. g.met.R.Source.brings_more c.args.source.now s t got more h k) c.args.chunk.now c.args.replica.now.log c.loop-fault.source c.loop-fault.chunk c.loop-fault.replica.log c.loop-fault.number c.loop-fault.invariant.so_far c.next_piece.new.source last.0 last.1 n own c.in-Ok-Last.piece (c.loop-fault.chunk ++ last.0 ++ 10 ∷ []) (other.0 ∙ c.saturating_add-number.ensures) last.3 (inr refl) other.1 other.3)
 
 pub returns-in-Err-join-clause-other : goal.returns-in-Err-join-clause-other
-returns-in-Err-join-clause-other g c n is =
+returns-in-Err-join-clause-other g c n own first is =
     let next = c.in-Ok-Piece.ensures.piece c.in-Ok-Piece.piece (cc (c.in-Ok-Piece.field-0-is)) in
-    let other = c.in-Err-join.ensures.other n (cc (is)) in
-    rest_other (g.R.Source.brings c.args.source.now) g.R.Source.brings (λ s t got more h k. g.met.R.Source.brings_more c.args.source.now s t got more h k) c.args.chunk.now c.args.replica.now.log c.loop-fault.source c.loop-fault.chunk c.loop-fault.replica.log c.loop-fault.number c.loop-fault.invariant.so_far c.next_piece.new.source next.0 next.2 n c.in-Ok-Piece.piece next.1 (other.0 ∙ c.saturating_add-number.ensures) next.3 (inl (c.next_piece.new.chunk, next.4)) other.1
+    let other = c.in-Err-join.ensures.other n own first (cc (is)) in
+    (other.2 ∙ c.loop-fault.invariant.so_far.run, rest_other (g.R.Source.brings c.args.source.now) g.R.Source.brings (λ s t got more h k. g.met.R.Source.brings_more c.args.source.now s t got more h k) c.args.chunk.now c.args.replica.now.log c.loop-fault.source c.loop-fault.chunk c.loop-fault.replica.log c.loop-fault.number c.loop-fault.invariant.so_far c.next_piece.new.source next.0 next.2 n own c.in-Ok-Piece.piece next.1 (other.0 ∙ c.saturating_add-number.ensures) next.3 (inl (c.next_piece.new.chunk, next.4)) other.1 other.3)
 
 pub loop-fault-preserved : goal.loop-fault-preserved
 loop-fault-preserved g c =
