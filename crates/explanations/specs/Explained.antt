@@ -1,4 +1,5 @@
--- What an explanation says for certain: where the cause of the refusal stands. Its other words are open.
+-- What an explanation says for certain: where the cause of the refusal stands, and of a piece line of another run what differs in its key.
+-- Its other words are open.
 use Rattle.std.specs.Prelude.{◌≡◌, ◌++◌, ℕ, List, codes, Some}
 use Rattle.command_words.specs.declared.requests.Request.{Request}
 use Rattle.command_words.specs.declared.requests.Request.TheVariants.{Gather, Check, Record, Replay, View}
@@ -18,6 +19,7 @@ use Rattle.replay_gate.specs.declared.answers.ReplayFault.{ReplayFault}
 use Rattle.replay_gate.specs.declared.answers.ReplayFault.TheVariants as replaying
 use Rattle.wasm_replay.specs.declared.replaying.WasmReplayFault.{WasmReplayFault}
 use Rattle.wasm_replay.specs.declared.replaying.WasmReplayFault.TheVariants as refusal
+use Rattle.replay_reasons.specs.Differences.{other_line}
 use Rattle.commands.specs.declared.fault.Fault.{Fault}
 use Rattle.commands.specs.declared.fault.Fault.TheVariants as fault
 use Rattle.explanations.specs.Places.{at_byte, at_line, at_instruction, at_event}
@@ -93,6 +95,11 @@ BeginsWith r (fault.Gather f) place = place ≡ in_lines (pieces_path r) f
 BeginsWith r (fault.Replay f) place = place ≡ in_log (pieces_path r) f
 BeginsWith r f place = Unit {0}
 
--- the text begins with the place, and goes on after a colon
+-- what is said of a piece line of another run: in which parts its key differs from that of the first line
+abbrev pub SaysWhy : Fault → List ℕ → Type 0
+SaysWhy (fault.Gather (gathering.OtherRun line own first)) words = words ≡ other_line own first
+SaysWhy f words = Unit {0}
+
+-- the text begins with the place, and goes on with the reason after a colon
 abbrev pub IsExplanation : Request → Fault → List ℕ → Type 0
-IsExplanation r f text = (place words : List ℕ) × (text ≡ place ++ (codes ": " ++ words)) × BeginsWith r f place
+IsExplanation r f text = (place words : List ℕ) × (text ≡ place ++ (codes ": " ++ words)) × BeginsWith r f place × SaysWhy f words

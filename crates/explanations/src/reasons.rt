@@ -1,6 +1,9 @@
 //! The reasons of refusals, in words.
 
+ghost use Rattle.std.specs.Prelude.{IfOk, string_bytes};
 ghost use Rattle.thread_plan.specs.Plans.{IsPlanOf};
+ghost use Rattle.commands.specs.declared.fault.Fault.TheVariants as faults;
+ghost use Rattle.explanations.specs.Explained.{SaysWhy};
 
 use crate::again::{again, input_again, module_again, valid_again};
 use crate::paths::{files_of, module_path, plan_path, replay_of, schedule_path};
@@ -158,7 +161,9 @@ fn size_words(fault: &PiecesFault) -> &'static str {
 }
 
 /// Why piece lines give no log; of a line of another run, what differs in the keys.
-fn gather_words(alloc: Global, fault: &GatherFault) -> Words {
+fn gather_words(alloc: Global, fault: &GatherFault) -> Words
+    ensures { IfOk result (λ text. SaysWhy (faults.Gather fault.now) (string_bytes text)) }
+{
     match fault {
         GatherFault::OtherRun { own, first, .. } => other_line_reason(alloc, own, first),
         GatherFault::NoMemory => words(alloc, "memory for the log could not be had"),
@@ -214,7 +219,9 @@ pub(crate) fn reason_of<L: Log, F: Files>(
     files: &mut F,
     request: &Request<'_>,
     fault: &Fault,
-) -> Words {
+) -> Words
+    ensures { IfOk result (λ text. SaysWhy fault.now (string_bytes text)) }
+{
     match fault {
         Fault::File(fault) => file_words(alloc, files, request, fault),
         Fault::Decode(fault) => decode_words(alloc, files, module_path(request), fault),
