@@ -1,4 +1,5 @@
 pub mod Earlier
+pub mod MemoryStreams
 pub mod Streams
 pub mod Beginnings
 pub mod Ends

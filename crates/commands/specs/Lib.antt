@@ -2,6 +2,7 @@ pub mod Texts
 pub mod Files
 pub mod Checks
 pub mod Inputs
+pub mod Memory
 pub mod Records
 pub mod Replays
 pub mod Views

@@ -1,2 +1,3 @@
 pub mod Stops
 pub mod Told
+pub mod InMemory

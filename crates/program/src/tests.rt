@@ -1,14 +1,18 @@
 //! Runs of the program whose input or output fails, by threads, and on words that are no text. What it writes and refuses on files that
 //! can be read is shown by `worked_rows`.
 
-ghost use Rattle.std.specs.Prelude.{IfOk, ◌<◌};
-ghost use Rattle.commands.specs.Files.{IsRead};
+ghost use Rattle.std.specs.Prelude.{◌≡◌, ◌<◌, List, ℕ, map};
+ghost use Rattle.std.specs.Borrow.{Bor};
+ghost use Rattle.command_words.specs.Asked.{Asks};
+ghost use Rattle.command_words.specs.declared.requests.Request.TheVariants as request;
+ghost use Rattle.program.specs.InMemory.{HasValidModule};
 
 use crate::answering::{OddWord, refuse_words, run};
-use commands::{FileFault, FileState, Files};
-use log::sink::{Lines, Memory};
+use commands::{MemoryFile, MemoryFiles};
+use log::sink::{Discard, Lines, Memory};
 use replica::{MemorySink, MemorySource};
 use std::alloc::Global;
+use std::convert::AsStr;
 use std::io::{self, ErrorKind};
 use std::sync::Wait;
 use std::test::Fail;
@@ -54,76 +58,17 @@ const MIXED: &str = "zz\n\
     49525001bbbbbbbbbbbbbbbbbbbbbbbbbbbbbbbbbbbbbbbbbbbbbbbbbbbbbbbbbbbbbbbb01000000000000000300000000000001030000000000000002\n\
     \n";
 
-/// The files `m`, `p`, `s` and `l`: a module, a plan, a schedule and piece lines; `w` and `a`, a module whose thread
-/// waits and a plan of it alone; `g` and `o`, its steps without and with the time-out of its wait.
-#[derive(Drop)]
-struct MemoryFiles<'a> {
-    lines: &'a str,
-}
-
-/// What is read of a file of these bytes.
-fn copied(alloc: Global, bytes: &[u8], most: Option<usize>) -> Result<Vec<u8>, FileFault>
-    ensures { IfOk result (λ copy. IsRead (λ whole. Unit {0}) most copy.items) }
-{
-    let Ok(mut copy) = Vec::from_slice(alloc, bytes) else {
-        return Err(FileFault::NoMemory);
-    };
-    let Some(most) = most else {
-        return Ok(copy);
-    };
-    copy.truncate(most);
-    Ok(copy)
-}
-
-impl<'a> MemoryFiles<'a> {
-    /// The bytes of the file at that path.
-    fn bytes_at(&self, path: &str) -> Result<&'a [u8], FileFault> {
-        match path {
-            "m" => Ok(&COUNTER),
-            "p" => Ok(PLAN.as_bytes()),
-            "s" => Ok(PICKS.as_bytes()),
-            "l" => Ok(self.lines.as_bytes()),
-            "w" => Ok(&LIMITED),
-            "a" => Ok(ALONE.as_bytes()),
-            "g" => Ok(STEPS.as_bytes()),
-            "o" => Ok(STEPS_AND_TIME_OUT.as_bytes()),
-            _ => Err(FileFault::NotRead),
-        }
+/// A file of which no read fails.
+const fn file<'a>(path: &'a str, bytes: &'a [u8]) -> MemoryFile<'a> {
+    MemoryFile {
+        path,
+        bytes,
+        fails_at: None,
     }
 }
 
-impl<'a> Files for MemoryFiles<'a> {
-    type Stream = MemorySource<'a>;
-
-    ghost holds = { λ files path bytes. Unit {0} };
-
-    ghost fails = { λ files path. Unit {0} };
-
-    fn read(
-        &mut self,
-        alloc: Global,
-        path: &str,
-        most: Option<usize>,
-    ) -> Result<Vec<u8>, FileFault> {
-        let bytes = self.bytes_at(path)?;
-        copied(alloc, bytes, most)
-    }
-
-    fn state(&mut self, path: &str) -> FileState {
-        match self.bytes_at(path) {
-            Ok(_) => FileState::Regular,
-            Err(_) => FileState::NotThere,
-        }
-    }
-
-    fn open(&mut self, _alloc: Global, path: &str) -> Result<MemorySource<'a>, FileFault> {
-        // A few bytes a call, so that lines stand over the borders of calls.
-        Ok(MemorySource::new(self.bytes_at(path)?, 7, None))
-    }
-}
-
-/// What the program is run on: words, piece lines for the file `l` and for the standard input, and at which call that fails, and the
-/// output, which takes so many bytes at a call.
+/// What the program is run on: words, piece lines for the file `l` and for the standard input, and at which call each of these fails, and
+/// the output, which takes so many bytes at a call.
 #[derive(Clone, Copy, Drop)]
 struct Case<'a> {
     words: &'a [&'a str],
@@ -158,12 +103,27 @@ fn paths(alloc: Global, lines: &Lines) -> Vec<u8> {
     paths
 }
 
-/// Runs the program.
+/// Runs the program on the files `m`, `p`, `s` and `l`: a module, a plan, a schedule and piece lines; `w` and `a`, a module whose
+/// thread waits and a plan of it alone; `g` and `o`, its steps without and with the time-out of its wait.
 fn run_on<T: Threads + Wait + Sync>(threads: &T, alloc: Global, case: Case<'_>) -> Done
     requires { 0 < case.most }
 {
     let notes = Memory::new(alloc);
-    let mut files = MemoryFiles { lines: case.lines };
+    let lines = MemoryFile {
+        fails_at: case.read_fails_at,
+        ..file("l", case.lines.as_bytes())
+    };
+    let all = [
+        file("m", &COUNTER),
+        file("p", PLAN.as_bytes()),
+        file("s", PICKS.as_bytes()),
+        lines,
+        file("w", &LIMITED),
+        file("a", ALONE.as_bytes()),
+        file("g", STEPS.as_bytes()),
+        file("o", STEPS_AND_TIME_OUT.as_bytes()),
+    ];
+    let mut files = MemoryFiles { files: &all };
     let mut source = MemorySource::new(case.lines.as_bytes(), 65536, case.read_fails_at);
     let mut output = MemorySink::new(alloc, case.most, case.write_fails_at);
     let mut errors = MemorySink::new(alloc, 65536, None);
@@ -284,6 +244,89 @@ fn refuses_where_reading_or_writing_fails(rt: HostRuntime) {
         };
         let done = run_on(&rt, rt.alloc(), case);
         assert!(rt; is_done(&done, 1, *output, *errors, ""), "{errors}");
+    }
+}
+
+#[test]
+fn refuses_pieces_of_which_a_read_fails(rt: HostRuntime) {
+    let words = ["wreplay", "replay", "m", "p", "l", "--why"];
+    let case = Case {
+        words: words.as_slice(),
+        lines: MIXED,
+        read_fails_at: Some(1),
+        most: 65536,
+        write_fails_at: None,
+    };
+    let told = "refused 44 SourceFailed\nl: reading it failed\n";
+    let done = run_on(&rt, rt.alloc(), case);
+    assert!(rt; is_done(&done, 1, "", told, "mpl"));
+    // The first line is no piece line, where it is read.
+    let read = Case {
+        read_fails_at: Some(2),
+        ..case
+    };
+    let done = run_on(&rt, rt.alloc(), read);
+    assert!(rt; done.status == 1 && text(&done.errors).starts_with("refused 43 BadLine 1\n"));
+}
+
+/// Runs the program on files over memory. Where the words ask for the check of a module and the exit status is 0, the file at
+/// its path holds a valid one.
+fn checked_in_memory<T: Threads + Wait + Sync, S: AsStr>(
+    threads: &T,
+    alloc: Global,
+    words: &[S],
+    files: &mut MemoryFiles<'_>,
+) -> (u8, MemorySink)
+    ensures valid { (path : Bor (List ℕ)) → Asks (map S.text words.now) (request.Check path) → result.0 ≡ 0 → HasValidModule files.old.files.now path.now }
+{
+    let mut source = MemorySource::new(b"", 1, None);
+    let mut output = MemorySink::new(alloc, 65536, None);
+    let mut errors = MemorySink::new(alloc, 65536, None);
+    let status = run(
+        &Discard,
+        threads,
+        alloc,
+        words,
+        files,
+        &mut source,
+        &mut output,
+        &mut errors,
+    );
+    (status, output)
+}
+
+/// What is written of the module `m`.
+const SUMMARY: &str =
+    "types 1\nfunctions 1\ntable none\nmemory 1 1 shared\nglobals 0\nexports 1\nstart none\nvalid\n";
+
+/// Words, the exit status, and what is written.
+const CHECKED: &[(&[&str], u8, &str)] = &[
+    (&["wreplay", "check", "m"], 0, SUMMARY),
+    (&["wreplay", "check", "p"], 1, ""),
+    (&["wreplay", "check", "n"], 1, ""),
+    (&["wreplay", "check", "f"], 1, ""),
+];
+
+#[test]
+fn checks_modules_in_memory(rt: HostRuntime) {
+    // The second file at the path `m` is not seen.
+    let all = [
+        file("p", PLAN.as_bytes()),
+        file("m", &COUNTER),
+        file("m", PLAN.as_bytes()),
+        MemoryFile {
+            fails_at: Some(1),
+            ..file("f", &COUNTER)
+        },
+    ];
+    let rows = CHECKED;
+    for (words, status, summary) in rows {
+        let mut files = MemoryFiles { files: &all };
+        let (answered, output) = checked_in_memory(&rt, rt.alloc(), *words, &mut files);
+        assert!(rt;
+            answered == *status && text(&output) == *summary,
+            "{summary}"
+        );
     }
 }
 
