@@ -1,10 +1,9 @@
 //! Recordings that are sent and received.
 
-use crate::programs::{COUNTER, TWO, plan, valid};
+use crate::programs::{COUNTER, Program};
 use crate::runs::gathered;
 use crossbeam_channel::{Receiver, Sender, bounded, unbounded};
 use log_pieces::Piece;
-use pick_schedule::schedule;
 use piece_channel::{SendFault, receive, send};
 use replica::{Replica, ReplicaFault, listing};
 use run_pieces::PiecesFault;
@@ -12,20 +11,13 @@ use std::alloc::Global;
 use std::sync::Wait;
 use std::test::Fail;
 use std::thread::{self, Threads};
-use validator::Valid;
-use wasm_record::{Recording, record_schedule};
-use wasm_types::{Block, RunKey};
+use wasm_record::Recording;
+use wasm_types::RunKey;
 
 /// Two threads of the counter, one after the other.
-fn recorded(alloc: Global, valid: &Valid, run: u64) -> Result<Recording, Fail> {
-    let plan = plan(alloc, valid, TWO)?;
-    let picks = schedule(alloc, b"go 0 8\ngo 1 8\n")?;
-    Ok(record_schedule(alloc, valid, &plan, run, Block::least(), &picks, 1000)?)
-}
-
 fn recording(alloc: Global, run: u64) -> Result<Recording, Fail> {
-    let valid = valid(alloc, COUNTER)?;
-    recorded(alloc, &valid, run)
+    let program = Program::read(alloc, COUNTER)?;
+    program.record_schedule(alloc, run, "go 0 8\ngo 1 8\n")
 }
 
 /// The listing of the log of a recording.

@@ -1,6 +1,6 @@
 //! Two threads that each add 1 to a counter twice.
 
-use crate::programs::{COUNTER, TWO, plan, valid};
+use crate::programs::{COUNTER, Program};
 use crate::runs::{recorded, replays};
 use std::process::Abort;
 use std::test::Fail;
@@ -27,9 +27,8 @@ fn check_end(abort: &impl Abort, recording: &Recording) {
 #[test]
 fn counts_to_four(rt: HostRuntime) -> Result<(), Fail> {
     let alloc = rt.alloc();
-    let valid = valid(alloc, COUNTER)?;
-    let plan = plan(alloc, &valid, TWO)?;
-    let recording = recorded(&rt, &rt, alloc, &valid, &plan, &Never)?;
+    let program = Program::read(alloc, COUNTER)?;
+    let recording = recorded(&rt, &rt, alloc, &program, &Never)?;
     check_end(&rt, &recording);
-    replays(&rt, &rt, alloc, &valid, &plan, &recording)
+    replays(&rt, &rt, alloc, &program, &recording)
 }

@@ -1,8 +1,6 @@
 //! A thread that ends while others still go on.
 
-ghost use Rattle.thread_plan.specs.Plans.{IsPlanOf};
-
-use crate::programs::{LEAVING, THREE, plan, valid};
+use crate::programs::{LEAVING, Program};
 use crate::runs::replay_once;
 use shared_core::Hold;
 use std::alloc::Global;
@@ -10,10 +8,8 @@ use std::process::Abort;
 use std::sync::Wait;
 use std::test::Fail;
 use std::thread::{self, Threads};
-use thread_plan::Plan;
-use validator::Valid;
-use wasm_record::{Recording, record_threads};
-use wasm_types::{Block, MOST_STEPS, Outcome, Value};
+use wasm_record::Recording;
+use wasm_types::{MOST_STEPS, Outcome, Value};
 use workers::AtOnce;
 
 /// Has the thread that wakes give up its turn before each call, so that it wakes few times in vain.
@@ -37,15 +33,9 @@ fn record<R: Threads + Wait + Sync>(
     rt: &R,
     abort: &impl Abort,
     alloc: Global,
-    valid: &Valid,
-    plan: &Plan,
-) -> Result<Recording, Fail>
-    requires { IsPlanOf valid.now plan.now }
-{
-    let block = Block::least();
-    let recording = record_threads(
-        rt, alloc, valid, plan, 0, block, MOST_STEPS, &AtOnce, &Patient,
-    )?;
+    program: &Program,
+) -> Result<Recording, Fail> {
+    let recording = program.record(rt, alloc, MOST_STEPS, &AtOnce, &Patient)?;
     let timed_out = Outcome::Done(Some(Value::I32(2)));
     let wanted = [timed_out, Outcome::Done(None), Outcome::Done(None)];
     assert_eq!(abort; recording.recorded().end().outcomes(), wanted.as_slice());
@@ -57,13 +47,10 @@ fn record_all<R: Threads + Wait + Sync>(
     rt: &R,
     abort: &impl Abort,
     alloc: Global,
-    valid: &Valid,
-    plan: &Plan,
-) -> Result<(), Fail>
-    requires { IsPlanOf valid.now plan.now }
-{
+    program: &Program,
+) -> Result<(), Fail> {
     for _ in 0..50 {
-        let _recording = record(rt, abort, alloc, valid, plan)?;
+        let _recording = record(rt, abort, alloc, program)?;
     }
     Ok(())
 }
@@ -72,9 +59,8 @@ fn record_all<R: Threads + Wait + Sync>(
 #[test]
 fn an_early_end_stops_nobody(rt: HostRuntime) -> Result<(), Fail> {
     let alloc = rt.alloc();
-    let valid = valid(alloc, LEAVING)?;
-    let plan = plan(alloc, &valid, THREE)?;
-    record_all(&rt, &rt, alloc, &valid, &plan)?;
-    let recording = record(&rt, &rt, alloc, &valid, &plan)?;
-    replay_once(&rt, &rt, alloc, &valid, &plan, &recording)
+    let program = Program::read(alloc, LEAVING)?;
+    record_all(&rt, &rt, alloc, &program)?;
+    let recording = record(&rt, &rt, alloc, &program)?;
+    replay_once(&rt, &rt, alloc, &program, &recording)
 }

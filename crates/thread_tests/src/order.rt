@@ -1,9 +1,7 @@
 //! The versions in a log are the order in which threads had the one object that they touch.
 
-ghost use Rattle.thread_plan.specs.Plans.{IsPlanOf};
-
 use crate::noting::Noting;
-use crate::programs::{COUNTER, TWO, plan, valid};
+use crate::programs::{COUNTER, Program};
 use crate::runs::gathered;
 use join_laws::Flat;
 use replica::Log;
@@ -13,11 +11,7 @@ use std::process::Abort;
 use std::sync::Wait;
 use std::test::Fail;
 use std::thread::Threads;
-use thread_plan::Plan;
-use threaded_replay::replay_threads;
-use validator::Valid;
-use wasm_record::{Recording, record_threads};
-use wasm_types::Block;
+use wasm_record::Recording;
 use workers::Never;
 
 /// The events of two threads that add 1 to a counter twice.
@@ -69,24 +63,11 @@ fn record<R: Threads + Wait + Sync>(
     rt: &R,
     abort: &impl Abort,
     alloc: Global,
-    valid: &Valid,
-    plan: &Plan,
+    program: &Program,
     order: Option<[u32; 4]>,
-) -> Result<Recording, Fail>
-    requires { IsPlanOf valid.now plan.now }
-{
+) -> Result<Recording, Fail> {
     let hold = Noting::new(order);
-    let recording = record_threads(
-        rt,
-        alloc,
-        valid,
-        plan,
-        0,
-        Block::least(),
-        1000,
-        &Never,
-        &hold,
-    )?;
+    let recording = program.record(rt, alloc, 1000, &Never, &hold)?;
     let replica = gathered(alloc, &recording, 1)?;
     check(abort, replica.log(), &hold);
     Ok(recording)
@@ -97,15 +78,12 @@ fn replay<R: Threads + Wait + Sync>(
     rt: &R,
     abort: &impl Abort,
     alloc: Global,
-    valid: &Valid,
-    plan: &Plan,
+    program: &Program,
     recording: &Recording,
-) -> Result<(), Fail>
-    requires { IsPlanOf valid.now plan.now }
-{
+) -> Result<(), Fail> {
     let replica = gathered(alloc, recording, 1)?;
     let hold = Noting::new(None);
-    replay_threads(rt, alloc, valid, plan, replica.log(), &hold)?;
+    program.replay_by_threads(rt, alloc, replica.log(), &hold)?;
     check(abort, replica.log(), &hold);
     Ok(())
 }
@@ -117,10 +95,9 @@ fn run<R: Threads + Wait + Sync>(
     alloc: Global,
     order: Option<[u32; 4]>,
 ) -> Result<(), Fail> {
-    let valid = valid(alloc, COUNTER)?;
-    let plan = plan(alloc, &valid, TWO)?;
-    let recording = record(rt, abort, alloc, &valid, &plan, order)?;
-    replay(rt, abort, alloc, &valid, &plan, &recording)
+    let program = Program::read(alloc, COUNTER)?;
+    let recording = record(rt, abort, alloc, &program, order)?;
+    replay(rt, abort, alloc, &program, &recording)
 }
 
 /// The log of threads that run free, and of threads that are kept to an order, is in the order of their calls.

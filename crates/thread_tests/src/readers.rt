@@ -1,9 +1,7 @@
 //! Two threads that read the same object at the same time.
 
-ghost use Rattle.thread_plan.specs.Plans.{IsPlanOf};
-
 use crate::meeting::Meeting;
-use crate::programs::{READER, TWO_READERS, plan, valid};
+use crate::programs::{Program, READERS};
 use crate::runs::gathered;
 use replica::Log;
 use std::alloc::Global;
@@ -11,11 +9,7 @@ use std::process::Abort;
 use std::sync::Wait;
 use std::test::Fail;
 use std::thread::Threads;
-use thread_plan::Plan;
-use threaded_replay::replay_threads;
-use validator::Valid;
-use wasm_record::{Recording, record_threads};
-use wasm_types::Block;
+use wasm_record::Recording;
 use workers::Never;
 
 /// Checks that two threads were inside at once.
@@ -29,23 +23,10 @@ fn record<R: Threads + Wait + Sync>(
     rt: &R,
     abort: &impl Abort,
     alloc: Global,
-    valid: &Valid,
-    plan: &Plan,
-) -> Result<Recording, Fail>
-    requires { IsPlanOf valid.now plan.now }
-{
+    program: &Program,
+) -> Result<Recording, Fail> {
     let hold = Meeting::new();
-    let recording = record_threads(
-        rt,
-        alloc,
-        valid,
-        plan,
-        0,
-        Block::least(),
-        1000,
-        &Never,
-        &hold,
-    )?;
+    let recording = program.record(rt, alloc, 1000, &Never, &hold)?;
     check(abort, &hold);
     Ok(recording)
 }
@@ -55,14 +36,11 @@ fn replay<R: Threads + Wait + Sync>(
     rt: &R,
     abort: &impl Abort,
     alloc: Global,
-    valid: &Valid,
-    plan: &Plan,
+    program: &Program,
     log: &Log,
-) -> Result<(), Fail>
-    requires { IsPlanOf valid.now plan.now }
-{
+) -> Result<(), Fail> {
     let hold = Meeting::new();
-    replay_threads(rt, alloc, valid, plan, log, &hold)?;
+    program.replay_by_threads(rt, alloc, log, &hold)?;
     check(abort, &hold);
     Ok(())
 }
@@ -71,9 +49,8 @@ fn replay<R: Threads + Wait + Sync>(
 #[test]
 fn two_read_at_once(rt: HostRuntime) -> Result<(), Fail> {
     let alloc = rt.alloc();
-    let valid = valid(alloc, READER)?;
-    let plan = plan(alloc, &valid, TWO_READERS)?;
-    let recording = record(&rt, &rt, alloc, &valid, &plan)?;
+    let program = Program::read(alloc, READERS)?;
+    let recording = record(&rt, &rt, alloc, &program)?;
     let replica = gathered(alloc, &recording, 1)?;
-    replay(&rt, &rt, alloc, &valid, &plan, replica.log())
+    replay(&rt, &rt, alloc, &program, replica.log())
 }

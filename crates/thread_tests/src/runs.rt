@@ -1,8 +1,7 @@
 //! Recordings by threads, and their replays.
 
-ghost use Rattle.thread_plan.specs.Plans.{IsPlanOf};
-
 use crate::counting::Counting;
+use crate::programs::Program;
 use event_core::Ended;
 use join_laws::Flat;
 use log_pieces::Piece;
@@ -14,12 +13,7 @@ use std::process::Abort;
 use std::sync::Wait;
 use std::test::Fail;
 use std::thread::Threads;
-use thread_plan::Plan;
-use threaded_replay::replay_threads;
-use validator::Valid;
-use wasm_record::{Recording, record_threads};
-use wasm_replay::replay_gathered;
-use wasm_types::Block;
+use wasm_record::Recording;
 use workers::Timer;
 
 /// Delivers pieces.
@@ -83,15 +77,11 @@ pub(crate) fn recorded<T: Timer + Sync, R: Threads + Wait + Sync>(
     rt: &R,
     abort: &impl Abort,
     alloc: Global,
-    valid: &Valid,
-    plan: &Plan,
+    program: &Program,
     timer: &T,
-) -> Result<Recording, Fail>
-    requires { IsPlanOf valid.now plan.now }
-{
+) -> Result<Recording, Fail> {
     let hold = Counting::new();
-    let block = Block::least();
-    let recording = record_threads(rt, alloc, valid, plan, 0, block, 1_000_000, timer, &hold)?;
+    let recording = program.record(rt, alloc, 1_000_000, timer, &hold)?;
     let replica = gathered(alloc, &recording, 1)?;
     check(abort, &hold, replica.log());
     Ok(recording)
@@ -115,15 +105,12 @@ fn replay_at_once<R: Threads + Wait + Sync>(
     rt: &R,
     abort: &impl Abort,
     alloc: Global,
-    valid: &Valid,
-    plan: &Plan,
+    program: &Program,
     log: &Log,
     recorded: &Ended,
-) -> Result<(), Fail>
-    requires { IsPlanOf valid.now plan.now }
-{
+) -> Result<(), Fail> {
     let hold = Counting::new();
-    let ended = replay_threads(rt, alloc, valid, plan, log, &hold)?;
+    let ended = program.replay_by_threads(rt, alloc, log, &hold)?;
     check(abort, &hold, log);
     same_report(abort, alloc, &ended, recorded)
 }
@@ -133,16 +120,13 @@ fn replay_both<R: Threads + Wait + Sync>(
     rt: &R,
     abort: &impl Abort,
     alloc: Global,
-    valid: &Valid,
-    plan: &Plan,
+    program: &Program,
     log: &Log,
     recorded: &Ended,
-) -> Result<(), Fail>
-    requires { IsPlanOf valid.now plan.now }
-{
-    let ordered = replay_gathered(alloc, valid, plan, log, &[1, 1, 0])?;
+) -> Result<(), Fail> {
+    let ordered = program.replay_in_order(alloc, log, &[1, 1, 0])?;
     same_report(abort, alloc, &ordered, recorded)?;
-    let threaded = replay_threads(rt, alloc, valid, plan, log, &Unkept)?;
+    let threaded = program.replay_by_threads(rt, alloc, log, &Unkept)?;
     same_report(abort, alloc, &threaded, recorded)
 }
 
@@ -151,15 +135,12 @@ pub(crate) fn replay_once<R: Threads + Wait + Sync>(
     rt: &R,
     abort: &impl Abort,
     alloc: Global,
-    valid: &Valid,
-    plan: &Plan,
+    program: &Program,
     recording: &Recording,
-) -> Result<(), Fail>
-    requires { IsPlanOf valid.now plan.now }
-{
+) -> Result<(), Fail> {
     let replica = gathered(alloc, recording, 4096)?;
     let recorded = recording.recorded().end();
-    replay_both(rt, abort, alloc, valid, plan, replica.log(), recorded)
+    replay_both(rt, abort, alloc, program, replica.log(), recorded)
 }
 
 /// Replays the log of a recording 20 times in an order and 20 times by threads, and once where two threads meet.
@@ -167,17 +148,14 @@ pub(crate) fn replays<R: Threads + Wait + Sync>(
     rt: &R,
     abort: &impl Abort,
     alloc: Global,
-    valid: &Valid,
-    plan: &Plan,
+    program: &Program,
     recording: &Recording,
-) -> Result<(), Fail>
-    requires { IsPlanOf valid.now plan.now }
-{
+) -> Result<(), Fail> {
     let replica = gathered(alloc, recording, 1)?;
     let recorded = recording.recorded().end();
-    replay_at_once(rt, abort, alloc, valid, plan, replica.log(), recorded)?;
+    replay_at_once(rt, abort, alloc, program, replica.log(), recorded)?;
     for _ in 0..20 {
-        replay_both(rt, abort, alloc, valid, plan, replica.log(), recorded)?;
+        replay_both(rt, abort, alloc, program, replica.log(), recorded)?;
     }
     Ok(())
 }

@@ -1,14 +1,14 @@
 //! A thread that waits only once the other has woken.
 
-use crate::programs::{LIMITED, SLEEPER, plan, valid};
+use crate::programs::{LIMITED, Program};
 use shared_core::Hold;
 use std::alloc::Global;
 use std::sync::Wait;
 use std::sync::atomic::{AtomicBool, Ordering};
 use std::test::Fail;
 use std::thread::{self, Threads};
-use wasm_record::{Recording, record_threads};
-use wasm_types::{Block, Outcome, Value};
+use wasm_record::Recording;
+use wasm_types::{Outcome, Value};
 use workers::{AtOnce, Never, Timer};
 
 /// How often thread 0 asks whether thread 1 has woken.
@@ -57,20 +57,9 @@ fn woken_too_early<T: Timer + Sync, R: Threads + Wait + Sync>(
     alloc: Global,
     timer: &T,
 ) -> Result<Recording, Fail> {
-    let valid = valid(alloc, LIMITED)?;
-    let plan = plan(alloc, &valid, SLEEPER)?;
+    let program = Program::read(alloc, LIMITED)?;
     let hold = WakerFirst::new();
-    Ok(record_threads(
-        rt,
-        alloc,
-        &valid,
-        &plan,
-        0,
-        Block::least(),
-        1000,
-        timer,
-        &hold,
-    )?)
+    program.record(rt, alloc, 1000, timer, &hold)
 }
 
 /// Whether it comes to these outcomes.

@@ -1,6 +1,6 @@
 //! Threads that wait, with timers that never and that always say that the time is over.
 
-use crate::programs::{ALL_FIVE, FIVE, LIMITED, SLEEPER, UNLIMITED, plan, valid};
+use crate::programs::{FIVE, LIMITED, Program, UNLIMITED};
 use crate::runs::{recorded, replays};
 use std::alloc::Global;
 use std::process::Abort;
@@ -21,13 +21,12 @@ fn run<T: Timer + Sync, R: Threads + Wait + Sync>(
     rt: &R,
     abort: &impl Abort,
     alloc: Global,
-    (module, text): (&str, &str),
+    program: (&str, &str),
     timer: &T,
 ) -> Result<Recording, Fail> {
-    let valid = valid(alloc, module)?;
-    let plan = plan(alloc, &valid, text)?;
-    let recording = recorded(rt, abort, alloc, &valid, &plan, timer)?;
-    replays(rt, abort, alloc, &valid, &plan, &recording)?;
+    let program = Program::read(alloc, program)?;
+    let recording = recorded(rt, abort, alloc, &program, timer)?;
+    replays(rt, abort, alloc, &program, &recording)?;
     Ok(recording)
 }
 
@@ -42,9 +41,9 @@ fn is_one_of(recording: &Recording, pairs: &[[Outcome; 2]]) -> bool {
 fn sleeps_until_it_is_woken(rt: HostRuntime) -> Result<(), Fail> {
     let alloc = rt.alloc();
     let ends = [[answered(0), answered(1)], [Outcome::Waiting, answered(0)]];
-    let limited = run(&rt, &rt, alloc, (LIMITED, SLEEPER), &Never)?;
+    let limited = run(&rt, &rt, alloc, LIMITED, &Never)?;
     assert!(rt; is_one_of(&limited, &ends));
-    let unlimited = run(&rt, &rt, alloc, (UNLIMITED, SLEEPER), &Never)?;
+    let unlimited = run(&rt, &rt, alloc, UNLIMITED, &Never)?;
     assert!(rt; is_one_of(&unlimited, &ends));
     Ok(())
 }
@@ -53,14 +52,14 @@ fn sleeps_until_it_is_woken(rt: HostRuntime) -> Result<(), Fail> {
 #[test]
 fn times_out(rt: HostRuntime) -> Result<(), Fail> {
     let alloc = rt.alloc();
-    let limited = run(&rt, &rt, alloc, (LIMITED, SLEEPER), &AtOnce)?;
+    let limited = run(&rt, &rt, alloc, LIMITED, &AtOnce)?;
     assert!(rt;
         is_one_of(
             &limited,
             &[[answered(0), answered(1)], [answered(2), answered(0)]]
         )
     );
-    let unlimited = run(&rt, &rt, alloc, (UNLIMITED, SLEEPER), &AtOnce)?;
+    let unlimited = run(&rt, &rt, alloc, UNLIMITED, &AtOnce)?;
     assert!(rt;
         is_one_of(
             &unlimited,
@@ -98,9 +97,9 @@ fn check_five(abort: &impl Abort, recording: &Recording) {
 #[test]
 fn wakes_as_many_as_it_says(rt: HostRuntime) -> Result<(), Fail> {
     let alloc = rt.alloc();
-    let never = run(&rt, &rt, alloc, (FIVE, ALL_FIVE), &Never)?;
+    let never = run(&rt, &rt, alloc, FIVE, &Never)?;
     check_five(&rt, &never);
-    let at_once = run(&rt, &rt, alloc, (FIVE, ALL_FIVE), &AtOnce)?;
+    let at_once = run(&rt, &rt, alloc, FIVE, &AtOnce)?;
     check_five(&rt, &at_once);
     Ok(())
 }
