@@ -36,7 +36,7 @@ const FIVE: (&str, &str) = (
 );
 
 /// A module and a plan, a schedule, the steps that a thread may make, and how many picks are passed over.
-static ROWS: [((&str, &str), &str, u32, u64); 6] = [
+const ROWS: &[((&str, &str), &str, u32, u64)] = &[
     (COUNTER, "go 0 8\ngo 1 8\n", 1_000, 0),
     (COUNTER, "go 0 8\ngo 1 8\n", 3, 10),
     (LIMITED, "go 0 4\nout 0\ngo 1 4\ngo 0 1\n", 1_000, 0),
@@ -53,9 +53,9 @@ static ROWS: [((&str, &str), &str, u32, u64); 6] = [
 /// How many picks of a schedule a recording passes over.
 fn passed(alloc: Global, of: (&str, &str), picks: &str, steps: u32) -> Result<u64, Fail> {
     let (module, plan) = of;
+    let picks = schedule(alloc, picks.as_bytes())?;
     let valid = valid(alloc, module)?;
     let world = open(alloc, &valid, plan)?;
-    let picks = schedule(alloc, picks.as_bytes())?;
     Ok(record(alloc, world, &picks, steps)?.passed())
 }
 
@@ -63,7 +63,11 @@ fn passed(alloc: Global, of: (&str, &str), picks: &str, steps: u32) -> Result<u6
 fn picks_are_passed_over(rt: HostRuntime) -> Result<(), Fail> {
     let rows = ROWS;
     for (of, picks, steps, wanted) in rows {
-        assert_eq!(rt; passed(rt.alloc(), of, picks, steps)?, wanted, "{picks}");
+        assert_eq!(rt;
+            passed(rt.alloc(), *of, *picks, *steps)?,
+            *wanted,
+            "{picks}"
+        );
     }
     Ok(())
 }

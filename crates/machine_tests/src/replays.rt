@@ -67,7 +67,7 @@ fn readers_first(alloc: Global, key: RunKey) -> Result<Replica, Fail> {
 }
 
 /// Turns in their order, and what each comes to: the third of the writer, before any of the readers, finds a shut gate.
-static TURNS: [(u32, Result<Turned, ReplayFault>); 9] = [
+const TURNS: &[(u32, Result<Turned, ReplayFault>)] = &[
     (2, Ok(Turned::Local)),
     (2, Ok(Turned::Local)),
     (2, Err(ReplayFault::Shut)),
@@ -89,7 +89,7 @@ fn taken(alloc: Global, valid: &Valid) -> Result<Vec<Result<Turned, ReplayFault>
     let mut taken = Vec::new(alloc);
     let turns = TURNS;
     for (thread, _) in turns {
-        taken.push(replay.turn(alloc, thread))?;
+        taken.push(replay.turn(alloc, *thread))?;
     }
     Ok(taken)
 }
