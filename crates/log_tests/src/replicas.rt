@@ -311,84 +311,54 @@ fn gathered_parts(alloc: Global, parts: &[&str]) -> Result<Gathered, NoMemory> {
     Ok(gather_over(alloc, &text, &LARGE, b""))
 }
 
-/// The parts of a text, and the fault of its first faulty line.
-static REFUSED: &[(&[&str], GatherFault)] = &[
+/// The parts of a text, the number of its first faulty line, and what is wrong with that.
+static REFUSED: &[(&[&str], u64, LineFault)] = &[
     (
         &["no piece\n"],
-        GatherFault::BadLine {
-            line: 1,
-            reason: LineFault::NotADigit {
-                column: 1,
-                byte: b'n',
-            },
+        1,
+        LineFault::NotADigit {
+            column: 1,
+            byte: b'n',
         },
     ),
     (
         &[WHOLE, "\n", FIRST, "\nno piece\n", WHOLE, "\n"],
-        GatherFault::BadLine {
-            line: 3,
-            reason: LineFault::NotADigit {
-                column: 1,
-                byte: b'n',
-            },
+        3,
+        LineFault::NotADigit {
+            column: 1,
+            byte: b'n',
         },
     ),
     (
         &[WHOLE, "00\n"],
-        GatherFault::BadLine {
-            line: 1,
-            reason: LineFault::Bytes(BytesFault::LeftOver { bytes: 1 }),
-        },
+        1,
+        LineFault::Bytes(BytesFault::LeftOver { bytes: 1 }),
     ),
-    (
-        &["\n", WHOLE, "\n"],
-        GatherFault::BadLine {
-            line: 1,
-            reason: LineFault::Empty,
-        },
-    ),
-    (
-        &[WHOLE, "\n\n"],
-        GatherFault::BadLine {
-            line: 2,
-            reason: LineFault::Empty,
-        },
-    ),
-    (
-        &[WHOLE, "\r\n"],
-        GatherFault::BadLine {
-            line: 1,
-            reason: LineFault::CarriageReturn,
-        },
-    ),
-    (
-        &[WHOLE, "\r"],
-        GatherFault::BadLine {
-            line: 1,
-            reason: LineFault::CarriageReturn,
-        },
-    ),
+    (&["\n", WHOLE, "\n"], 1, LineFault::Empty),
+    (&[WHOLE, "\n\n"], 2, LineFault::Empty),
+    (&[WHOLE, "\r\n"], 1, LineFault::CarriageReturn),
+    (&[WHOLE, "\r"], 1, LineFault::CarriageReturn),
     (
         &["\0\0", WHOLE, "\n"],
-        GatherFault::BadLine {
-            line: 1,
-            reason: LineFault::NotADigit { column: 1, byte: 0 },
-        },
+        1,
+        LineFault::NotADigit { column: 1, byte: 0 },
     ),
     (
         &[WHOLE, "\n\0"],
-        GatherFault::BadLine {
-            line: 2,
-            reason: LineFault::NotADigit { column: 1, byte: 0 },
-        },
+        2,
+        LineFault::NotADigit { column: 1, byte: 0 },
     ),
 ];
 
 #[test]
 fn refused_lines_have_their_numbers(rt: HostRuntime) -> Result<(), Fail> {
-    for (parts, fault) in REFUSED {
+    for (parts, line, reason) in REFUSED {
         let found = gathered_parts(rt.alloc(), parts)?;
-        same(&rt, &found, &failed(*fault, 0, 0), "refused");
+        let fault = GatherFault::BadLine {
+            line: *line,
+            reason: *reason,
+        };
+        same(&rt, &found, &failed(fault, 0, 0), "refused");
     }
     Ok(())
 }
