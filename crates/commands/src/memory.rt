@@ -92,7 +92,6 @@ impl<'a> Files for MemoryFiles<'a> {
         }
     }
 
-    #[tactic(auto, using(crate::proofs::MemoryStreams::opened_at))]
     fn open(&mut self, _alloc: Global, path: &str) -> Result<MemorySource<'a>, FileFault> {
         match file_at(self.files, path) {
             Some(file) => Ok(MemorySource::new(file.bytes, FEW, file.fails_at)),

@@ -1,27 +1,27 @@
 -- What the program answers of files over memory.
-use Rattle.std.proofs.Common.{◌≡◌, ℕ, List, [], true, false, refl, sym, ap, subst, ◌∙◌, inl, inr}
+use Rattle.std.proofs.Common.{◌≡◌, ◌⊎◌, ℕ, List, [], true, false, refl, sym, ap, subst, ◌∙◌, inl, inr}
 use Rattle.std.specs.Prelude.{Option, Some, None, codes}
 use Rattle.std.specs.Borrow.{Bor}
 use Rattle.std.specs.Str.{bytes_eq}
 use Rattle.clap.specs.Words.{Text, Row, first_of, fault_of, subcommand_of, IsAmong, Kinds}
 use Rattle.clap.specs.declared.error.kind.ErrorKind.TheVariants as kind
 use Rattle.command_words.specs.Commands.{program}
-use Rattle.command_words.specs.Asked.{Asks, AsksForText, IsFoundBy}
+use Rattle.command_words.specs.Asked.{Asks, AsksForText, IsFoundBy, asks_why}
 use Rattle.command_words.specs.declared.requests.Request.{Request}
 use Rattle.command_words.specs.declared.requests.Request.TheVariants as request
 use Rattle.replica.specs.declared.skipping.Skipped.{Skipped}
 use Rattle.commands.specs.declared.memory.MemoryFile.{MemoryFile}
 use Rattle.commands.specs.Memory.{HoldsBytes, Fails, file_at}
 use Rattle.commands.specs.Checks.{IsChecked}
-use Rattle.program.specs.Answers.{IsDone, IsDoneBy}
+use Rattle.program.specs.Answers.{IsDone, IsDoneBy, IsSaid}
 use Rattle.program.specs.InMemory.{HasValidModule}
 
 another : (name other : List ℕ) → name ≡ codes "check" → name ≡ other → bytes_eq other (codes "check") ≡ false → ⊥
-another name other is is_other no =
+another name other is is_other differs =
     let yes : true ≡ bytes_eq other (codes "check") = ap (λ (l : List ℕ). bytes_eq l (codes "check")) (sym is ∙ is_other) in
     absurd cc
 
-text_of : Option Text → List ℕ
+abbrev text_of : Option Text → List ℕ
 text_of None = []
 text_of (Some text) = text
 
@@ -37,18 +37,18 @@ module _ (files : List MemoryFile) where
 
   module _ (brought : List ℕ → Type 0) (ended broke : Type 0) (counted : Skipped → Type 0) where
     -- the words ask for no other command
-    by_request : (found : Option (Text × List Row)) (path : Bor (List ℕ)) → IsFoundBy found (request.Check path) → (r : Request) → IsFoundBy found r
-        → (text : List ℕ) → IsDone (λ at. HoldsBytes (file_at files at)) (λ at. Fails (file_at files at)) brought ended broke counted r text → HasValidModule files path.now
-    by_request None path h r k text done = absurd h
-    by_request (Some p) path h (request.Check other) k text done =
+    by_request : (said : List ℕ → Type 0) (found : Option (Text × List Row)) (path : Bor (List ℕ)) → IsFoundBy found (request.Check path) → (r : Request) → IsFoundBy found r
+        → (text : List ℕ) → IsDone (λ at. HoldsBytes (file_at files at)) (λ at. Fails (file_at files at)) brought ended broke counted said r text → HasValidModule files path.now
+    by_request said None path h r k text done = absurd h
+    by_request said (Some p) path h (request.Check other) k text done =
         let same : other.now ≡ path.now = ap text_of (sym k.1 ∙ h.1) in
         subst (λ (l : List ℕ). HasValidModule files l) same (valid other.now text done)
-    by_request (Some p) path h (request.Gather skips objects) k text done = absurd (another p.0 (codes "gather") h.0 k.0 refl)
-    by_request (Some p) path h (request.Record r) k text done = absurd (another p.0 (codes "record") h.0 k.0 refl)
-    by_request (Some p) path h (request.Replay r by_threads) k text done = absurd (another p.0 (codes "replay") h.0 k.0 refl)
-    by_request (Some p) path h (request.View v) k text done = absurd (another p.0 (codes "view") h.0 k.0 refl)
+    by_request said (Some p) path h (request.Gather skips objects) k text done = absurd (another p.0 (codes "gather") h.0 k.0 refl)
+    by_request said (Some p) path h (request.Record r) k text done = absurd (another p.0 (codes "record") h.0 k.0 refl)
+    by_request said (Some p) path h (request.Replay r by_threads) k text done = absurd (another p.0 (codes "replay") h.0 k.0 refl)
+    by_request said (Some p) path h (request.View v) k text done = absurd (another p.0 (codes "view") h.0 k.0 refl)
 
     module _ (took : List ℕ → Type 0) (tells : List ℕ → Type 0) (unread : Type 0) (words : List Text) (path : Bor (List ℕ)) (asks : Asks words (request.Check path)) where
       pub is_valid : IsDoneBy (λ at. HoldsBytes (file_at files at)) (λ at. Fails (file_at files at)) brought ended broke took (Unit {0}) (Unit {0}) counted tells unread words → HasValidModule files path.now
-      is_valid (inl h) = by_request (subcommand_of program words) path asks.found h.0 h.1.found h.2.0 h.2.1
+      is_valid (inl h) = by_request (IsSaid tells (asks_why words)) (subcommand_of program words) path asks.found h.0 h.1.found h.2.0 h.2.1
       is_valid (inr h) = absurd (no_text (fault_of program words) asks.taken h.0)
