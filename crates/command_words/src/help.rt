@@ -144,7 +144,10 @@ and was not woken, or made as many steps as --steps lets it.
 With --threads each thread of the plan is a thread of the system, and they run
 at once: each run may come out otherwise, and each can be replayed. Whatever can
 still go on when they have ended goes on. `--timeouts now` lets each wait that
-has a time-out time out at once.";
+has a time-out time out at once.
+
+With --why standard error has the line `threads stopped at --steps N: T ..`
+where threads T had steps left when they had made N, and so were cut short.";
 
 /// How `record` refuses.
 pub(crate) const RECORD_REFUSALS: &str = "\

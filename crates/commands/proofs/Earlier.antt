@@ -12,7 +12,7 @@ use Rattle.thread_plan.specs.Plans.{PlanValue}
 use Rattle.command_words.specs.declared.requests.RecordOrder.{RecordOrder}
 use Rattle.command_words.specs.declared.requests.RecordOrder.TheVariants as order
 use Rattle.command_words.specs.declared.requests.RecordRequest.{RecordRequest}
-use Rattle.commands.specs.Records.{IsScheduleFile, IsScheduleRefused, IsRecordRefusal, IsRecordedBy, IsOrderRefused}
+use Rattle.commands.specs.Records.{AnswerAt, IsScheduleFile, IsScheduleRefused, IsRecordRefusal, IsRecordedBy, IsOrderRefused}
 
 module _ {holds later : List ℕ → Type 0} {fails breaks : Type 0} (held : (bytes : List ℕ) → later bytes → holds bytes) (failed : breaks → fails) where
   pub file_earlier : (fault : FileFault) → IsFileFault breaks fault → IsFileFault fails fault
@@ -59,9 +59,9 @@ module _ {holds later : List ℕ → Type 0} {fails breaks : Type 0} (held : (by
   schedule_refused_earlier SinkFailed h = h
 
 module _ {holds later : List ℕ → List ℕ → Type 0} (held : (path bytes : List ℕ) → later path bytes → holds path bytes) where
-  pub recorded_earlier : (m : Module) (plan : PlanValue) (request : RecordRequest) (o : RecordOrder) (text : List ℕ) → IsRecordedBy later m plan request o text → IsRecordedBy holds m plan request o text
-  recorded_earlier m plan request (order.Schedule path) text h = (h.0, (h.1.0, held path.now h.1.0 h.1.1, h.1.2), h.2)
-  recorded_earlier m plan request (order.Threads times_out) text h = h
+  pub recorded_earlier : (m : Module) (plan : PlanValue) (request : RecordRequest) (o : RecordOrder) (answer : AnswerAt) → IsRecordedBy later m plan request o answer → IsRecordedBy holds m plan request o answer
+  recorded_earlier m plan request (order.Schedule path) answer h = (h.0, (h.1.0, held path.now h.1.0 h.1.1, h.1.2), h.2)
+  recorded_earlier m plan request (order.Threads times_out) answer h = h
 
   module _ {fails breaks : List ℕ → Type 0} (failed : (path : List ℕ) → breaks path → fails path) where
     schedule_order_earlier : (path : List ℕ) (size : ℕ) (fault : Fault) → IsScheduleRefused (later path) (breaks path) fault ⊎ ((picks : List Pick) × IsScheduleFile (later path) picks × IsRecordRefusal size fault)

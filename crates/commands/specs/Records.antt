@@ -1,15 +1,19 @@
 -- What `record` answers, by what its files may hold.
-use Rattle.std.specs.Prelude.{◌≡◌, ◌⊎◌, ◌<◌, ◌≤◌, ℕ, Bool, true, false, List, Ok, min}
+use Rattle.std.specs.Prelude.{◌≡◌, ◌⊎◌, ◌<◌, ◌≤◌, ◌+◌, ◌&&◌, ℕ, Bool, true, false, List, [], ◌∷◌, ◌++◌, Ok, min, nat_le, cond, codes}
 use Rattle.std.specs.List.{flat_map}
+use Rattle.std.specs.Fmt.{decimal}
+use Rattle.wasm_types.specs.declared.outcome.Outcome.{Outcome}
+use Rattle.wasm_types.specs.declared.outcome.Outcome.TheVariants.{Running}
 use Rattle.wasm_types.specs.declared.modules.Module.{Module}
 use Rattle.wasm_types.specs.declared.key.Profile.TheVariants.{Two}
 use Rattle.event_core.specs.declared.pick.Pick.{Pick}
 use Rattle.thread_plan.specs.Plans.{PlanValue}
 use Rattle.pick_schedule.specs.Schedule.{schedule_of, IsFaultOf}
 use Rattle.log_pieces.specs.Line.{line_of}
+use Rattle.log_pieces.specs.declared.end.End.{End}
 use Rattle.run_pieces.specs.Cut.{pieces_of, IsPiecesFault}
 use Rattle.wasm_types.specs.declared.sizes.TheConstants.{MOST_STEPS}
-use Rattle.recorder.specs.ThreadLogAt.{RecordedAt}
+use Rattle.recorder.specs.ThreadLogAt.{ThreadLogAt, RecordedAt}
 use Rattle.wasm_record.specs.Recordings.{RecordingAt, IsKeyOf, RecordsRun, RecordsThreads}
 use Rattle.run_report.specs.Report.{report_text}
 use Rattle.command_words.specs.declared.requests.RecordOrder.{RecordOrder}
@@ -41,14 +45,43 @@ abbrev pub recorded_text : Bool → ℕ → RecordingAt → List ℕ
 recorded_text true entries r = report_text r.recorded.end
 recorded_text false entries r = flat_map line_of (pieces_of r.key r.recorded.threads entries)
 
--- what was recorded is of a run of that number, is so, and is written
-pub record IsWritten (m : Module) (plan : PlanValue) (request : RecordRequest) (records : RecordedAt → Type 0) (text : List ℕ) : Type 0 where
+abbrev pub is_running : Outcome → Bool
+is_running Running = true
+is_running _ = false
+
+-- a thread has steps left when it has made as many as it may
+abbrev pub has_stopped : ℕ → End → Bool
+has_stopped most end = is_running end.outcome && nat_le most end.steps
+
+-- the threads that have, which are numbered from `thread` on
+abbrev pub stopped_from : ℕ → ℕ → List ThreadLogAt → List ℕ
+stopped_from most thread [] = []
+stopped_from most thread (l ∷ ls) = cond (has_stopped most l.end) (thread ∷ stopped_from most (thread + 1) ls) (stopped_from most (thread + 1) ls)
+
+-- a line of these threads, if there are any
+abbrev pub stopped_line : ℕ → List ℕ → List ℕ
+stopped_line most [] = []
+stopped_line most (thread ∷ threads) = codes "threads stopped at --steps " ++ (decimal most ++ (codes ":" ++ (flat_map (λ t. 32 ∷ decimal t) (thread ∷ threads) ++ codes "\n")))
+
+-- the text of a recording, and a line of the threads that stopped at `--steps`
+pub record AnswerAt : Type 0 where
+  pub text : List ℕ
+  pub stopped : List ℕ
+
+abbrev pub answer_of : RecordRequest → RecordingAt → AnswerAt
+answer_of request r = record {
+  text = recorded_text request.report request.size r;
+  stopped = stopped_line request.steps (stopped_from request.steps 0 r.recorded.threads);
+}
+
+-- what was recorded is of a run of that number, is so, and is answered
+pub record IsAnswerOf (m : Module) (plan : PlanValue) (request : RecordRequest) (records : RecordedAt → Type 0) (answer : AnswerAt) : Type 0 where
   pub recording : RecordingAt
   pub some : 0 < request.size
   pub few : request.size ≤ 4096
   pub key : IsKeyOf m plan request.run (Two request.block) recording.key
   pub is_recorded : records recording.recorded
-  pub is : text ≡ recorded_text request.report request.size recording
+  pub is : answer ≡ answer_of request recording
 
 -- the run that the picks make is recorded
 abbrev pub IsRunOf : Module → PlanValue → RecordRequest → List Pick → RecordedAt → Type 0
@@ -60,15 +93,15 @@ IsRunOfThreads m plan request times_out = RecordsThreads m plan (Two request.blo
 
 module _ (holds : List ℕ → List ℕ → Type 0) where
   -- the module and the plan in the files, and what is recorded of them, by the order that was asked for
-  abbrev pub IsRecordedBy : Module → PlanValue → RecordRequest → RecordOrder → List ℕ → Type 0
-  IsRecordedBy m plan request (order.Schedule path) text = (picks : List Pick) × IsScheduleFile (holds path.now) picks × IsWritten m plan request (IsRunOf m plan request picks) text
-  IsRecordedBy m plan request (order.Threads times_out) text = IsWritten m plan request (IsRunOfThreads m plan request times_out) text
+  abbrev pub IsRecordedBy : Module → PlanValue → RecordRequest → RecordOrder → AnswerAt → Type 0
+  IsRecordedBy m plan request (order.Schedule path) answer = (picks : List Pick) × IsScheduleFile (holds path.now) picks × IsAnswerOf m plan request (IsRunOf m plan request picks) answer
+  IsRecordedBy m plan request (order.Threads times_out) answer = IsAnswerOf m plan request (IsRunOfThreads m plan request times_out) answer
 
-  pub record IsRecordedText (request : RecordRequest) (text : List ℕ) : Type 0 where
+  pub record IsRecordAnswer (request : RecordRequest) (answer : AnswerAt) : Type 0 where
     pub m : Module
     pub plan : PlanValue
     pub has_program : IsProgram holds request.«module».now request.plan.now m plan
-    pub is_recorded : IsRecordedBy m plan request request.order text
+    pub is_recorded : IsRecordedBy m plan request request.order answer
 
   -- the schedule is refused, if there is one; else the recording
   abbrev pub IsOrderRefused : (List ℕ → Type 0) → RecordRequest → RecordOrder → Fault → Type 0

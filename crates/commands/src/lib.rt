@@ -12,6 +12,7 @@ mod record_answer;
 mod recording;
 mod replaying;
 mod schedule_file;
+mod stopped;
 mod texts;
 mod viewing;
 

@@ -1,6 +1,6 @@
 //! What a recording answers, to be written.
 
-ghost use Rattle.std.specs.Prelude.{◌≡◌, ◌+◌, ◌-◌, ◌^◌, ◌<◌, ◌≤◌, ℕ, List, ◌++◌, IfOk, OnOk, OnErr, false};
+ghost use Rattle.std.specs.Prelude.{◌≡◌, ◌+◌, ◌-◌, ◌^◌, ◌<◌, ◌≤◌, ℕ, List, ◌++◌, IfOk, OnOk, OnErr, false, string_bytes};
 ghost use Rattle.commands.specs.Records.{recorded_text};
 
 use replica::{Failed, Sink, write_all};
@@ -64,59 +64,76 @@ pub enum AnswerForm {
     Lines(RecordedLines),
 }
 
-/// What a recording answers: the report of the run's end, or the lines of its pieces. Contracts see the text.
+/// What a recording answers: the report of the run's end, or the lines of its pieces; and a line of the threads that stopped at
+/// `--steps`, which is empty where there are none. Contracts see both.
 #[derive(Drop)]
 pub struct RecordAnswer {
     form: AnswerForm,
+    stopped: String,
 }
 
 impl Model for RecordAnswer {
-    ghost use Rattle.std.specs.Prelude.{ℕ, List};
+    ghost use Rattle.std.specs.Prelude.{string_bytes};
     ghost use Rattle.commands.specs.Answered.{form_text};
+    ghost use Rattle.commands.specs.Records.{AnswerAt};
 
-    ghost Value = { List ℕ };
+    ghost Value = { AnswerAt };
 
-    ghost view = { λ a. form_text a.form };
+    ghost view = { λ a. record { text = form_text a.form; stopped = string_bytes a.stopped } };
 }
 
 impl RecordAnswer {
-    /// A text that is made.
-    pub(crate) fn of_text(text: Vec<u8>) -> RecordAnswer
-        ensures { result ≡ text.items }
+    /// A text that is made, and the line of the threads that stopped.
+    pub(crate) fn of_text(text: Vec<u8>, stopped: String) -> RecordAnswer
+        ensures text { result.text ≡ text.items }
+        ensures stopped { result.stopped ≡ string_bytes stopped }
     {
         RecordAnswer {
             form: AnswerForm::Text(text),
+            stopped,
         }
     }
 
-    /// The lines of a recording's pieces of so many entries. Room for them is taken.
+    /// The lines of a recording's pieces of so many entries, and the line of the threads that stopped. Room for the former is
+    /// taken.
     pub(crate) fn of_lines(
         alloc: Global,
         recording: Recording,
         size: u32,
+        stopped: String,
     ) -> Result<RecordAnswer, NoMemory>
         requires some { 0 < size }
         requires few { size ≤ 4096 }
-        ensures { IfOk result (λ answer. answer ≡ recorded_text false size recording) }
+        ensures text { IfOk result (λ answer. answer.text ≡ recorded_text false size recording) }
+        ensures stopped { IfOk result (λ answer. answer.stopped ≡ string_bytes stopped) }
     {
         let lines = RecordedLines::new(alloc, recording, size)?;
         Ok(RecordAnswer {
             form: AnswerForm::Lines(lines),
+            stopped,
         })
     }
 
-    /// Writes the text, or up to the first call that fails. No memory is wanted for it.
-    pub fn write<W: Sink>(self, output: &mut W) -> Result<(), Failed>
+    /// The line of the threads that stopped at `--steps`; empty where there are none.
+    pub fn stopped(&self) -> &str
+        ensures { result.now ≡ self.now.stopped }
+    {
+        self.stopped.as_str()
+    }
+
+    /// Writes the report or the lines, or up to the first call that fails. No memory is wanted for it.
+    pub fn write<W: Sink>(&mut self, output: &mut W) -> Result<(), Failed>
         requires { W.failed output.old < 2 ^ 64 - 1 }
-        ensures taken { OnOk result (W.takes output.old self output.new) }
+        ensures taken { OnOk result (W.takes output.old self.old.text output.new) }
         ensures none_failed { OnOk result (W.failed output.new ≡ W.failed output.old) }
         // After a failure a beginning of the text was taken.
-        ensures begun { OnErr result ((part rest : List ℕ) × (self ≡ part ++ rest) × W.takes output.old part output.new) }
+        ensures begun { OnErr result ((part rest : List ℕ) × (self.old.text ≡ part ++ rest) × W.takes output.old part output.new) }
         ensures one_failed { OnErr result (W.failed output.new ≡ W.failed output.old + 1) }
+        ensures stopped { self.new.stopped ≡ self.old.stopped }
     {
-        match self.form {
-            AnswerForm::Text(text) => write_all(output, &text),
-            AnswerForm::Lines(mut lines) => lines.write(output),
+        match &mut self.form {
+            AnswerForm::Text(text) => write_all(output, text),
+            AnswerForm::Lines(lines) => lines.write(output),
         }
     }
 }

@@ -6,13 +6,14 @@ ghost use Rattle.thread_plan.specs.Plans.{IsPlanOf};
 ghost use Rattle.event_core.specs.declared.pick.Pick.{Pick};
 ghost use Rattle.wasm_types.specs.declared.key.Profile.TheVariants.{Two};
 ghost use Rattle.wasm_record.specs.Recordings.{IsKeyOf};
-ghost use Rattle.commands.specs.Records.{IsScheduleFile, IsScheduleRefused, IsOrderRefused, IsRecordRefusal, IsRecordedBy, IsRecordedText, IsRecordRefused, IsRunOf, IsRunOfThreads, IsWritten, recorded_text};
+ghost use Rattle.commands.specs.Records.{IsScheduleFile, IsScheduleRefused, IsOrderRefused, IsRecordRefusal, IsRecordedBy, IsRecordAnswer, IsRecordRefused, IsRunOf, IsRunOfThreads, IsAnswerOf, answer_of};
 
 use crate::fault::Fault;
 use crate::files::Files;
 use crate::program::{Program, read_program};
 use crate::record_answer::RecordAnswer;
 use crate::schedule_file::read_schedule;
+use crate::stopped::stopped_line;
 use command_words::{RecordOrder, RecordRequest};
 use log::Log;
 use log_pieces::MOST_ENTRIES;
@@ -52,7 +53,7 @@ fn record_by_schedule<L: Log, F: Files>(
     request: &RecordRequest<'_>,
 ) -> Result<RecordAnswer, Fault>
     requires { IsPlanOf program.now.valid program.now.plan }
-    ensures recorded { IfOk result (λ text. (picks : List Pick) × IsScheduleFile (F.holds files.old path.now) picks × IsWritten program.now.valid program.now.plan request.now (IsRunOf program.now.valid program.now.plan request.now picks) text) }
+    ensures recorded { IfOk result (λ answer. (picks : List Pick) × IsScheduleFile (F.holds files.old path.now) picks × IsAnswerOf program.now.valid program.now.plan request.now (IsRunOf program.now.valid program.now.plan request.now picks) answer) }
     ensures refused { IfErr result (λ fault. IsScheduleRefused (F.holds files.old path.now) (F.fails files.old path.now) fault
         ⊎ ((picks : List Pick) × IsScheduleFile (F.holds files.old path.now) picks × IsRecordRefusal request.now.size fault)) }
 {
@@ -71,7 +72,7 @@ fn record_picks(
     request: &RecordRequest<'_>,
 ) -> Result<RecordAnswer, Fault>
     requires { IsPlanOf program.now.valid program.now.plan }
-    ensures recorded { IfOk result (λ text. IsWritten program.now.valid program.now.plan request.now (IsRunOf program.now.valid program.now.plan request.now picks.now) text) }
+    ensures recorded { IfOk result (λ answer. IsAnswerOf program.now.valid program.now.plan request.now (IsRunOf program.now.valid program.now.plan request.now picks.now) answer) }
     ensures refused { IfErr result (IsRecordRefusal request.now.size) }
 {
     if let Err(fault) = check_size(request.size) {
@@ -81,7 +82,7 @@ fn record_picks(
     let block = request.block;
     let steps = request.steps;
     match record_schedule(alloc, valid, plan, request.run, block, picks, steps) {
-        Ok(recording) => written(alloc, recording, request),
+        Ok(recording) => answered(alloc, recording, request),
         Err(NoMemory) => Err(Fault::NoMemory),
     }
 }
@@ -125,14 +126,14 @@ fn record_by_threads<T: Threads + Wait + Sync>(
     request: &RecordRequest<'_>,
 ) -> Result<RecordAnswer, Fault>
     requires { IsPlanOf program.now.valid program.now.plan }
-    ensures recorded { IfOk result (λ text. IsWritten program.now.valid program.now.plan request.now (IsRunOfThreads program.now.valid program.now.plan request.now times_out) text) }
+    ensures recorded { IfOk result (λ answer. IsAnswerOf program.now.valid program.now.plan request.now (IsRunOfThreads program.now.valid program.now.plan request.now times_out) answer) }
     ensures refused { IfErr result (IsRecordRefusal request.now.size) }
 {
     if let Err(fault) = check_size(request.size) {
         return Err(Fault::Pieces(fault));
     }
     match recording_by_threads(threads, alloc, program, times_out, request) {
-        Ok(recording) => written(alloc, recording, request),
+        Ok(recording) => answered(alloc, recording, request),
         Err(NoMemory) => Err(Fault::NoMemory),
     }
 }
@@ -147,7 +148,7 @@ fn recorded_by<L: Log, T: Threads + Wait + Sync, F: Files>(
     request: &RecordRequest<'_>,
 ) -> Result<RecordAnswer, Fault>
     requires { IsPlanOf program.now.valid program.now.plan }
-    ensures recorded { IfOk result (λ text. IsRecordedBy (F.holds files.old) program.now.valid program.now.plan request.now request.now.order text) }
+    ensures recorded { IfOk result (λ answer. IsRecordedBy (F.holds files.old) program.now.valid program.now.plan request.now request.now.order answer) }
     ensures refused { IfErr result (λ fault. IsOrderRefused (F.holds files.old) (F.fails files.old) request.now request.now.order fault) }
 {
     match request.order {
@@ -160,7 +161,7 @@ fn recorded_by<L: Log, T: Threads + Wait + Sync, F: Files>(
     }
 }
 
-/// What a run came to: its report, or the lines of its pieces. The module is read and judged, then the plan, then the
+/// What a run came to: its report, or the lines of its pieces, and which threads stopped at `--steps`. The module is read and judged, then the plan, then the
 /// schedule, if the threads go on by one, then the size of the pieces.
 pub fn record<L: Log, T: Threads + Wait + Sync, F: Files>(
     rt: &L,
@@ -169,7 +170,7 @@ pub fn record<L: Log, T: Threads + Wait + Sync, F: Files>(
     files: &mut F,
     request: &RecordRequest<'_>,
 ) -> Result<RecordAnswer, Fault>
-    ensures recorded { IfOk result (λ text. IsRecordedText (F.holds files.old) request.now text) }
+    ensures recorded { IfOk result (λ answer. IsRecordAnswer (F.holds files.old) request.now answer) }
     ensures refused { IfErr result (λ fault. IsRecordRefused (F.holds files.old) (F.fails files.old) request.now fault) }
 {
     let program = match read_program(rt, alloc, files, request.module, request.plan) {
@@ -179,25 +180,38 @@ pub fn record<L: Log, T: Threads + Wait + Sync, F: Files>(
     recorded_by(rt, threads, alloc, files, &program, request)
 }
 
-/// The report of a recording, or the lines of its pieces, for which room is taken.
+/// The report of a recording, or the lines of its pieces, for which room is taken, and the line of the threads that stopped at
+/// `--steps`.
 fn written(
+    alloc: Global,
+    recording: Recording,
+    request: &RecordRequest<'_>,
+) -> Result<RecordAnswer, NoMemory>
+    requires some { 0 < request.now.size }
+    requires few { request.now.size ≤ 4096 }
+    ensures answer { IfOk result (λ answer. answer ≡ answer_of request.now recording) }
+{
+    let stopped = stopped_line(alloc, request.steps, recording.recorded().log())?;
+    if !request.report {
+        return RecordAnswer::of_lines(alloc, recording, request.size, stopped);
+    }
+    let text = report(alloc, recording.recorded().end())?;
+    Ok(RecordAnswer::of_text(text.into_bytes(), stopped))
+}
+
+/// The same, or the program's fault.
+fn answered(
     alloc: Global,
     recording: Recording,
     request: &RecordRequest<'_>,
 ) -> Result<RecordAnswer, Fault>
     requires some { 0 < request.now.size }
     requires few { request.now.size ≤ 4096 }
-    ensures text { IfOk result (λ text. text ≡ recorded_text request.now.report request.now.size recording) }
+    ensures answer { IfOk result (λ answer. answer ≡ answer_of request.now recording) }
     ensures refused { IfErr result (IsRecordRefusal request.now.size) }
 {
-    if !request.report {
-        return match RecordAnswer::of_lines(alloc, recording, request.size) {
-            Ok(answer) => Ok(answer),
-            Err(NoMemory) => Err(Fault::NoMemory),
-        };
-    }
-    match report(alloc, recording.recorded().end()) {
-        Ok(text) => Ok(RecordAnswer::of_text(text.into_bytes())),
+    match written(alloc, recording, request) {
+        Ok(answer) => Ok(answer),
         Err(NoMemory) => Err(Fault::NoMemory),
     }
 }

@@ -1,9 +1,16 @@
 -- How a command stops.
-use Rattle.std.proofs.Common.{◌≡◌, ℕ, List, ◌++◌, Bool, true, false, Result, Ok, Err, OnErr, IfErr, inl, inr, sym, subst, refl}
+use Rattle.std.proofs.Common.{◌≡◌, ℕ, List, ◌++◌, Bool, true, false, Result, Ok, Err, OnOk, OnErr, IfErr, inl, inr, sym, subst, refl}
 use Rattle.wasm_types.specs.declared.key.RunKey.{RunKey}
+use Rattle.clap.specs.Words.{Text}
+use Rattle.command_words.specs.Asked.{Asks, IsRequested, asks_why}
+use Rattle.command_words.specs.declared.command.Asked.{Asked}
+use Rattle.command_words.specs.declared.command.Asked.TheVariants as asked
 use Rattle.command_words.specs.declared.requests.Request.{Request}
+use Rattle.command_words.specs.declared.requests.RecordRequest.{RecordRequest}
 use Rattle.command_words.specs.declared.requests.ReplayRequest.{ReplayRequest}
+use Rattle.commands.specs.Records.{AnswerAt, IsRecordAnswer}
 use Rattle.commands.specs.Replays.{IsReplayRefused}
+use Rattle.replica.specs.declared.skipping.Skipped.{Skipped}
 use Rattle.command_words.specs.declared.requests.Request.TheVariants as request
 use Rattle.line_faults.specs.declared.reasons.LineFault.{LineFault}
 use Rattle.replica.specs.Gathered.{IsBadLine, IsOtherRun, IsCutText}
@@ -12,16 +19,32 @@ use Rattle.replica.specs.declared.fault.GatherFault.{GatherFault}
 use Rattle.replica.specs.declared.fault.GatherFault.TheVariants as gathering
 use Rattle.commands.specs.declared.fault.Fault.{Fault}
 use Rattle.commands.specs.declared.fault.Fault.TheVariants.{SinkFailed}
-use Rattle.program.specs.Answers.{IsListed, IsListedSkipping, IsCut, IsDone, IsStopped, fault_of, form_of}
+use Rattle.program.specs.Answers.{IsListed, IsListedSkipping, IsShown, IsCut, IsSaid, IsDone, IsStopped, fault_of, form_of}
+
+-- what the words ask for, where that is a request
+pub as_requested : (words : List Text) (found : Asked) (r : Request) (why : Bool) → found ≡ asked.Request r why → IsRequested words found → Asks words r × (why ≡ asks_why words)
+as_requested words found r why is h = subst (IsRequested words) is h
 
 module _ (holds : List ℕ → List ℕ → Type 0) (fails brought : List ℕ → Type 0) (ended broke : Type 0) (took : List ℕ → Type 0) (unwritten unwritable : Type 0) where
   -- what was to be shown stops where the output fails
-  pub shown_stops : (asked asks : Request) (text items : List ℕ) {T : Type 0} (result : Result T Fault) → asked ≡ asks → text ≡ items → IsDone holds fails brought ended broke (λ skipped. Unit {0}) asks items
+  pub shown_stops : (asked asks : Request) (text items : List ℕ) {T : Type 0} (result : Result T Fault) → asked ≡ asks → text ≡ items → IsDone holds fails brought ended broke (λ skipped. Unit {0}) (λ line. Unit {0}) asks items
       → IfErr result (λ fault. fault ≡ SinkFailed) → OnErr result unwritable → OnErr result ((part rest : List ℕ) × (text ≡ part ++ rest) × took part)
       → IfErr result (IsStopped holds fails brought ended broke took unwritten unwritable asked)
   shown_stops asked asks text items (Ok x) is same done e u b = tt
   shown_stops asked asks text items (Err fault) is same done e u b =
-      inr (e, u, (text, b.0, b.1, subst (λ (r : Request). IsDone holds fails brought ended broke (λ skipped. Unit {0}) r text) (sym is) (subst (IsDone holds fails brought ended broke (λ skipped. Unit {0}) asks) (sym same) done), b.2, b.3))
+      inr (e, u, (text, b.0, b.1, subst (λ (r : Request). IsDone holds fails brought ended broke (λ skipped. Unit {0}) (λ line. Unit {0}) r text) (sym is) (subst (IsDone holds fails brought ended broke (λ skipped. Unit {0}) (λ line. Unit {0}) asks) (sym same) done), b.2, b.3))
+
+  -- a recording is done where its text was shown, and its line told
+  pub record_done : (asked : Request) (r : RecordRequest) (answer : AnswerAt) (counted : Skipped → Type 0) (said : List ℕ → Type 0) {T : Type 0} (result : Result T Fault) → asked ≡ request.Record r
+      → IsRecordAnswer holds r answer → OnOk result (took answer.text) → OnOk result (said answer.stopped) → OnOk result (IsShown took (IsDone holds fails brought ended broke counted said asked))
+  record_done asked r answer counted said (Ok x) is recorded shown told =
+      subst (λ (q : Request). IsShown took (IsDone holds fails brought ended broke counted said q)) (sym is) (answer.text, (answer, recorded, refl, told), shown)
+  record_done asked r answer counted said (Err fault) is recorded shown told = tt
+
+  -- what was done where the reason is asked for was done by the words that ask for it
+  pub done_as_asked : (counted : Skipped → Type 0) (tells : List ℕ → Type 0) (why asked : Bool) (r : Request) → why ≡ asked
+      → IsShown took (IsDone holds fails brought ended broke counted (IsSaid tells why) r) → IsShown took (IsDone holds fails brought ended broke counted (IsSaid tells asked) r)
+  done_as_asked counted tells why asked r is done = subst (λ (b : Bool). IsShown took (IsDone holds fails brought ended broke counted (IsSaid tells b) r)) is done
 
   -- a replay that is refused stops
   pub replay_stops : (asked : Request) (r : ReplayRequest) (by_threads : Bool) (fault : Fault) → asked ≡ request.Replay r by_threads

@@ -18,7 +18,7 @@ use Rattle.command_words.specs.declared.requests.Request.TheVariants as request
 use Rattle.commands.specs.Texts.{fault_text}
 use Rattle.explanations.specs.Explained.{IsExplanation}
 use Rattle.commands.specs.Checks.{IsChecked, IsCheckRefused}
-use Rattle.commands.specs.Records.{IsRecordedText, IsRecordRefused}
+use Rattle.commands.specs.Records.{AnswerAt, IsRecordAnswer, IsRecordRefused}
 use Rattle.commands.specs.Replays.{IsReplayedText, IsReplayRefused}
 use Rattle.commands.specs.Views.{IsViewedText, IsViewRefused}
 use Rattle.commands.specs.declared.fault.Fault.{Fault}
@@ -92,6 +92,12 @@ abbrev pub IsTold : (List ℕ → Type 0) → Bool → Request → Fault → Typ
 IsTold tells false r fault = tells (fault_line fault)
 IsTold tells true r fault = (text : List ℕ) × IsReason r fault text × tells (fault_line fault ++ (map shown text ++ 10 ∷ []))
 
+-- where the words ask for it, the line is told, if there is one
+abbrev pub IsSaid : (List ℕ → Type 0) → Bool → List ℕ → Type 0
+IsSaid tells false line = Unit {0}
+IsSaid tells true [] = Unit {0}
+IsSaid tells true line = tells line
+
 -- what is said of a word of the command line that is no text: its number, and its bytes as they are quoted
 abbrev pub odd_line : ℕ → List ℕ → List ℕ
 odd_line number bytes = codes "error: word " ++ (decimal number ++ (codes " of the command line is not UTF-8: " ++ (quoted bytes ++ codes "\n")))
@@ -112,14 +118,15 @@ module _ (took : List ℕ → Type 0) where
 
 -- What the files may hold and which may fail, what the source brought, and whether it ended or failed.
 module _ (holds : List ℕ → List ℕ → Type 0) (fails : List ℕ → Type 0) (brought : List ℕ → Type 0) (ended broke : Type 0) where
-  -- the text of a command that is done; `counted` says that the numbers of lines passed over were told
-  abbrev pub IsDone : (Skipped → Type 0) → Request → List ℕ → Type 0
-  IsDone counted (request.Gather false objects) text = IsListed (form_of objects) brought ended text
-  IsDone counted (request.Gather true objects) text = IsListedSkipping (form_of objects) brought ended counted text
-  IsDone counted (request.Check path) text = IsChecked (holds path.now) text
-  IsDone counted (request.Record r) text = IsRecordedText holds r text
-  IsDone counted (request.Replay r by_threads) text = IsReplayedText holds r text
-  IsDone counted (request.View r) text = IsViewedText holds r text
+  -- the text of a command that is done; `counted` says that the numbers of lines passed over were told, and `said` that a recording's
+  -- line of the threads that stopped was
+  abbrev pub IsDone : (Skipped → Type 0) → (List ℕ → Type 0) → Request → List ℕ → Type 0
+  IsDone counted said (request.Gather false objects) text = IsListed (form_of objects) brought ended text
+  IsDone counted said (request.Gather true objects) text = IsListedSkipping (form_of objects) brought ended counted text
+  IsDone counted said (request.Check path) text = IsChecked (holds path.now) text
+  IsDone counted said (request.Record r) text = (answer : AnswerAt) × IsRecordAnswer holds r answer × (text ≡ answer.text) × said answer.stopped
+  IsDone counted said (request.Replay r by_threads) text = IsReplayedText holds r text
+  IsDone counted said (request.View r) text = IsViewedText holds r text
 
   -- when each fault is answered
   abbrev pub IsRefused : Request → Fault → Type 0
@@ -134,13 +141,13 @@ module _ (holds : List ℕ → List ℕ → Type 0) (fails : List ℕ → Type 0
   module _ (took : List ℕ → Type 0) (unwritten unwritable : Type 0) where
     -- a command stops: it is refused, and nothing was written; or the output failed
     abbrev pub IsStopped : Request → Fault → Type 0
-    IsStopped r fault = (IsRefused r fault × unwritten) ⊎ ((fault ≡ SinkFailed) × unwritable × IsCut took (IsDone (λ skipped. Unit {0}) r))
+    IsStopped r fault = (IsRefused r fault × unwritten) ⊎ ((fault ≡ SinkFailed) × unwritable × IsCut took (IsDone (λ skipped. Unit {0}) (λ line. Unit {0}) r))
 
     -- Whether numbers of lines were told, which texts were told from first to last, and whether no file and no input was read.
     module _ (counted : Skipped → Type 0) (tells : List ℕ → Type 0) (unread : Type 0) (words : List Text) where
       -- the very text of the command that the words ask for, or a text of help where they ask for that
       abbrev pub IsDoneBy : Type 0
-      IsDoneBy = ((r : Request) × Asks words r × IsShown took (IsDone counted r)) ⊎ (AsksForText words × unread × IsShown took (λ text. Unit {0}))
+      IsDoneBy = ((r : Request) × Asks words r × IsShown took (IsDone counted (IsSaid tells (asks_why words)) r)) ⊎ (AsksForText words × unread × IsShown took (λ text. Unit {0}))
 
       -- the command that the words ask for stops so; or a text of help is not written; or there is no memory for the words
       abbrev pub IsRefusedBy : Fault → Type 0

@@ -6,7 +6,7 @@ ghost use Rattle.commands.specs.Texts.{skipped_text};
 ghost use Rattle.commands.specs.declared.fault.Fault.TheVariants as faults;
 ghost use Rattle.replica.specs.declared.fault.GatherFault.TheVariants as gathering;
 ghost use Rattle.replica.specs.Lines.{IsDeviceFault};
-ghost use Rattle.program.specs.Answers.{WritesSome, IsShown, IsCut, IsListedSkipping, IsDone, IsStopped, IsAnswered, fault_line, fault_of, form_of, not_text_line, odd_line};
+ghost use Rattle.program.specs.Answers.{WritesSome, IsShown, IsCut, IsSaid, IsListedSkipping, IsDone, IsStopped, IsAnswered, fault_line, fault_of, form_of, not_text_line, odd_line};
 
 use crate::refusing::{refuse, refuse_request};
 use arrayvec::ArrayString;
@@ -44,10 +44,11 @@ fn show<W: Sink>(output: &mut W, text: &[u8]) -> Result<(), Fault>
 }
 
 /// Writes what a recording answers to the output: a text, or lines that are made as they are written.
-fn show_recorded<W: Sink>(output: &mut W, answer: RecordAnswer) -> Result<(), Fault>
+fn show_recorded<W: Sink>(output: &mut W, answer: &mut RecordAnswer) -> Result<(), Fault>
     requires { W.failed output.old < 2 ^ 64 - 1 }
-    ensures shown { OnOk result (W.takes output.old answer output.new) }
-    ensures begun { OnErr result (WritesSome (W.takes output.old) answer output.new) }
+    ensures shown { OnOk result (W.takes output.old answer.old.text output.new) }
+    ensures begun { OnErr result (WritesSome (W.takes output.old) answer.old.text output.new) }
+    ensures stopped { answer.new.stopped ≡ answer.old.stopped }
     ensures none_failed { OnOk result (W.failed output.new ≡ W.failed output.old) }
     ensures one_failed { OnErr result (W.failed output.new ≡ W.failed output.old + 1) }
     ensures error { IfErr result (λ fault. fault ≡ faults.SinkFailed) }
@@ -55,6 +56,43 @@ fn show_recorded<W: Sink>(output: &mut W, answer: RecordAnswer) -> Result<(), Fa
     match answer.write(output) {
         Ok(()) => Ok(()),
         Err(_) => Err(Fault::SinkFailed),
+    }
+}
+
+/// Writes the line of the threads of a recording that stopped at `--steps`, where it is asked for and there are any. Where writing fails
+/// there is nobody to tell.
+fn tell_stopped<E: Sink>(errors: &mut E, why: bool, line: &str)
+    requires { E.failed errors.old < 2 ^ 64 - 1 }
+    ensures { IsSaid (λ text. (E.takes errors.old text errors.new) ⊎ (E.failed errors.new ≡ E.failed errors.old + 1)) why line.now }
+{
+    if why && !line.is_empty() {
+        let _ = write_all(errors, line.as_bytes());
+    }
+}
+
+/// Shows what a recording answers, and where it is asked for which threads stopped at `--steps`.
+fn show_and_tell<W: Sink, E: Sink>(
+    output: &mut W,
+    errors: &mut E,
+    mut answer: RecordAnswer,
+    why: bool,
+) -> Result<(), Fault>
+    requires output { W.failed output.old < 2 ^ 64 - 1 }
+    requires errors { E.failed errors.old < 2 ^ 64 - 1 }
+    ensures shown { OnOk result (W.takes output.old answer.text output.new) }
+    ensures told { OnOk result (IsSaid (λ text. (E.takes errors.old text errors.new) ⊎ (E.failed errors.new ≡ E.failed errors.old + 1)) why answer.stopped) }
+    ensures begun { OnErr result (WritesSome (W.takes output.old) answer.text output.new) }
+    ensures none_failed { OnOk result (W.failed output.new ≡ W.failed output.old) }
+    ensures one_failed { OnErr result (W.failed output.new ≡ W.failed output.old + 1) }
+    ensures error { IfErr result (λ fault. fault ≡ faults.SinkFailed) }
+    ensures untold { OnErr result (errors.new ≡ errors.old) }
+{
+    match show_recorded(output, &mut answer) {
+        Ok(()) => {
+            tell_stopped(errors, why, answer.stopped());
+            Ok(())
+        }
+        Err(fault) => Err(fault),
     }
 }
 
@@ -134,6 +172,7 @@ fn perform<L: Log, T: Threads + Wait + Sync, F: Files, R: Source, W: Sink, E: Si
     threads: &T,
     alloc: Global,
     request: &Request<'_>,
+    why: bool,
     files: &mut F,
     source: &mut R,
     output: &mut W,
@@ -142,7 +181,7 @@ fn perform<L: Log, T: Threads + Wait + Sync, F: Files, R: Source, W: Sink, E: Si
     requires source { R.failed source.old < 2 ^ 64 - 1 }
     requires output { W.failed output.old < 2 ^ 64 - 1 }
     requires errors { E.failed errors.old < 2 ^ 64 - 1 }
-    ensures done { OnOk result (IsShown (λ text. W.takes output.old text output.new) (IsDone (F.holds files.old) (F.fails files.old) (λ text. R.brings source.old text source.new) (R.ended source.new) (R.failed source.new ≡ R.failed source.old + 1) (λ skipped. (E.takes errors.old (skipped_text skipped ++ 10 ∷ []) errors.new) ⊎ (E.failed errors.new ≡ E.failed errors.old + 1)) request.now)) }
+    ensures done { OnOk result (IsShown (λ text. W.takes output.old text output.new) (IsDone (F.holds files.old) (F.fails files.old) (λ text. R.brings source.old text source.new) (R.ended source.new) (R.failed source.new ≡ R.failed source.old + 1) (λ skipped. (E.takes errors.old (skipped_text skipped ++ 10 ∷ []) errors.new) ⊎ (E.failed errors.new ≡ E.failed errors.old + 1)) (IsSaid (λ text. (E.takes errors.old text errors.new) ⊎ (E.failed errors.new ≡ E.failed errors.old + 1)) why) request.now)) }
     ensures untold { OnErr result (errors.new ≡ errors.old) }
     ensures stopped { IfErr result (IsStopped (F.holds files.old) (F.fails files.old) (λ text. R.brings source.old text source.new) (R.ended source.new) (R.failed source.new ≡ R.failed source.old + 1) (λ text. W.takes output.old text output.new) (output.new ≡ output.old) (W.failed output.new ≡ W.failed output.old + 1) request.now) }
     ensures source_worked { OnOk result (R.failed source.new ≡ R.failed source.old) }
@@ -168,7 +207,7 @@ fn perform<L: Log, T: Threads + Wait + Sync, F: Files, R: Source, W: Sink, E: Si
             Err(fault) => Err(fault),
         },
         Request::Record(request) => match record(rt, threads, alloc, files, request) {
-            Ok(answer) => show_recorded(output, answer),
+            Ok(answer) => show_and_tell(output, errors, answer, why),
             Err(fault) => Err(fault),
         },
         Request::Replay {
@@ -238,7 +277,7 @@ pub fn run<L: Log, T: Threads + Wait + Sync, F: Files, R: Source, W: Sink, E: Si
     requires output { W.failed output.old < 2 ^ 64 - 1 }
     requires errors { E.failed errors.old < 2 ^ 64 - 1 }
     // Done: the output took the very text of the command that the words ask for, and where lines were passed over `errors`
-    // took the line of their numbers, or failed. Refused: `errors` took the line of the fault, and where the words ask for it
+    // took the line of their numbers, or failed, and where the words ask for it the line of the threads that stopped. Refused: `errors` took the line of the fault, and where the words ask for it
     // one more line, of the reason, or failed; and nothing was written but by a failing output. Not understood: nothing was read or written.
     ensures answered { IsAnswered (F.holds files.old) (F.fails files.old)
         (λ text. R.brings source.old text source.new) (R.ended source.new) (R.failed source.new ≡ R.failed source.old + 1)
@@ -252,7 +291,9 @@ pub fn run<L: Log, T: Threads + Wait + Sync, F: Files, R: Source, W: Sink, E: Si
 {
     match requested(alloc, words) {
         Ok(Asked::Request { request, why }) => {
-            match perform(rt, threads, alloc, &request, files, source, output, errors) {
+            match perform(
+                rt, threads, alloc, &request, why, files, source, output, errors,
+            ) {
                 Ok(()) => 0,
                 Err(fault) => refuse_request(rt, alloc, files, &request, why, errors, &fault),
             }

@@ -51,6 +51,9 @@ const STEPS_AND_TIME_OUT: &str = "go 0 4\nout 0\ngo 0 1\n";
 /// A schedule of all their steps.
 const PICKS: &str = "go 0 3\ngo 1 8\ngo 0 5\n";
 
+/// A schedule by which one of them is left at its third step.
+const FEWER_PICKS: &str = "go 0 3\ngo 1 8\n";
+
 /// A line that is no piece, the piece of a thread that made three steps and no access, the piece of another run, and once more a line that
 /// is no piece.
 const MIXED: &str = "zz\n\
@@ -103,7 +106,7 @@ fn paths(alloc: Global, lines: &Lines) -> Vec<u8> {
     paths
 }
 
-/// Runs the program on the files `m`, `p`, `s` and `l`: a module, a plan, a schedule and piece lines; `w` and `a`, a module whose
+/// Runs the program on the files `m`, `p`, `s`, `f` and `l`: a module, a plan, two schedules and piece lines; `w` and `a`, a module whose
 /// thread waits and a plan of it alone; `g` and `o`, its steps without and with the time-out of its wait.
 fn run_on<T: Threads + Wait + Sync>(threads: &T, alloc: Global, case: Case<'_>) -> Done
     requires { 0 < case.most }
@@ -117,6 +120,7 @@ fn run_on<T: Threads + Wait + Sync>(threads: &T, alloc: Global, case: Case<'_>) 
         file("m", &COUNTER),
         file("p", PLAN.as_bytes()),
         file("s", PICKS.as_bytes()),
+        file("f", FEWER_PICKS.as_bytes()),
         lines,
         file("w", &LIMITED),
         file("a", ALONE.as_bytes()),
@@ -469,5 +473,99 @@ fn explains_itself_in_short_lines(rt: HostRuntime) {
         for line in page.lines() {
             assert!(rt; line.len() <= 80, "{line}");
         }
+    }
+}
+
+/// Words that record, and what standard error says of the threads.
+const STOPPED: &[(&[&str], &str)] = &[
+    (
+        &[
+            "wreplay",
+            "record",
+            "m",
+            "p",
+            "--schedule",
+            "s",
+            "--steps",
+            "3",
+            "--why",
+        ],
+        "threads stopped at --steps 3: 0 1\n",
+    ),
+    // Only thread 1 makes five steps.
+    (
+        &[
+            "wreplay",
+            "record",
+            "m",
+            "p",
+            "--schedule",
+            "f",
+            "--steps",
+            "5",
+            "--report",
+            "--why",
+        ],
+        "threads stopped at --steps 5: 1\n",
+    ),
+    // Thread 1 returns at its eighth step.
+    (
+        &[
+            "wreplay",
+            "record",
+            "m",
+            "p",
+            "--schedule",
+            "f",
+            "--steps",
+            "8",
+            "--why",
+        ],
+        "",
+    ),
+    (
+        &[
+            "wreplay",
+            "record",
+            "m",
+            "p",
+            "--schedule",
+            "s",
+            "--steps",
+            "3",
+        ],
+        "",
+    ),
+    (
+        &[
+            "wreplay",
+            "record",
+            "m",
+            "p",
+            "--threads",
+            "--steps",
+            "0",
+            "--why",
+        ],
+        "threads stopped at --steps 0: 0 1\n",
+    ),
+];
+
+#[test]
+fn says_which_threads_stopped(rt: HostRuntime) {
+    let rows = STOPPED;
+    for (words, errors) in rows {
+        let case = Case {
+            words: *words,
+            lines: "",
+            read_fails_at: None,
+            most: 65536,
+            write_fails_at: None,
+        };
+        let done = run_on(&rt, rt.alloc(), case);
+        assert!(rt;
+            done.status == 0 && text(&done.errors) == *errors,
+            "{errors}"
+        );
     }
 }

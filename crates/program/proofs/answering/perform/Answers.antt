@@ -1,7 +1,7 @@
 use Rattle.std.proofs.Common.{rules, refl, subst}
 use Rattle.replica.specs.Gathered.{IsListing}
 use Rattle.replica.specs.declared.form.ListingForm.{ListingForm}
-use Rattle.program.proofs.Stops.{shown_stops, gather_stops, skipping_stops, replay_stops}
+use Rattle.program.proofs.Stops.{shown_stops, record_done, gather_stops, skipping_stops, replay_stops}
 use Rattle.program.proofs.answering.perform.Goals as goal
 
 pub returns-in-Err-clause-stopped : goal.returns-in-Err-clause-stopped
@@ -27,9 +27,14 @@ pub returns-in-Ok-check-clause-stopped : goal.returns-in-Ok-check-clause-stopped
 returns-in-Ok-check-clause-stopped g c =
     shown_stops _ _ _ _ _ _ _ _ c.args.request.now _ c.deref.result.now c.in-Ok-check.text.items c.show.result c.in-Check.is c.deref.ensures.value c.in-Ok-check.ensures.checked c.show.ensures.error c.show.ensures.one_failed c.show.ensures.begun
 
+pub returns-in-Ok-record-clause-done : goal.returns-in-Ok-record-clause-done
+returns-in-Ok-record-clause-done g c =
+    record_done _ (λ path. Unit {0}) _ _ (Unit {0}) _ (Unit {0}) (Unit {0}) c.args.request.now _ c.in-Ok-record.answer _ _ c.show_and_tell.result c.in-Record.is c.in-Ok-record.ensures.recorded c.show_and_tell.ensures.shown c.show_and_tell.ensures.told
+
 pub returns-in-Ok-record-clause-stopped : goal.returns-in-Ok-record-clause-stopped
 returns-in-Ok-record-clause-stopped g c =
-    shown_stops _ _ _ _ _ _ _ _ c.args.request.now _ c.in-Ok-record.answer c.in-Ok-record.answer c.show_recorded.result c.in-Record.is refl c.in-Ok-record.ensures.recorded c.show_recorded.ensures.error c.show_recorded.ensures.one_failed c.show_recorded.ensures.begun
+    let a = c.in-Ok-record.answer in
+    shown_stops _ _ _ _ _ _ _ _ c.args.request.now _ a.text a.text c.show_and_tell.result c.in-Record.is refl (a, c.in-Ok-record.ensures.recorded, refl, tt) c.show_and_tell.ensures.error c.show_and_tell.ensures.one_failed c.show_and_tell.ensures.begun
 
 pub returns-in-Ok-replay-clause-stopped : goal.returns-in-Ok-replay-clause-stopped
 returns-in-Ok-replay-clause-stopped g c =

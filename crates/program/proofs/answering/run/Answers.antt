@@ -1,5 +1,6 @@
-use Rattle.std.proofs.Common.{arith, rules, inl, inr, refl}
+use Rattle.std.proofs.Common.{◌≡◌, ◌⊎◌, ◌+◌, ℕ, List, arith, rules, inl, inr, refl}
 use Rattle.commands.specs.declared.fault.Fault.TheVariants.{NoMemory}
+use Rattle.program.proofs.Stops.{as_requested, done_as_asked}
 use Rattle.program.proofs.answering.run.Goals as goal
 
 pub returns-clause-answered : goal.returns-clause-answered
@@ -18,4 +19,20 @@ returns-in-Ok-Text-clause-answered g c =
       refused = λ z. (c.in-Err-show.fault, inr (inl (search rules, (refl, refl), c.in-Err-show.ensures.error, c.in-Err-show.ensures.one_failed, (_, b.0, b.1, tt, b.2, b.3), c.refuse.ensures.tells)));
       unknown = λ z. absurd (omega (arith, z, c.refuse.ensures.status));
       statuses = omega (arith, c.refuse.ensures.status);
+    }
+
+pub returns-in-Ok-clause-answered : goal.returns-in-Ok-clause-answered
+returns-in-Ok-clause-answered g c =
+    let asked = as_requested _ _ c.in-Ok-Request.request c.in-Ok-Request.why c.in-Ok-Request.field-0-is c.in-Ok-Request.ensures in
+    let broke : Type 0 = g.R.Source.failed c.perform.new.source ≡ g.R.Source.failed c.args.source.now + 1 in
+    let tells : List ℕ → Type 0 = λ text. g.E.Sink.takes c.args.errors.now text c.perform.new.errors ⊎ (g.E.Sink.failed c.perform.new.errors ≡ g.E.Sink.failed c.args.errors.now + 1) in
+    record {
+      done = λ z. inl (
+        c.in-Ok-Request.request,
+        asked.0,
+        done_as_asked _ (g.F.Files.fails c.args.files.now) _ _ broke _ (Unit {0}) (Unit {0}) _ tells _ _ c.in-Ok-Request.request asked.1 c.in-Ok.ensures.done,
+      );
+      refused = λ z. absurd (omega (arith, z));
+      unknown = λ z. absurd (omega (arith, z));
+      statuses = omega arith;
     }
