@@ -1,5 +1,9 @@
+use Rattle.std.proofs.Common.{◌≡◌, ◌⊎◌, ◌+◌, ◌++◌, ℕ, List}
 use Rattle.program.proofs.InMemory.{is_valid}
 use Rattle.program.proofs.tests.checked_in_memory.Goals as goal
 
-pub returns-clause-valid : goal.returns-clause-valid
-returns-clause-valid g c path asks is = is_valid c.args.files.now.files.now _ _ _ _ _ _ _ _ path asks (c.run.ensures.answered.done is)
+pub returns : goal.returns
+returns g c =
+    let broke : Type 0 = c.run-status.new.source.failures ≡ c.new-source.result.failures + 1 in
+    let tells : List ℕ → Type 0 = λ text. (c.run-status.new.errors.taken.items ≡ c.new-errors.result.taken.items ++ text) ⊎ (c.run-status.new.errors.failures ≡ c.new-errors.result.failures + 1) in
+    record { valid = λ path asks is. is_valid c.args.files.now.files.now _ _ broke _ _ tells _ _ path asks (c.run-status.ensures.answered.done is) }
