@@ -143,6 +143,11 @@ const fn failed(fault: GatherFault, source_failures: u64, sink_failures: u64) ->
     }
 }
 
+/// What is answered where there is no memory for a text to be gathered.
+fn no_text() -> Gathered {
+    failed(GatherFault::NoMemory, 0, 0)
+}
+
 /// What gathering the text comes to over these devices, of which the sink is wanted to take these bytes.
 fn gather_over(alloc: Global, text: &str, devices: &Devices, wanted: &[u8]) -> Gathered {
     let mut source = MemorySource::new(text.as_bytes(), devices.most, devices.source_fails_at);
@@ -191,22 +196,25 @@ fn listing_of(alloc: Global, listed: &str) -> Result<String, NoMemory> {
 }
 
 /// What gathering these pieces comes to, whose listing is wanted to be this one.
-fn gathered_from(
-    alloc: Global,
-    pieces: &[&str],
-    devices: &Devices,
-    listed: &str,
-) -> Result<Gathered, NoMemory> {
-    let text = lines(alloc, pieces)?;
-    let wanted = listing_of(alloc, listed)?;
-    Ok(gather_over(alloc, &text, devices, wanted.as_bytes()))
+fn gathered_from(alloc: Global, pieces: &[&str], devices: &Devices, listed: &str) -> Gathered {
+    let Ok(text) = lines(alloc, pieces) else {
+        return no_text();
+    };
+    let Ok(wanted) = listing_of(alloc, listed) else {
+        return no_text();
+    };
+    gather_over(alloc, &text, devices, wanted.as_bytes())
 }
 
 /// The same where the last line lacks its end.
-fn gathered_from_open(alloc: Global, pieces: &[&str], listed: &str) -> Result<Gathered, NoMemory> {
-    let text = lines(alloc, pieces)?;
-    let wanted = listing_of(alloc, listed)?;
-    Ok(gather_over(alloc, text.trim_end(), &LARGE, wanted.as_bytes()))
+fn gathered_from_open(alloc: Global, pieces: &[&str], listed: &str) -> Gathered {
+    let Ok(text) = lines(alloc, pieces) else {
+        return no_text();
+    };
+    let Ok(wanted) = listing_of(alloc, listed) else {
+        return no_text();
+    };
+    gather_over(alloc, text.trim_end(), &LARGE, wanted.as_bytes())
 }
 
 static EXAMPLES: &[(&[&str], &str)] = &[
@@ -231,22 +239,23 @@ static EXAMPLES: &[(&[&str], &str)] = &[
 ];
 
 #[test]
-fn listings_are_as_in_worked_examples(rt: HostRuntime) -> Result<(), Fail> {
+fn listings_are_as_in_worked_examples(rt: HostRuntime) {
     for (pieces, listed) in EXAMPLES {
-        let found = gathered_from(rt.alloc(), pieces, &LARGE, listed)?;
+        let found = gathered_from(rt.alloc(), pieces, &LARGE, listed);
         same(&rt, &found, &LISTED, listed);
-        let open = gathered_from_open(rt.alloc(), pieces, listed)?;
+        let open = gathered_from_open(rt.alloc(), pieces, listed);
         same(&rt, &open, &LISTED, listed);
     }
-    Ok(())
 }
 
 pub(crate) const NO_PIECES: &[u8] = b"run none\nends 0 missing 0 strays 0 clashes 0\n";
 
 /// What gathering `BLOCK_64` comes to.
-fn gathered_blocks(alloc: Global) -> Result<Gathered, NoMemory> {
-    let wanted = format!(in alloc; "{RUN}:64\n{WHOLE_LISTED}")?;
-    Ok(gather_over(alloc, BLOCK_64, &LARGE, wanted.as_bytes()))
+fn gathered_blocks(alloc: Global) -> Gathered {
+    let Ok(wanted) = format!(in alloc; "{RUN}:64\n{WHOLE_LISTED}") else {
+        return no_text();
+    };
+    gather_over(alloc, BLOCK_64, &LARGE, wanted.as_bytes())
 }
 
 /// Whether no pieces make no log.
@@ -258,12 +267,11 @@ fn makes_no_log(alloc: Global) -> bool {
 }
 
 #[test]
-fn no_line_and_profile_2_have_listings(rt: HostRuntime) -> Result<(), Fail> {
+fn no_line_and_profile_2_have_listings(rt: HostRuntime) {
     let none = gather_over(rt.alloc(), "", &LARGE, NO_PIECES);
     same(&rt, &none, &LISTED, "no line");
     assert!(rt; makes_no_log(rt.alloc()));
-    same(&rt, &gathered_blocks(rt.alloc())?, &LISTED, "profile 2");
-    Ok(())
+    same(&rt, &gathered_blocks(rt.alloc()), &LISTED, "profile 2");
 }
 
 static FOUR: [&str; 4] = [SECOND, FIRST, FOURTH, THIRD];
@@ -275,7 +283,7 @@ fn gathered_four(
     second: usize,
     third: usize,
     fourth: usize,
-) -> Result<Gathered, NoMemory> {
+) -> Gathered {
     let pieces = [
         FOUR[first % 4],
         FOUR[second % 4],
@@ -286,29 +294,36 @@ fn gathered_four(
 }
 
 #[test]
-fn every_order_gives_the_same_listing(rt: HostRuntime) -> Result<(), Fail> {
+fn every_order_gives_the_same_listing(rt: HostRuntime) {
     for first in 0..4usize {
         for step in 1..4usize {
             // The first, another one, and then the two that are left, in both orders.
             let second = (first + step) % 4;
             let third = (first + step % 3 + 1) % 4;
             let fourth = (first + (step + 1) % 3 + 1) % 4;
-            let found = gathered_four(rt.alloc(), first, second, third, fourth)?;
+            let found = gathered_four(rt.alloc(), first, second, third, fourth);
             same(&rt, &found, &LISTED, FOUR[first]);
-            let found = gathered_four(rt.alloc(), first, second, fourth, third)?;
+            let found = gathered_four(rt.alloc(), first, second, fourth, third);
             same(&rt, &found, &LISTED, FOUR[first]);
         }
     }
-    Ok(())
 }
 
-/// What gathering a text of these parts comes to, of which nothing is wanted to be written.
-fn gathered_parts(alloc: Global, parts: &[&str]) -> Result<Gathered, NoMemory> {
+/// A text of these parts.
+fn text_of(alloc: Global, parts: &[&str]) -> Result<String, NoMemory> {
     let mut text = String::new(alloc);
     for part in parts {
         text.push_str(part)?;
     }
-    Ok(gather_over(alloc, &text, &LARGE, b""))
+    Ok(text)
+}
+
+/// What gathering a text of these parts comes to, of which nothing is wanted to be written.
+fn gathered_parts(alloc: Global, parts: &[&str]) -> Gathered {
+    match text_of(alloc, parts) {
+        Ok(text) => gather_over(alloc, &text, &LARGE, b""),
+        Err(NoMemory) => no_text(),
+    }
 }
 
 /// The parts of a text, the number of its first faulty line, and what is wrong with that.
@@ -351,16 +366,15 @@ static REFUSED: &[(&[&str], u64, LineFault)] = &[
 ];
 
 #[test]
-fn refused_lines_have_their_numbers(rt: HostRuntime) -> Result<(), Fail> {
+fn refused_lines_have_their_numbers(rt: HostRuntime) {
     for (parts, line, reason) in REFUSED {
-        let found = gathered_parts(rt.alloc(), parts)?;
+        let found = gathered_parts(rt.alloc(), parts);
         let fault = GatherFault::BadLine {
             line: *line,
             reason: *reason,
         };
         same(&rt, &found, &failed(fault, 0, 0), "refused");
     }
-    Ok(())
 }
 
 /// The key of a run of the lines above.
@@ -372,29 +386,33 @@ const fn key(run: u64, profile: Profile) -> RunKey {
     }
 }
 
-/// What gathering comes to where that line is the first of another run.
-const fn of_other_run(line: u64, own: RunKey, first: RunKey) -> Gathered {
-    failed(GatherFault::OtherRun { line, own, first }, 0, 0)
+/// Whether that line was refused, whose key and the first line's key are these.
+fn is_of_other_run(found: &Gathered, at: u64, lines: &RunKey, logs: &RunKey) -> bool {
+    match &found.answer {
+        Err(GatherFault::OtherRun { line, own, first }) => {
+            *line == at && own == lines && first == logs && found.has_taken
+        }
+        _ => false,
+    }
 }
 
 #[test]
-fn lines_of_other_runs_are_refused_with_both_keys(rt: HostRuntime) -> Result<(), Fail> {
+fn lines_of_other_runs_are_refused_with_both_keys(rt: HostRuntime) {
     let first = key(1, Profile::One);
     let second = key(2, Profile::One);
     let wide = key(1, Profile::Two(Block::least()));
-    let found = gathered_parts(rt.alloc(), &[WHOLE, "\n", OTHER_RUN, "\nno piece\n"])?;
-    same(&rt, &found, &of_other_run(2, second, first), "the run");
-    let found = gathered_parts(rt.alloc(), &[WHOLE, "\n", FIRST, "\n", OTHER_RUN])?;
-    same(&rt, &found, &of_other_run(3, second, first), "the run");
-    let found = gathered_parts(rt.alloc(), &[WHOLE, "\n", BLOCK_64, "\n"])?;
-    same(&rt, &found, &of_other_run(2, wide, first), "the block");
-    let found = gathered_parts(rt.alloc(), &[BLOCK_64, "\n", WHOLE, "\n"])?;
-    same(&rt, &found, &of_other_run(2, first, wide), "the block");
-    Ok(())
+    let found = gathered_parts(rt.alloc(), &[WHOLE, "\n", OTHER_RUN, "\nno piece\n"]);
+    assert!(rt; is_of_other_run(&found, 2, &second, &first));
+    let found = gathered_parts(rt.alloc(), &[WHOLE, "\n", FIRST, "\n", OTHER_RUN]);
+    assert!(rt; is_of_other_run(&found, 3, &second, &first));
+    let found = gathered_parts(rt.alloc(), &[WHOLE, "\n", BLOCK_64, "\n"]);
+    assert!(rt; is_of_other_run(&found, 2, &wide, &first));
+    let found = gathered_parts(rt.alloc(), &[BLOCK_64, "\n", WHOLE, "\n"]);
+    assert!(rt; is_of_other_run(&found, 2, &first, &wide));
 }
 
 #[test]
-fn lines_that_are_cut_or_in_upper_case_are_refused(rt: HostRuntime) -> Result<(), Fail> {
+fn lines_that_are_cut_or_in_upper_case_are_refused(rt: HostRuntime) {
     let upper_case = GatherFault::BadLine {
         line: 2,
         reason: LineFault::UpperCase { column: 9 },
@@ -408,13 +426,12 @@ fn lines_that_are_cut_or_in_upper_case_are_refused(rt: HostRuntime) -> Result<()
         reason: LineFault::OddDigits { digits: 221 },
     };
     let upper = [WHOLE, "\n", &WHOLE[..8], "AA", &WHOLE[10..], "\n"];
-    let found = gathered_parts(rt.alloc(), &upper)?;
+    let found = gathered_parts(rt.alloc(), &upper);
     same(&rt, &found, &failed(upper_case, 0, 0), "AA");
-    let found = gathered_parts(rt.alloc(), &[&WHOLE[..220], "\n"])?;
+    let found = gathered_parts(rt.alloc(), &[&WHOLE[..220], "\n"]);
     same(&rt, &found, &failed(short, 0, 0), "220");
-    let found = gathered_parts(rt.alloc(), &[&WHOLE[..221]])?;
+    let found = gathered_parts(rt.alloc(), &[&WHOLE[..221]]);
     same(&rt, &found, &failed(odd, 0, 0), "221");
-    Ok(())
 }
 
 /// Why collecting the bytes by 65,536 at a call fails, where this call of the source does, and how many of its calls do.
@@ -442,32 +459,33 @@ fn a_line_without_end_is_refused_before_the_source_ends(rt: HostRuntime) -> Resu
 static FOUR_LINES: [&str; 4] = [SECOND, FIRST, WHOLE, WHOLE];
 
 #[test]
-fn single_bytes_are_gathered(rt: HostRuntime) -> Result<(), Fail> {
+fn single_bytes_are_gathered(rt: HostRuntime) {
     let single = Devices {
         most: 1,
         source_fails_at: None,
         sink_fails_at: None,
     };
-    let found = gathered_from(rt.alloc(), &FOUR_LINES, &single, WHOLE_LISTED)?;
+    let found = gathered_from(rt.alloc(), &FOUR_LINES, &single, WHOLE_LISTED);
     same(&rt, &found, &LISTED, "single bytes");
-    Ok(())
 }
 
 /// Where this call of the source fails, nothing is wanted to be written.
-fn gathered_failing(alloc: Global, call: u64) -> Result<Gathered, NoMemory> {
+fn gathered_failing(alloc: Global, call: u64) -> Gathered {
     let devices = Devices {
         most: 100,
         source_fails_at: Some(call),
         sink_fails_at: None,
     };
-    let text = lines(alloc, &FOUR_LINES)?;
-    Ok(gather_over(alloc, &text, &devices, b""))
+    match lines(alloc, &FOUR_LINES) {
+        Ok(text) => gather_over(alloc, &text, &devices, b""),
+        Err(NoMemory) => no_text(),
+    }
 }
 
 #[test]
-fn a_failing_source_is_answered(rt: HostRuntime) -> Result<(), Fail> {
+fn a_failing_source_is_answered(rt: HostRuntime) {
     for call in 1..10u64 {
-        let found = gathered_failing(rt.alloc(), call)?;
+        let found = gathered_failing(rt.alloc(), call);
         same(
             &rt,
             &found,
@@ -475,7 +493,6 @@ fn a_failing_source_is_answered(rt: HostRuntime) -> Result<(), Fail> {
             "source",
         );
     }
-    Ok(())
 }
 
 /// Where a sink that takes a byte a call fails behind so many, these are wanted to be written.
@@ -501,15 +518,14 @@ fn a_failing_sink_is_answered(rt: HostRuntime) -> Result<(), Fail> {
 }
 
 #[test]
-fn devices_that_fail_behind_the_last_call_do_not_matter(rt: HostRuntime) -> Result<(), Fail> {
+fn devices_that_fail_behind_the_last_call_do_not_matter(rt: HostRuntime) {
     let last = Devices {
         most: 100,
         source_fails_at: Some(10),
         sink_fails_at: Some(WHOLE_TEXT.len() as u64 + 1),
     };
-    let found = gathered_from(rt.alloc(), &FOUR_LINES, &last, WHOLE_LISTED)?;
+    let found = gathered_from(rt.alloc(), &FOUR_LINES, &last, WHOLE_LISTED);
     same(&rt, &found, &LISTED, "last");
-    Ok(())
 }
 
 #[test]
