@@ -1,5 +1,5 @@
 -- Exported functions by name. WebAssembly Core 1.0, structure and validation, exports.
-use Rattle.std.specs.Prelude.{◌≡◌, ℕ, ◌&&◌, Bool, true, false, List, [], ◌∷◌, Option, Some, None, is_none, String, string_bytes}
+use Rattle.std.specs.Prelude.{◌≡◌, ℕ, ◌&&◌, Bool, true, false, List, [], ◌∷◌, Option, Some, None, is_none, position, if◌then◌else◌, String, string_bytes}
 use Rattle.std.specs.Global.{Global}
 use Rattle.std.specs.Str.{IsUtf8, bytes_eq}
 use Rattle.std.specs.Map.{lookup}
@@ -40,16 +40,14 @@ exported_function exports name = only_some (find_export name exports)
 abbrev pub value_of : List (String Global × ℕ) → List ℕ → Option ℕ
 value_of names name = lookup (λ k. bytes_eq name (string_bytes k)) names
 
--- a map by name has at each text the function that is exported under it
+-- the number of the first export of a name
+abbrev pub number_of : List Export → List ℕ → Option ℕ
+number_of exports name = position (λ e. bytes_eq name e.name) exports
+
+-- a map by name has at each text the number of the export that has this name, or none
 abbrev pub AreNames : List (String Global × ℕ) → List Export → Type 0
-AreNames names exports = (name : List ℕ) → IsUtf8 name → value_of names name ≡ exported_function exports name
+AreNames names exports = (name : List ℕ) → IsUtf8 name → value_of names name ≡ number_of exports name
 
--- with a function, if there is one, at a name
-abbrev pub put_function : Bool → Option ℕ → Option ℕ → Option ℕ
-put_function true (Some index) others = Some index
-put_function true None others = others
-put_function false function others = others
-
--- at each text a map by name has the function that is exported, if it is the export's name, and else what it had
-abbrev pub AddsExport : List (String Global × ℕ) → Export → List (String Global × ℕ) → Type 0
-AddsExport names e later = (name : List ℕ) → IsUtf8 name → value_of later name ≡ put_function (bytes_eq name e.name) (function_index e.kind e.index) (value_of names name)
+-- a map by name then has a number at a name, and at each other text what it had
+abbrev pub PutsNumber : List (String Global × ℕ) → List ℕ → ℕ → List (String Global × ℕ) → Type 0
+PutsNumber names name number later = (text : List ℕ) → value_of later text ≡ (if bytes_eq text name then Some number else value_of names text)

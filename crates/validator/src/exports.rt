@@ -1,15 +1,15 @@
 //! The names of a module's exports.
 
-ghost use Rattle.std.specs.Prelude.{◌≡◌, true, false, IfOk, OnOk, IfNone, IfSome};
-ghost use Rattle.validator.specs.Exports.{distinct, AreNames, AddsExport};
+ghost use Rattle.std.specs.Prelude.{◌≡◌, true, false, is_none, IfOk, OnOk, IfNone, IfSome};
+ghost use Rattle.validator.specs.Exports.{distinct, function_index, value_of, AreNames, PutsNumber};
 
 use crate::name_hasher::NameHasher;
 use indexmap::{IndexMap, IndexSet};
 use std::alloc::Global;
 use wasm_types::{Export, ExportKind, NoMemory};
 
-/// The index of each function that is exported under a name in UTF-8; None where two exports have one name. The names are
-/// hashed by the module's own hasher, so no names make it slow.
+/// The number of each export whose name is UTF-8, by the name; None where two exports have one name. Each name is
+/// hashed once, by the module's own hasher, so no names make it slow.
 pub(crate) fn names_of(
     alloc: Global,
     hasher: NameHasher,
@@ -19,55 +19,45 @@ pub(crate) fn names_of(
     ensures distinct { IfOk result (λ found. IfSome found (λ names. distinct exports.now ≡ true)) }
     ensures names { IfOk result (λ found. IfSome found (λ names. AreNames names.entries exports.now)) }
 {
-    if !names_differ(alloc, hasher, exports)? {
-        return Ok(None);
-    }
-    Ok(Some(functions_by_name(alloc, hasher, exports)?))
-}
-
-// Whether no two exports have one name, which may be any bytes.
-fn names_differ(alloc: Global, hasher: NameHasher, exports: &[Export]) -> Result<bool, NoMemory>
-    ensures { IfOk result (λ differ. differ ≡ distinct exports.now) }
-{
-    let mut seen = IndexSet::with_capacity_and_hasher(alloc, exports.len(), hasher)?;
-    for export in exports {
-        if !seen.insert(export.name.as_slice())? {
-            return Ok(false);
+    let mut names = IndexMap::with_capacity_and_hasher(alloc, exports.len(), hasher)?;
+    // The names that are not UTF-8. A decoded module has none, and the set then takes no memory.
+    let mut others = IndexSet::with_hasher(alloc, hasher);
+    for (number, export) in exports.iter().enumerate() {
+        let name = export.name.as_slice();
+        let is_new = match str::from_utf8(name) {
+            Ok(text) => add_name(alloc, &mut names, text, number)?,
+            Err(_) => others.insert(name)?,
+        };
+        if !is_new {
+            return Ok(None);
         }
     }
-    Ok(true)
+    Ok(Some(names))
 }
 
-fn functions_by_name(
-    alloc: Global,
-    hasher: NameHasher,
-    exports: &[Export],
-) -> Result<IndexMap<String, u32, NameHasher>, NoMemory>
-    requires { distinct exports.now ≡ true }
-    ensures { IfOk result (λ names. AreNames names.entries exports.now) }
-{
-    let mut names = IndexMap::with_capacity_and_hasher(alloc, exports.len(), hasher)?;
-    for export in exports {
-        add_export(alloc, &mut names, export)?;
-    }
-    Ok(names)
-}
-
-// Adds an export, if it is a function and its name is UTF-8.
-fn add_export(
+// Puts the number of an export at its name; whether the name is new. The map has no room for more than `u32` numbers.
+fn add_name(
     alloc: Global,
     names: &mut IndexMap<String, u32, NameHasher>,
-    export: &Export,
-) -> Result<(), NoMemory>
-    ensures { OnOk result (AddsExport names.old.entries export.now names.new.entries) }
+    name: &str,
+    number: usize,
+) -> Result<bool, NoMemory>
+    ensures is_new { IfOk result (λ is_new. is_new ≡ is_none (value_of names.old.entries name.now)) }
+    ensures puts { OnOk result (PutsNumber names.old.entries name.now number names.new.entries) }
 {
-    let ExportKind::Function = export.kind else {
-        return Ok(());
-    };
-    let Ok(name) = str::from_utf8(export.name.as_slice()) else {
-        return Ok(());
+    let Ok(number) = u32::try_from(number) else {
+        return Err(NoMemory);
     };
     let name = String::from_str(alloc, name)?;
-    names.insert(name, export.index)?;
-    Ok(())
+    Ok(names.insert(name, number)?.is_none())
+}
+
+/// The index of the function that is exported, if a function is.
+pub(crate) fn function_of(export: &Export) -> Option<u32>
+    ensures { result ≡ function_index export.now.kind export.now.index }
+{
+    match export.kind {
+        ExportKind::Function => Some(export.index),
+        _ => None,
+    }
 }

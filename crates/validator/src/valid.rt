@@ -7,7 +7,7 @@ ghost use Rattle.validator.specs.Module.{rules};
 ghost use Rattle.validator.specs.Exports.{distinct, AreNames, exported_function};
 ghost use Rattle.validator.specs.Valid.{WellTyped, TypedAt, Refuses, FaultAt, IsOfFunction, all_targets, fault_in};
 
-use crate::exports::names_of;
+use crate::exports::{function_of, names_of};
 use crate::fault::{CheckFault, ValidFault};
 use crate::function::check_function;
 use crate::limits::keeps_limits;
@@ -26,7 +26,7 @@ use wasm_types::Module;
 #[derive(Drop)]
 pub struct Valid {
     module: Module,
-    // The index of each function that is exported under a name in UTF-8.
+    // The number of each export whose name is UTF-8, by the name.
     names: IndexMap<String, u32, NameHasher>,
     // The targets of each function.
     targets: Vec<Targets>,
@@ -170,7 +170,9 @@ impl Valid {
     pub fn export(&self, name: &str) -> Option<u32>
         ensures { result ≡ exported_function self.now.exports name.now }
     {
-        self.names.get(name).copied()
+        let number = *self.names.get(name)?;
+        let export = &self.module.exports.as_slice()[number as usize];
+        function_of(export)
     }
 
     /// How many functions there are. It takes no memory.
