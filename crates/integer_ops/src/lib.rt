@@ -2,7 +2,7 @@
 #![tactic(auto)]
 
 mod computing;
-mod word32;
-mod word64;
+pub mod word32;
+pub mod word64;
 
 pub use computing::compute;
