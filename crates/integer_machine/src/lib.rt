@@ -1,6 +1,7 @@
 //! The thread machine.
 #![tactic(auto)]
 
+mod groups;
 mod instance;
 mod laws;
 mod moves;

@@ -36,8 +36,8 @@ pub(crate) struct Case<'a> {
 /// How a thread is run.
 #[derive(Clone, Copy)]
 pub(crate) enum Way<'a> {
-    /// Step by step, with these replies, between which there is `, `.
-    Replies(&'a str),
+    /// With these replies, between which there is `, `, and with local steps one by one, or in runs of at most so many.
+    Replies(&'a str, Option<u32>),
     /// In runs of at most so many local steps, and a store behind a run of none.
     Runs(&'a [u32]),
     /// With what is done again where memory was wanted.
@@ -181,10 +181,18 @@ fn reply_of(name: &str) -> Option<Reply> {
     }
 }
 
-/// Runs a thread with these replies, and writes what it asks for.
-fn play(text: &mut String, state: &mut ThreadState<'_>, replies: &str) -> Result<(), Fail> {
+/// Runs a thread with these replies, and writes what it asks for. Local steps are made in runs where `run` says of how many.
+fn play(
+    text: &mut String,
+    state: &mut ThreadState<'_>,
+    replies: &str,
+    run: Option<u32>,
+) -> Result<(), Fail> {
     let mut names = replies.split(", ");
     for _ in 0..100_000u32 {
+        if let Some(most) = run {
+            state.local_run(most)?;
+        }
         let next = state.next();
         note(text, &next)?;
         let reply = match next {
@@ -215,7 +223,7 @@ fn run_locally(text: &mut String, state: &mut ThreadState<'_>, mosts: &[u32]) ->
 /// Runs a thread, and writes how many steps it made, and how it stands in the end.
 fn go(text: &mut String, state: &mut ThreadState<'_>, way: Way<'_>) -> Result<(), Fail> {
     match way {
-        Way::Replies(replies) => play(text, state, replies)?,
+        Way::Replies(replies, run) => play(text, state, replies, run)?,
         Way::Runs(mosts) => run_locally(text, state, mosts)?,
         Way::Refused(refused) => grow(state, refused)?,
     }
@@ -265,7 +273,7 @@ pub(crate) fn check(
     Ok(())
 }
 
-/// Runs the case of a row, and compares what is written. A row has the types, the bodies, the replies or `-`, and what is
+/// Runs the case of a row step by step and in runs, and compares what is written. A row has the types, the bodies, the replies or `-`, and what is
 /// wanted; and, where they are others than these, the plan's lines `thread f`, the start and element sections of nothing,
 /// the memory section `SHARED` and the import section of nothing. Between them there is ` | `.
 fn stand_row(rt: &impl Abort, alloc: Global, profile: &Profile, row: &str) -> Result<(), Fail> {
@@ -286,7 +294,10 @@ fn stand_row(rt: &impl Abort, alloc: Global, profile: &Profile, row: &str) -> Re
         memory: fields.next().unwrap_or(SHARED),
         imports: fields.next().unwrap_or(""),
     };
-    check(rt, alloc, &case, profile, Way::Replies(replies), want)
+    for run in [None, Some(5), Some(u32::MAX)] {
+        check(rt, alloc, &case, profile, Way::Replies(replies, run), want)?;
+    }
+    Ok(())
 }
 
 /// The same of each row of a table, in which `#` begins a comment.

@@ -21,7 +21,7 @@ pub use accesses::access_of;
 pub use blocks::{block, end, end_first_arm};
 pub use branches::{branch, branch_if, branch_table};
 pub use calls::{call, declared_locals, put_zeros};
-pub use functions::{code_of_function, instruction_at};
+pub use functions::{code_of_function, groups_of_function, instruction_at};
 pub use indirect::call_indirect;
 pub use instance::Instance;
 pub use leaving::return_now;

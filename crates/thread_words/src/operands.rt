@@ -7,7 +7,7 @@ ghost use Rattle.wasm_types.specs.Values.{bits_of, value_of};
 ghost use Rattle.thread_words.specs.Accesses.{Holds, HasOperands};
 ghost use Rattle.thread_words.specs.Fields.{Puts, one_if, HasOperand, IsOperand};
 ghost use Rattle.thread_words.specs.Moves.{Unchanged, HasWordLeft};
-ghost use Rattle.thread_words.specs.Words.{IsInRange};
+ghost use Rattle.integer_ops.specs.Ranges.{IsInRange};
 
 use crate::stacks::Stacks;
 use wasm_types::{NoMemory, ValType, Value};

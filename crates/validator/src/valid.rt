@@ -1,8 +1,10 @@
 //! Validated modules.
 
-ghost use Rattle.std.specs.Prelude.{◌≡◌, ℕ, ◌&&◌, ◌<◌, ◌^◌, true, false, map, take, length, List, IfOk, OnOk, IfErr, option_copied, option_map, slice_get};
+ghost use Rattle.std.specs.Prelude.{◌≡◌, ℕ, ◌&&◌, ◌<◌, ◌≤◌, ◌^◌, true, false, map, take, length, List, IfOk, OnOk, IfErr, IfNone, IfSome, Some, option_copied, option_map, slice_get};
 ghost use Rattle.wasm_types.specs.Limits.{Within};
 ghost use Rattle.control_flow.specs.Targets.{targets_from};
+ghost use Rattle.instruction_groups.specs.Groups.{Describes};
+ghost use Rattle.wasm_types.specs.declared.modules.Body.{Body};
 ghost use Rattle.validator.specs.Module.{rules};
 ghost use Rattle.validator.specs.Exports.{distinct, AreNames, exported_function};
 ghost use Rattle.validator.specs.Valid.{WellTyped, TypedAt, Refuses, FaultAt, IsOfFunction, all_targets, fault_in};
@@ -17,11 +19,13 @@ use crate::stacks::Stacks;
 use crate::table::type_of_function;
 use control_flow::{TargetFinder, Targets};
 use indexmap::IndexMap;
+use instruction_groups::{Group, groups_of_all};
 use std::alloc::Global;
 use std::marker::Model;
 use wasm_types::Module;
 
-/// A module that is well typed (WebAssembly Core 1.0, validation), with the targets of its functions' blocks.
+/// A module that is well typed (WebAssembly Core 1.0, validation), with the targets of its functions' blocks and the groups of
+/// their instructions.
 /// Contracts see the module.
 #[derive(Drop)]
 pub struct Valid {
@@ -30,19 +34,22 @@ pub struct Valid {
     names: IndexMap<String, u32, NameHasher>,
     // The targets of each function.
     targets: Vec<Targets>,
+    // The groups of each function.
+    groups: Vec<Vec<Group>>,
 }
 
 impl Model for Valid {
     ghost use Rattle.wasm_types.specs.declared.modules.Module.{Module};
     ghost use Rattle.validator.specs.Valid.{WellTyped, all_targets};
     ghost use Rattle.validator.specs.Exports.{AreNames};
+    ghost use Rattle.instruction_groups.specs.Groups.{DescribesAll};
     ghost use Rattle.std.specs.Prelude.{◌≡◌};
 
     ghost Value = { Module };
 
     ghost view = { λ v. v.module };
 
-    ghost invariant = { λ v. WellTyped v.module × AreNames v.names.entries v.module.exports × (v.targets.items ≡ all_targets v.module.bodies) };
+    ghost invariant = { λ v. WellTyped v.module × AreNames v.names.entries v.module.exports × (v.targets.items ≡ all_targets v.module.bodies) × DescribesAll v.module.bodies v.groups.items };
 }
 
 /// Validates a module, which is given up on a refusal. A module that passes a limit (1,048,576 bytes, 256 pages and 4,096
@@ -76,10 +83,12 @@ pub fn validate(alloc: Global, module: Module) -> Result<Valid, ValidFault>
         });
     };
     let targets = check_functions(alloc, &module)?;
+    let groups = groups_of_all(alloc, module.bodies.as_slice())?;
     Ok(Valid {
         module,
         names,
         targets,
+        groups,
     })
 }
 
@@ -187,5 +196,16 @@ impl Valid {
         ensures { option_copied result ≡ option_map (λ body. targets_from 0 body.code) (slice_get self.now.bodies function) }
     {
         self.targets.as_slice().get(function as usize)
+    }
+
+    /// The groups of a function's instructions, one for each place; None past the last function. It takes no memory.
+    pub fn groups(&self, function: u32) -> Option<&[Group]>
+        ensures none { IfNone result (length self.now.bodies ≤ function) }
+        ensures groups { IfSome result (λ groups. (body : Body) → slice_get self.now.bodies function ≡ Some body → Describes body.code groups.now) }
+    {
+        match self.groups.as_slice().get(function as usize) {
+            Some(table) => Some(table.as_slice()),
+            None => None,
+        }
     }
 }
