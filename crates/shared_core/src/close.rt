@@ -167,7 +167,6 @@ impl<S: Striped + Drop, J: Opening<S, S::Value, S::Fixed>> Shared<S, J> {
             parts,
             journal,
             changed: _,
-            to_begin: _,
             openings: _,
         } = self;
         let Journal {

@@ -56,16 +56,16 @@ impl<S: Striped, J: Opening<S, S::Value, S::Fixed>> Journal<S, J> {
         Some(self.length())
     }
 
-    /// Whether no seat can go on: each rests until more calls were entered, has left, or was given up.
+    /// Whether no seat can go on: each rests until more calls were entered, or has left.
     pub(crate) fn none_goes(&self) -> bool
-        ensures { result ≡ none_goes self.now.resting.given_up (length self.now.held) self.now.resting.seats.items }
+        ensures { result ≡ none_goes (length self.now.held) self.now.resting.seats.items }
     {
         self.resting.none_goes(self.length())
     }
 
     /// Whether a seat that rests until so many calls goes on resting: fewer were entered, and some seat can go on.
     pub(crate) fn is_still(&self, until: u64) -> bool
-        ensures { result ≡ (nat_lt (length self.now.held) until && not (none_goes self.now.resting.given_up (length self.now.held) self.now.resting.seats.items)) }
+        ensures { result ≡ (nat_lt (length self.now.held) until && not (none_goes (length self.now.held) self.now.resting.seats.items)) }
     {
         self.length() < until && !self.none_goes()
     }

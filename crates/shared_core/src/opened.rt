@@ -24,7 +24,6 @@ use shared_journal::{Held, Seat};
 use shared_parts::{Call, Count, Lane, Opening, Stripe, Written};
 use std::alloc::Global;
 use std::boxed::Box;
-use std::sync::atomic::AtomicU64;
 use std::sync::ledger::{Blank, Share};
 use std::sync::{Mutex, RwLock};
 use striped_objects::{Eight, Striped};
@@ -229,7 +228,6 @@ impl<S: Striped + Drop, J: Opening<S, S::Value, S::Fixed>> Shared<S, J> {
                 gates,
             })),
             changed: Conditions::new(),
-            to_begin: AtomicU64::new(u64::from(threads)),
             openings: Openings::new(),
         };
         Ok((shared, seats))

@@ -1,9 +1,9 @@
 //! Which seats can go on.
 
-ghost use Rattle.std.specs.Prelude.{◌≡◌, ℕ, IfOk, true, false, cond, replicate, slice_get, slice_set};
+ghost use Rattle.std.specs.Prelude.{◌≡◌, ℕ, IfOk, true, false, replicate, slice_set};
 ghost use Rattle.std.specs.List.{list_any};
-ghost use Rattle.shared_core.specs.declared.resting.Standing.TheVariants.{Away, Goes, RestsUntil, Left};
-ghost use Rattle.shared_core.specs.Resting.{awaiting, away_at, begins, is_awaited, is_away, is_still, none_goes, rests, wakes, with_one};
+ghost use Rattle.shared_core.specs.declared.resting.Standing.TheVariants.{Goes, RestsUntil, Left};
+ghost use Rattle.shared_core.specs.Resting.{awaiting, is_awaited, is_still, none_goes, rests, wakes, with_one};
 
 use std::alloc::Global;
 use wasm_types::NoMemory;
@@ -11,13 +11,11 @@ use wasm_types::NoMemory;
 /// What a seat does.
 #[derive(Clone, Copy, Debug, PartialEq, Eq)]
 pub(crate) enum Standing {
-    /// Its thread has not begun. It can enter a call, unless it was given up.
-    Away,
-    /// It can enter a call.
+    /// It can enter a call, also where its thread has still to begin.
     Goes,
     /// It enters none before so many calls were entered.
     RestsUntil(u64),
-    /// It enters none any more: its thread has left.
+    /// It enters none any more: its thread has left, or none was made.
     Left,
 }
 
@@ -28,7 +26,7 @@ impl Standing {
     {
         match self {
             Standing::RestsUntil(_) => true,
-            Standing::Away | Standing::Goes | Standing::Left => false,
+            Standing::Goes | Standing::Left => false,
         }
     }
 
@@ -37,32 +35,19 @@ impl Standing {
         ensures { result ≡ is_awaited length self }
     {
         match self {
-            Standing::Away | Standing::Goes => false,
             Standing::RestsUntil(until) => until == length,
-            Standing::Left => false,
+            Standing::Goes | Standing::Left => false,
         }
     }
 
-    /// Whether the seat enters no call while so many were entered: it rests until there are more, has left, or has not begun and was
-    /// given up.
-    fn is_still(self, given_up: bool, length: u64) -> bool
-        ensures { result ≡ is_still given_up length self }
+    /// Whether the seat enters no call while so many were entered: it rests until there are more, or has left.
+    fn is_still(self, length: u64) -> bool
+        ensures { result ≡ is_still length self }
     {
         match self {
-            Standing::Away => given_up,
             Standing::Goes => false,
             Standing::RestsUntil(until) => length < until,
             Standing::Left => true,
-        }
-    }
-
-    /// Whether the seat has not begun.
-    fn is_away(self) -> bool
-        ensures { result ≡ is_away self }
-    {
-        match self {
-            Standing::Away => true,
-            Standing::Goes | Standing::RestsUntil(_) | Standing::Left => false,
         }
     }
 }
@@ -94,23 +79,19 @@ impl Wakes {
 #[derive(Debug, Drop)]
 pub(crate) struct Resting {
     pub(crate) seats: Vec<Standing>,
-    /// Whether those that have not begun were given up: they enter no call any more.
-    pub(crate) given_up: bool,
     /// Whether a seat may rest: where not, none does.
     pub(crate) some_rest: bool,
     ghost none_rests: { some_rest ≡ false → list_any rests seats.items ≡ false },
 }
 
 impl Resting {
-    /// So many seats, none of which has begun: each can go on.
+    /// So many seats, each of which can go on.
     pub(crate) fn new(alloc: Global, seats: u8) -> Result<Resting, NoMemory>
-        ensures seats { IfOk result (λ r. r.seats.items ≡ replicate seats Away) }
-        ensures given { IfOk result (λ r. r.given_up ≡ false) }
+        ensures { IfOk result (λ r. r.seats.items ≡ replicate seats Goes) }
     {
-        let seats = vec![in alloc; Standing::Away; seats as usize]?;
+        let seats = vec![in alloc; Standing::Goes; seats as usize]?;
         Ok(Resting {
             seats,
-            given_up: false,
             some_rest: false,
         })
     }
@@ -143,8 +124,7 @@ impl Resting {
 
     /// A seat rests until `until` calls were entered.
     pub(crate) fn rest(&mut self, seat: u32, until: u64)
-        ensures seats { self.new.seats.items ≡ slice_set self.old.seats.items seat (RestsUntil until) }
-        ensures given { self.new.given_up ≡ self.old.given_up }
+        ensures { self.new.seats.items ≡ slice_set self.old.seats.items seat (RestsUntil until) }
     {
         self.some_rest = true;
         self.put(seat, Standing::RestsUntil(until));
@@ -152,8 +132,7 @@ impl Resting {
 
     /// A seat that rested can go on.
     pub(crate) fn goes_on(&mut self, seat: u32)
-        ensures seats { self.new.seats.items ≡ slice_set self.old.seats.items seat Goes }
-        ensures given { self.new.given_up ≡ self.old.given_up }
+        ensures { self.new.seats.items ≡ slice_set self.old.seats.items seat Goes }
     {
         self.put(seat, Standing::Goes);
         self.some_rest = self.some_rests();
@@ -162,58 +141,22 @@ impl Resting {
     /// A seat has left. Where no seat could go on, none can then.
     pub(crate) fn leave(&mut self, seat: u32)
         ensures seats { self.new.seats.items ≡ slice_set self.old.seats.items seat Left }
-        ensures given { self.new.given_up ≡ self.old.given_up }
-        ensures stays { (length : ℕ) → none_goes self.old.given_up length self.old.seats.items ≡ true → none_goes self.new.given_up length self.new.seats.items ≡ true }
+        ensures stays { (length : ℕ) → none_goes length self.old.seats.items ≡ true → none_goes length self.new.seats.items ≡ true }
     {
         self.put(seat, Standing::Left);
     }
 
-    /// A seat begins, unless it was given up. Answers whether it does, for the first time.
-    pub(crate) fn begin(&mut self, seat: u32) -> bool
-        ensures answer { result ≡ begins self.old.given_up (slice_get self.old.seats.items seat) }
-        ensures seats { self.new.seats.items ≡ cond result (slice_set self.old.seats.items seat Goes) self.old.seats.items }
-        ensures given { self.new.given_up ≡ self.old.given_up }
-    {
-        let begins = self.is_away(seat) && !self.given_up;
-        if begins {
-            self.put(seat, Standing::Goes);
-        }
-        begins
-    }
-
-    /// Those that have not begun enter no call any more.
-    pub(crate) fn give_up(&mut self)
-        ensures seats { self.new.seats.items ≡ self.old.seats.items }
-        ensures given { self.new.given_up ≡ true }
-    {
-        self.given_up = true;
-    }
-
-    /// Whether there is a seat of this number that has not begun.
-    fn is_away(&self, seat: u32) -> bool
-        ensures { result ≡ away_at (slice_get self.now.seats.items seat) }
-    {
-        match self.seats.get(seat as usize) {
-            Some(standing) => standing.is_away(),
-            None => false,
-        }
-    }
-
-    /// Whether no seat enters a call while so many were entered: each rests until there are more, has left, or was given up.
+    /// Whether no seat enters a call while so many were entered: each rests until there are more, or has left.
     pub(crate) fn none_goes(&self, length: u64) -> bool
-        ensures { result ≡ none_goes self.now.given_up length self.now.seats.items }
+        ensures { result ≡ none_goes length self.now.seats.items }
     {
-        let given_up = self.given_up;
-        self.seats
-            .iter()
-            .all(|seat| seat.is_still(given_up, length))
+        self.seats.iter().all(|seat| seat.is_still(length))
     }
 
     /// Notes what a seat does.
     fn put(&mut self, seat: u32, standing: Standing)
         requires rests { rests standing ≡ true → self.old.some_rest ≡ true }
-        ensures seats { self.new.seats.items ≡ slice_set self.old.seats.items seat standing }
-        ensures given { self.new.given_up ≡ self.old.given_up }
+        ensures { self.new.seats.items ≡ slice_set self.old.seats.items seat standing }
     {
         if let Some(place) = self.seats.get_mut(seat as usize) {
             *place = standing;

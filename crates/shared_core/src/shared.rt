@@ -20,15 +20,9 @@ use rw_objects::{Entry, ObjectSpace, Touches};
 use shared_journal::{Seat, Tried, decide_one};
 use shared_parts::{Keeps, Opening};
 use std::alloc::Global;
-use std::sync::atomic::{AtomicU64, Ordering};
 use std::sync::{Mutex, Wait};
-use std::thread;
 use striped_objects::Striped;
 use wasm_types::{MOST_THREADS, NoMemory};
-
-/// How often a thread that is to rest looks whether all have begun, giving up its turn each time, before it gives up those that have
-/// not: the system may make no thread for them.
-const MOST_LOOKS: u32 = 100_000;
 
 /// A space shared by threads, each of which has a seat: its parts, the journal of all calls, and what wakes those that rest.
 #[derive(Drop)]
@@ -37,8 +31,6 @@ pub struct Shared<S: Striped, J: Opening<S, S::Value, S::Fixed>> {
     /// In memory apart from its lock, which threads that look at the lock take from the one that has it.
     pub(crate) journal: Mutex<CachePadded<Journal<S, J>>>,
     pub(crate) changed: Conditions,
-    /// How many seats have not begun.
-    pub(crate) to_begin: AtomicU64,
     /// Whose gates were opened.
     pub(crate) openings: Openings,
 }
@@ -211,39 +203,13 @@ impl<S: Striped, J: Opening<S, S::Value, S::Fixed>> Shared<S, J> {
         lock(rt, &self.journal).length()
     }
 
-    /// The seat begins. Answers whether it does, for the first time: where it was given up, since no thread had come for it, it enters
-    /// no call, and nobody waits for it.
-    pub fn begin<R: Wait>(&self, rt: &R, seat: &Seat<S, J>) -> bool {
-        let begins = lock(rt, &self.journal).resting.begin(seat.thread());
-        if begins {
-            self.to_begin.fetch_sub(1, Ordering::SeqCst);
-        }
-        begins
-    }
-
-    /// Waits until all seats have begun, but not for ever: where no thread can be made for a seat, it begins once another's thread has
-    /// left. Answers whether all have begun.
-    fn wait_for_beginnings(&self) -> bool {
-        for _ in 0..MOST_LOOKS {
-            if self.to_begin.load(Ordering::SeqCst) == 0 {
-                return true;
-            }
-            thread::yield_now();
-        }
-        false
-    }
-
     /// Waits until so many calls were entered, or no seat can go on. Answers how many were entered: fewer where no seat can go
     /// on. The seat then rests for good, so the others are told the same.
     fn rest_until<R: Wait>(&self, rt: &R, seat: &Seat<S, J>, until: u64) -> u64 {
         let number = seat.thread();
-        let have_begun = self.wait_for_beginnings();
         let mut journal = lock(rt, &self.journal);
         if journal.length() >= until {
             return journal.length();
-        }
-        if !have_begun {
-            journal.resting.give_up();
         }
         journal.resting.rest(number, until);
         if journal.none_goes() {
@@ -264,8 +230,8 @@ impl<S: Striped, J: Opening<S, S::Value, S::Fixed>> Shared<S, J> {
     }
 
     /// Waits until more than `seen` calls were entered, or no seat can go on. Answers how many were entered: `seen` where no
-    /// seat can go on, since each rests until there are more, has left, or has not begun and was given up. Once that was answered it
-    /// stays so, as long as no seat that was told it enters a call.
+    /// seat can go on, since each rests until there are more, or has left. Once that was answered it stays so, as long as no seat that
+    /// was told it enters a call.
     pub fn rest<R: Wait>(&self, rt: &R, seat: &Seat<S, J>, seen: u64) -> u64 {
         self.rest_until(rt, seat, seen.saturating_add(1))
     }
@@ -293,7 +259,7 @@ impl<S: Striped, J: Opening<S, S::Value, S::Fixed>> Shared<S, J> {
         if length < until { None } else { Some(length) }
     }
 
-    /// The seat enters no more calls, so nobody waits for it.
+    /// The seat enters no more calls, so nobody waits for it: its thread has done its work, or none was made.
     pub fn leave<R: Wait>(&self, rt: &R, seat: &Seat<S, J>) {
         let mut journal = lock(rt, &self.journal);
         journal.resting.leave(seat.thread());

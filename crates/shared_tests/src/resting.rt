@@ -259,13 +259,12 @@ fn a_rest_goes_on_with_the_last_call_awaited(rt: HostRuntime) -> Result<(), Fail
     Ok(())
 }
 
-/// Of two seats, of which the first begins, rests by the first. Answers with how many calls entered the rest ended, and which of the
-/// seats begin, the first a second time.
+/// Of two seats, of which the second leaves, rests by the first. Answers with how many calls entered the rest ended.
 fn rests_alone<S: Striped + Drop, J: Opening<S, S::Value, S::Fixed>, R: Wait>(
     rt: &R,
     alloc: Global,
     opened: Opened<S>,
-) -> Result<(u64, [bool; 3]), NoMemory>
+) -> Result<u64, NoMemory>
     requires chain { opened.chain ≡ J.chain }
     requires named { names_of (S.fixed opened.space) (S.values opened.space) opened.count.name (lane_names opened.lanes) opened.threads ≡ J.named }
 {
@@ -273,19 +272,19 @@ fn rests_alone<S: Striped + Drop, J: Opening<S, S::Value, S::Fixed>, R: Wait>(
     let [first, second] = seats.as_slice() else {
         return Err(NoMemory);
     };
-    let begins = shared.begin(rt, first);
-    let seen = shared.rest(rt, first, 0);
-    let again = shared.begin(rt, first);
-    Ok((seen, [begins, shared.begin(rt, second), again]))
+    shared.leave(rt, second);
+    Ok(shared.rest(rt, first, 0))
 }
 
-/// Where no thread comes for a seat, it is given up: nobody waits for it, and it does not begin any more.
+/// Nobody waits for a seat that leaves before its thread has begun, as one for which none is made.
 #[test]
-fn a_seat_for_which_no_thread_comes_is_given_up(rt: HostRuntime) -> Result<(), Fail> {
+fn a_seat_without_a_thread_ends_a_rest(rt: HostRuntime) -> Result<(), Fail> {
     let alloc = rt.alloc();
     let space = SharedSpace::new(alloc, limits(), &[])?;
     let opened = Opened::new(StripedMemory { space }, 2);
-    let rested = rests_alone::<StripedMemory, Brand, HostRuntime>(&rt, alloc, opened)?;
-    assert_eq!(rt; rested, (0, [true, false, false]));
+    assert_eq!(rt;
+        rests_alone::<StripedMemory, Brand, HostRuntime>(&rt, alloc, opened)?,
+        0
+    );
     Ok(())
 }

@@ -1,2 +1,1 @@
 mod Seats
-mod Sends

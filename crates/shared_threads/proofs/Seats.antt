@@ -1,5 +1,5 @@
 -- Of seats that have the calls of their threads.
-use Rattle.std.proofs.Common.{◌≡◌, ℕ, ◌+◌, ◌<◌, List, [], ◌∷◌, length, map, refl, sym, ap, ◌∙◌, subst, get_or, suc, arith}
+use Rattle.std.proofs.Common.{◌≡◌, ℕ, ◌+◌, List, [], ◌∷◌, length, map, refl, sym, ap, ◌∙◌, subst, arith}
 use Rattle.std.specs.List.{All, AllZip}
 use Rattle.std.proofs.lemmas.List.Elements.{All-nil, All-cons, All-head, All-tail}
 use Rattle.rw_objects.specs.declared.entry.Entry.{Entry}
@@ -7,14 +7,6 @@ use Rattle.shared_parts.specs.declared.call.Call.{Call}
 use Rattle.shared_parts.specs.Calls.{Part, part_of, entries_in, IsNumbered, AreNew, AreParts}
 use Rattle.shared_threads.specs.Jobs.{IsWorked}
 use Rattle.shared_threads.specs.Ran.{entries_by, AllLead}
-
--- what holds at each index holds of each pair
-pub zip_at : {A B : Type 0} (P : A → B → Type 0) (xs : List A) (ys : List B) → length ys ≡ length xs
-    → ((i : ℕ) (d : A) (e : B) → i < length xs → P (get_or xs i d) (get_or ys i e)) → AllZip P xs ys
-zip_at P [] [] n f = tt
-zip_at P [] (y ∷ ys) n f = absurd (omega (arith, n))
-zip_at P (x ∷ xs) [] n f = absurd (omega (arith, n))
-zip_at P (x ∷ xs) (y ∷ ys) n f = (f 0 x y (omega arith), zip_at P xs ys (omega (arith, n)) (λ i d e h. f (suc i) d e (omega (arith, h))))
 
 pub all_of_map : {A B : Type 0} (P : B → Type 0) (f : A → B) (xs : List A) → All P (map f xs) → All (λ x. P (f x)) xs
 all_of_map P f [] h = All-nil (λ x. P (f x))

@@ -4,13 +4,13 @@ ghost use Rattle.std.specs.Prelude.{◌≡◌, [], IfOk, length, map};
 ghost use Rattle.std.specs.List.{All, AllZip};
 ghost use Rattle.shared_threads.specs.Jobs.{IsWorked};
 
+use crate::asked::{Tasks, work_each};
 use crate::work::Work;
 use shared_core::Shared;
 use shared_journal::Seat;
 use shared_parts::Opening;
 use std::alloc::Global;
 use std::sync::Wait;
-use std::thread;
 use std::thread::Threads;
 use striped_objects::Striped;
 use wasm_types::NoMemory;
@@ -61,30 +61,53 @@ pub(crate) fn part<S: Striped, J: Opening<S, S::Value, S::Fixed>, T: Drop>(
     Ok((seats, states))
 }
 
-/// The work of one thread, which begins and then leaves. Where it begins too late, since none could be made for it in time, its seat
-/// was given up, and no call is entered.
-fn work_one<S: Striped, J: Opening<S, S::Value, S::Fixed>, T, W: Work<S, State = T>, R: Wait>(
-    rt: &R,
+/// What all threads of a run share.
+#[derive(Drop)]
+struct Working<'a, S: Striped, J: Opening<S, S::Value, S::Fixed>, W, R> {
+    rt: &'a R,
     alloc: Global,
-    shared: &Shared<S, J>,
-    work: &W,
-    job: Job<S, J, T>,
-) -> Job<S, J, T>
-    requires begins { W.begins J.named.memory.fixed job.state }
-    requires new { job.seat.calls ≡ [] }
-    ensures { IsWorked W.leads job.seat job.state result.seat result.state }
-{
-    let Job { mut seat, state } = job;
-    if !shared.begin(rt, &seat) {
-        let state = work.leave_out(&seat, state);
-        return Job { seat, state };
-    }
-    let state = work.work(rt, alloc, shared, &mut seat, state);
-    shared.leave(rt, &seat);
-    Job { seat, state }
+    shared: &'a Shared<S, J>,
+    work: &'a W,
 }
 
-/// The work of each thread.
+impl<'a, S: Striped, J: Opening<S, S::Value, S::Fixed>, W: Work<S>, R: Wait> Tasks
+    for Working<'a, S, J, W, R>
+where
+    S: Send,
+    J: Send,
+    W::State: Send + Drop,
+    S::Op: Send,
+    S::Reply: Send,
+    S::Value: Send,
+    S::Fixed: Send,
+    S::Part: Send,
+    S::Seen: Send,
+    S::Decision: Send,
+{
+    type Task = Job<S, J, W::State>;
+
+    ghost begins = { λ j. W.begins J.named.memory.fixed j.state × (j.seat.calls ≡ []) };
+
+    ghost leads = { λ j k. IsWorked W.leads j.seat j.state k.seat k.state };
+
+    fn work(&self, task: Job<S, J, W::State>) -> Job<S, J, W::State> {
+        let Job { mut seat, state } = task;
+        let state = self
+            .work
+            .work(self.rt, self.alloc, self.shared, &mut seat, state);
+        self.shared.leave(self.rt, &seat);
+        Job { seat, state }
+    }
+
+    fn leave_out(&self, task: Job<S, J, W::State>) -> Job<S, J, W::State> {
+        let Job { seat, state } = task;
+        self.shared.leave(self.rt, &seat);
+        let state = self.work.leave_out(&seat, state);
+        Job { seat, state }
+    }
+}
+
+/// The work of each thread, or what its job comes to where none is made for it.
 pub(crate) fn work_all<
     S: Striped + Send + Sync,
     J: Opening<S, S::Value, S::Fixed> + Send + Sync,
@@ -110,14 +133,12 @@ where
     requires new { All (λ j. j.seat.calls ≡ []) jobs.items }
     ensures { IfOk result (λ done. AllZip (λ j k. IsWorked W.leads j.seat j.state k.seat k.state) jobs.items done.items) }
 {
-    let done = thread::map_vec(
+    let working = Working {
         rt,
-        jobs,
-        &|job: Job<S, J, T>| -> Job<S, J, T>
-            requires begins { W.begins J.named.memory.fixed job.state }
-            requires new { job.seat.calls ≡ [] }
-            ensures { IsWorked W.leads job.seat job.state result.seat result.state }
-        { work_one(rt, alloc, shared, work, job) },
-    )?;
+        alloc,
+        shared,
+        work,
+    };
+    let done = work_each(rt, &working, jobs)?;
     Ok(done)
 }

@@ -1,6 +1,7 @@
 //! Threads over a shared space, from its opening to its end: one thread for each seat, and the history of what they did.
 #![tactic(auto)]
 
+mod asked;
 mod jobs;
 mod run;
 mod work;

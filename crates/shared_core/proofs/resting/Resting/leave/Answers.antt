@@ -4,4 +4,4 @@ use Rattle.shared_core.proofs.Rests.{none_goes_left}
 use Rattle.shared_core.proofs.resting.Resting.leave.Goals as goal
 
 pub returns-clause-stays : goal.returns-clause-stays
-returns-clause-stays c = λ length none. rw (c.put.ensures.given, c.put.ensures.seats) (none_goes_left c.args.self.now.given_up length c.args.self.now.seats.items c.args.seat none)
+returns-clause-stays c = λ length none. rw c.put.ensures (none_goes_left length c.args.self.now.seats.items c.args.seat none)

@@ -1,7 +1,7 @@
 -- The names of the opened memory.
 use Rattle.shared_core.specs.Begins.{names_of, lane_names}
 use Rattle.waiter_queues.specs.Shared.{shared_values}
-use Rattle.shared_tests.proofs.resting.a_seat_for_which_no_thread_comes_is_given_up.Given as goal
+use Rattle.shared_tests.proofs.resting.a_seat_without_a_thread_ends_a_rest.Given as goal
 
 abbrev pub ghosts-rests_alone-J-Naming : goal.ghosts-rests_alone-J-Naming
 ghosts-rests_alone-J-Naming g a = record { chain = a.opened.chain }
