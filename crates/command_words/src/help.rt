@@ -147,7 +147,7 @@ still go on when they have ended goes on. `--timeouts now` lets each wait that
 has a time-out time out at once.
 
 With --why standard error has the line `threads stopped at --steps N: T ..`
-where threads T had steps left when they had made N, and so were cut short.";
+where threads T were still running when they had made N steps.";
 
 /// How `record` refuses.
 pub(crate) const RECORD_REFUSALS: &str = "\

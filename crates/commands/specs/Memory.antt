@@ -13,7 +13,7 @@ abbrev pub HoldsBytes : Option MemoryFile → List ℕ → Type 0
 HoldsBytes None bytes = ⊥
 HoldsBytes (Some file) bytes = bytes ≡ file.bytes.now
 
--- no file is found, or a call of a stream of it fails
+-- no file is found, or it is made to fail at some call
 abbrev pub Fails : Option MemoryFile → Type 0
 Fails None = Unit {0}
 Fails (Some file) = file.fails_at ≢ None

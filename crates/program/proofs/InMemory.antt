@@ -3,10 +3,10 @@ use Rattle.std.proofs.Common.{◌≡◌, ◌⊎◌, ℕ, List, [], true, false, 
 use Rattle.std.specs.Prelude.{Option, Some, None, codes}
 use Rattle.std.specs.Borrow.{Bor}
 use Rattle.std.specs.Str.{bytes_eq}
-use Rattle.clap.specs.Words.{Text, Row, first_of, fault_of, subcommand_of, IsAmong, Kinds}
+use Rattle.clap.specs.Words.{Text, Row, fault_of, subcommand_of, IsAmong, Kinds}
 use Rattle.clap.specs.declared.error.kind.ErrorKind.TheVariants as kind
 use Rattle.command_words.specs.Commands.{program}
-use Rattle.command_words.specs.Asked.{Asks, AsksForText, IsFoundBy, asks_why}
+use Rattle.command_words.specs.Asked.{Asks, IsFoundBy, asks_why}
 use Rattle.command_words.specs.declared.requests.Request.{Request}
 use Rattle.command_words.specs.declared.requests.Request.TheVariants as request
 use Rattle.replica.specs.declared.skipping.Skipped.{Skipped}
@@ -42,7 +42,7 @@ module _ (files : List MemoryFile) where
     by_request said None path h r k text done = absurd h
     by_request said (Some p) path h (request.Check other) k text done =
         let same : other.now ≡ path.now = ap text_of (sym k.1 ∙ h.1) in
-        subst (λ (l : List ℕ). HasValidModule files l) same (valid other.now text done)
+        subst (λ (l : List ℕ). HasValidModule files l) same (valid other.now text done.0)
     by_request said (Some p) path h (request.Gather skips objects) k text done = absurd (another p.0 (codes "gather") h.0 k.0 refl)
     by_request said (Some p) path h (request.Record r) k text done = absurd (another p.0 (codes "record") h.0 k.0 refl)
     by_request said (Some p) path h (request.Replay r by_threads) k text done = absurd (another p.0 (codes "replay") h.0 k.0 refl)

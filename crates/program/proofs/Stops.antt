@@ -1,5 +1,5 @@
 -- How a command stops.
-use Rattle.std.proofs.Common.{◌≡◌, ℕ, List, ◌++◌, Bool, true, false, Result, Ok, Err, OnOk, OnErr, IfErr, inl, inr, sym, subst, refl}
+use Rattle.std.proofs.Common.{◌≡◌, ℕ, List, [], ◌++◌, Bool, true, false, Result, Ok, Err, OnOk, OnErr, IfErr, inl, inr, sym, subst, refl}
 use Rattle.wasm_types.specs.declared.key.RunKey.{RunKey}
 use Rattle.clap.specs.Words.{Text}
 use Rattle.command_words.specs.Asked.{Asks, IsRequested, asks_why}
@@ -25,6 +25,11 @@ use Rattle.program.specs.Answers.{IsListed, IsListedSkipping, IsShown, IsCut, Is
 pub as_requested : (words : List Text) (found : Asked) (r : Request) (why : Bool) → found ≡ asked.Request r why → IsRequested words found → Asks words r × (why ≡ asks_why words)
 as_requested words found r why is h = subst (IsRequested words) is h
 
+-- nothing is said, whether the reason is asked for or not
+pub none_said : (tells : List ℕ → Type 0) (why : Bool) → tells [] → IsSaid tells why []
+none_said tells true h = h
+none_said tells false h = h
+
 module _ (holds : List ℕ → List ℕ → Type 0) (fails brought : List ℕ → Type 0) (ended broke : Type 0) (took : List ℕ → Type 0) (unwritten unwritable : Type 0) where
   -- what was to be shown stops where the output fails
   pub shown_stops : (asked asks : Request) (text items : List ℕ) {T : Type 0} (result : Result T Fault) → asked ≡ asks → text ≡ items → IsDone holds fails brought ended broke (λ skipped. Unit {0}) (λ line. Unit {0}) asks items
@@ -33,6 +38,18 @@ module _ (holds : List ℕ → List ℕ → Type 0) (fails brought : List ℕ �
   shown_stops asked asks text items (Ok x) is same done e u b = tt
   shown_stops asked asks text items (Err fault) is same done e u b =
       inr (e, u, (text, b.0, b.1, subst (λ (r : Request). IsDone holds fails brought ended broke (λ skipped. Unit {0}) (λ line. Unit {0}) r text) (sym is) (subst (IsDone holds fails brought ended broke (λ skipped. Unit {0}) (λ line. Unit {0}) asks) (sym same) done), b.2, b.3))
+
+  -- what was to be shown is done where the output took it
+  pub shown_done : (asked asks : Request) (text items : List ℕ) (counted : Skipped → Type 0) (said : List ℕ → Type 0) {T : Type 0} (result : Result T Fault) → asked ≡ asks → text ≡ items
+      → IsDone holds fails brought ended broke counted said asks items → OnOk result (took text) → OnOk result (IsShown took (IsDone holds fails brought ended broke counted said asked))
+  shown_done asked asks text items counted said (Ok x) is same done shown =
+      subst (λ (q : Request). IsShown took (IsDone holds fails brought ended broke counted said q)) (sym is) (text, subst (IsDone holds fails brought ended broke counted said asks) (sym same) done, shown)
+  shown_done asked asks text items counted said (Err fault) is same done shown = tt
+
+  -- so is a listing
+  pub gather_done : (asked : Request) (objects : Bool) (counted : Skipped → Type 0) (said : List ℕ → Type 0) (listed : List ℕ) → asked ≡ request.Gather false objects → IsListed (form_of objects) brought ended listed → said []
+      → took listed → IsShown took (IsDone holds fails brought ended broke counted said asked)
+  gather_done asked objects counted said listed is done none shown = subst (λ (q : Request). IsShown took (IsDone holds fails brought ended broke counted said q)) (sym is) (listed, (done, none), shown)
 
   -- a recording is done where its text was shown, and its line told
   pub record_done : (asked : Request) (r : RecordRequest) (answer : AnswerAt) (counted : Skipped → Type 0) (said : List ℕ → Type 0) {T : Type 0} (result : Result T Fault) → asked ≡ request.Record r
@@ -65,7 +82,7 @@ module _ (holds : List ℕ → List ℕ → Type 0) (fails brought : List ℕ �
     stops (gathering.OtherRun n own first) bad other source sink kept = inl (other n own first refl, kept (λ e. absurd cc))
     stops gathering.NoMemory bad other source sink kept = inl (tt, kept (λ e. absurd cc))
     stops gathering.SourceFailed bad other source sink kept = inl (source refl, kept (λ e. absurd cc))
-    stops gathering.SinkFailed bad other source sink kept = let s = sink refl in inr (refl, s.1, s.0)
+    stops gathering.SinkFailed bad other source sink kept = let s = sink refl in inr (refl, s.1, (s.0.0, s.0.1, s.0.2, (s.0.3, tt), s.0.4, s.0.5))
 
     pub gather_stops : (asked : Request) (told : Fault) (fault : GatherFault) → asked ≡ request.Gather false objects → told ≡ fault_of fault
         → ((n : ℕ) (reason : LineFault) → ◌≡◌ {A = Result T GatherFault} (Err fault) (Err (gathering.BadLine n reason)) → (text : List ℕ) × brought text × IsBadLine ended text n)

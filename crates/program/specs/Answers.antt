@@ -92,10 +92,9 @@ abbrev pub IsTold : (List ℕ → Type 0) → Bool → Request → Fault → Typ
 IsTold tells false r fault = tells (fault_line fault)
 IsTold tells true r fault = (text : List ℕ) × IsReason r fault text × tells (fault_line fault ++ (map shown text ++ 10 ∷ []))
 
--- where the words ask for it, the line is told, if there is one
+-- where the words ask for it this is told, and else nothing
 abbrev pub IsSaid : (List ℕ → Type 0) → Bool → List ℕ → Type 0
-IsSaid tells false line = Unit {0}
-IsSaid tells true [] = Unit {0}
+IsSaid tells false line = tells []
 IsSaid tells true line = tells line
 
 -- what is said of a word of the command line that is no text: its number, and its bytes as they are quoted
@@ -119,14 +118,14 @@ module _ (took : List ℕ → Type 0) where
 -- What the files may hold and which may fail, what the source brought, and whether it ended or failed.
 module _ (holds : List ℕ → List ℕ → Type 0) (fails : List ℕ → Type 0) (brought : List ℕ → Type 0) (ended broke : Type 0) where
   -- the text of a command that is done; `counted` says that the numbers of lines passed over were told, and `said` that a recording's
-  -- line of the threads that stopped was
+  -- line of the threads that stopped was, or nothing
   abbrev pub IsDone : (Skipped → Type 0) → (List ℕ → Type 0) → Request → List ℕ → Type 0
-  IsDone counted said (request.Gather false objects) text = IsListed (form_of objects) brought ended text
+  IsDone counted said (request.Gather false objects) text = IsListed (form_of objects) brought ended text × said []
   IsDone counted said (request.Gather true objects) text = IsListedSkipping (form_of objects) brought ended counted text
-  IsDone counted said (request.Check path) text = IsChecked (holds path.now) text
+  IsDone counted said (request.Check path) text = IsChecked (holds path.now) text × said []
   IsDone counted said (request.Record r) text = (answer : AnswerAt) × IsRecordAnswer holds r answer × (text ≡ answer.text) × said answer.stopped
-  IsDone counted said (request.Replay r by_threads) text = IsReplayedText holds r text
-  IsDone counted said (request.View r) text = IsViewedText holds r text
+  IsDone counted said (request.Replay r by_threads) text = IsReplayedText holds r text × said []
+  IsDone counted said (request.View r) text = IsViewedText holds r text × said []
 
   -- when each fault is answered
   abbrev pub IsRefused : Request → Fault → Type 0
@@ -145,9 +144,9 @@ module _ (holds : List ℕ → List ℕ → Type 0) (fails : List ℕ → Type 0
 
     -- Whether numbers of lines were told, which texts were told from first to last, and whether no file and no input was read.
     module _ (counted : Skipped → Type 0) (tells : List ℕ → Type 0) (unread : Type 0) (words : List Text) where
-      -- the very text of the command that the words ask for, or a text of help where they ask for that
+      -- the very text of the command that the words ask for, or a text of help where they ask for that, and nothing told
       abbrev pub IsDoneBy : Type 0
-      IsDoneBy = ((r : Request) × Asks words r × IsShown took (IsDone counted (IsSaid tells (asks_why words)) r)) ⊎ (AsksForText words × unread × IsShown took (λ text. Unit {0}))
+      IsDoneBy = ((r : Request) × Asks words r × IsShown took (IsDone counted (IsSaid tells (asks_why words)) r)) ⊎ (AsksForText words × unread × IsShown took (λ text. Unit {0}) × tells [])
 
       -- the command that the words ask for stops so; or a text of help is not written; or there is no memory for the words
       abbrev pub IsRefusedBy : Fault → Type 0

@@ -1,5 +1,5 @@
 -- What the program answers of files over memory.
-use Rattle.std.specs.Prelude.{◌≡◌, ℕ, List, Some}
+use Rattle.std.specs.Prelude.{ℕ, List}
 use Rattle.wasm_types.specs.declared.modules.Module.{Module}
 use Rattle.validator.specs.Valid.{WellTyped}
 use Rattle.commands.specs.declared.memory.MemoryFile.{MemoryFile}

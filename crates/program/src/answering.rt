@@ -59,13 +59,13 @@ fn show_recorded<W: Sink>(output: &mut W, answer: &mut RecordAnswer) -> Result<(
     }
 }
 
-/// Writes the line of the threads of a recording that stopped at `--steps`, where it is asked for and there are any. Where writing fails
-/// there is nobody to tell.
+/// Writes the line of the threads of a recording that stopped at `--steps`, or nothing where none did, where it is asked for. Where
+/// writing fails there is nobody to tell.
 fn tell_stopped<E: Sink>(errors: &mut E, why: bool, line: &str)
     requires { E.failed errors.old < 2 ^ 64 - 1 }
     ensures { IsSaid (λ text. (E.takes errors.old text errors.new) ⊎ (E.failed errors.new ≡ E.failed errors.old + 1)) why line.now }
 {
-    if why && !line.is_empty() {
+    if why {
         let _ = write_all(errors, line.as_bytes());
     }
 }
@@ -276,9 +276,10 @@ pub fn run<L: Log, T: Threads + Wait + Sync, F: Files, R: Source, W: Sink, E: Si
     requires source { R.failed source.old < 2 ^ 64 - 1 }
     requires output { W.failed output.old < 2 ^ 64 - 1 }
     requires errors { E.failed errors.old < 2 ^ 64 - 1 }
-    // Done: the output took the very text of the command that the words ask for, and where lines were passed over `errors`
-    // took the line of their numbers, or failed, and where the words ask for it the line of the threads that stopped. Refused: `errors` took the line of the fault, and where the words ask for it
-    // one more line, of the reason, or failed; and nothing was written but by a failing output. Not understood: nothing was read or written.
+    // Done: the output took the very text of the command that the words ask for, and `errors` took the line of the numbers of lines
+    // that were passed over, or where the words ask for it the line of the threads that stopped, or else nothing; or it failed. Refused:
+    // `errors` took the line of the fault, and where the words ask for it one more line, of the reason, or failed; and nothing was
+    // written but by a failing output. Not understood: nothing was read or written.
     ensures answered { IsAnswered (F.holds files.old) (F.fails files.old)
         (λ text. R.brings source.old text source.new) (R.ended source.new) (R.failed source.new ≡ R.failed source.old + 1)
         (λ text. W.takes output.old text output.new) (output.new ≡ output.old) (W.failed output.new ≡ W.failed output.old + 1)

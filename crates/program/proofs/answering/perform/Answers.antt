@@ -1,7 +1,9 @@
-use Rattle.std.proofs.Common.{rules, refl, subst}
+use Rattle.std.proofs.Common.{◌≡◌, ◌⊎◌, ◌+◌, ◌++◌, ℕ, List, [], ◌∷◌, inl, rules, refl, subst}
+use Rattle.commands.specs.Texts.{skipped_text}
 use Rattle.replica.specs.Gathered.{IsListing}
 use Rattle.replica.specs.declared.form.ListingForm.{ListingForm}
-use Rattle.program.proofs.Stops.{shown_stops, record_done, gather_stops, skipping_stops, replay_stops}
+use Rattle.program.specs.Answers.{IsSaid}
+use Rattle.program.proofs.Stops.{none_said, shown_done, gather_done, shown_stops, record_done, gather_stops, skipping_stops, replay_stops}
 use Rattle.program.proofs.answering.perform.Goals as goal
 
 pub returns-in-Err-clause-stopped : goal.returns-in-Err-clause-stopped
@@ -25,11 +27,45 @@ returns-in-Err-gather-clause-stopped g c =
 
 pub returns-in-Ok-check-clause-stopped : goal.returns-in-Ok-check-clause-stopped
 returns-in-Ok-check-clause-stopped g c =
-    shown_stops _ _ _ _ _ _ _ _ c.args.request.now _ c.deref.result.now c.in-Ok-check.text.items c.show.result c.in-Check.is c.deref.ensures.value c.in-Ok-check.ensures.checked c.show.ensures.error c.show.ensures.one_failed c.show.ensures.begun
+    shown_stops _ _ _ _ _ _ _ _ c.args.request.now _ c.deref.result.now c.in-Ok-check.text.items c.show.result c.in-Check.is c.deref.ensures.value (c.in-Ok-check.ensures.checked, tt) c.show.ensures.error c.show.ensures.one_failed c.show.ensures.begun
 
 pub returns-in-Ok-record-clause-done : goal.returns-in-Ok-record-clause-done
 returns-in-Ok-record-clause-done g c =
-    record_done _ (λ path. Unit {0}) _ _ (Unit {0}) _ (Unit {0}) (Unit {0}) c.args.request.now _ c.in-Ok-record.answer _ _ c.show_and_tell.result c.in-Record.is c.in-Ok-record.ensures.recorded c.show_and_tell.ensures.shown c.show_and_tell.ensures.told
+    let took : List ℕ → Type 0 = λ text. g.W.Sink.takes c.args.output.now text c.show_and_tell.new.output in
+    let tells : List ℕ → Type 0 = λ text. g.E.Sink.takes c.args.errors.now text c.show_and_tell.new.errors ⊎ (g.E.Sink.failed c.show_and_tell.new.errors ≡ g.E.Sink.failed c.args.errors.now + 1) in
+    record_done _ (λ path. Unit {0}) _ _ (Unit {0}) took (Unit {0}) (Unit {0}) c.args.request.now _ c.in-Ok-record.answer (λ skipped. tells (skipped_text skipped ++ 10 ∷ [])) (IsSaid tells c.args.why) c.show_and_tell.result c.in-Record.is c.in-Ok-record.ensures.recorded c.show_and_tell.ensures.shown
+    c.show_and_tell.ensures.told
+
+pub returns-in-Ok-check-clause-done : goal.returns-in-Ok-check-clause-done
+returns-in-Ok-check-clause-done g c =
+    let took : List ℕ → Type 0 = λ text. g.W.Sink.takes c.args.output.now text c.show.new.output in
+    let tells : List ℕ → Type 0 = λ text. g.E.Sink.takes c.args.errors.now text c.args.errors.now ⊎ (g.E.Sink.failed c.args.errors.now ≡ g.E.Sink.failed c.args.errors.now + 1) in
+    let none = none_said tells c.args.why (inl (g.met.E.Sink.takes_nothing c.args.errors.now)) in
+    shown_done _ (λ path. Unit {0}) _ _ (Unit {0}) took (Unit {0}) (Unit {0}) c.args.request.now _ c.deref.result.now c.in-Ok-check.text.items (λ skipped. tells (skipped_text skipped ++ 10 ∷ [])) (IsSaid tells c.args.why) c.show.result c.in-Check.is c.deref.ensures.value (c.in-Ok-check.ensures.checked, none) c.show.ensures.shown
+
+pub returns-in-Ok-replay-clause-done : goal.returns-in-Ok-replay-clause-done
+returns-in-Ok-replay-clause-done g c =
+    let took : List ℕ → Type 0 = λ text. g.W.Sink.takes c.args.output.now text c.show-in-Ok-replay.new.output in
+    let tells : List ℕ → Type 0 = λ text. g.E.Sink.takes c.args.errors.now text c.args.errors.now ⊎ (g.E.Sink.failed c.args.errors.now ≡ g.E.Sink.failed c.args.errors.now + 1) in
+    let none = none_said tells c.args.why (inl (g.met.E.Sink.takes_nothing c.args.errors.now)) in
+    shown_done _ (λ path. Unit {0}) _ _ (Unit {0}) took (Unit {0}) (Unit {0}) c.args.request.now _ c.as_bytes.result.now _ (λ skipped. tells (skipped_text skipped ++ 10 ∷ [])) (IsSaid tells c.args.why) c.show-in-Ok-replay.result c.in-Replay.is (search rules) (c.in-Ok-replay.ensures.replayed, none) c.show-in-Ok-replay.ensures.shown
+
+pub returns-in-Ok-view-clause-done : goal.returns-in-Ok-view-clause-done
+returns-in-Ok-view-clause-done g c =
+    let took : List ℕ → Type 0 = λ text. g.W.Sink.takes c.args.output.now text c.show-in-Ok-view.new.output in
+    let tells : List ℕ → Type 0 = λ text. g.E.Sink.takes c.args.errors.now text c.args.errors.now ⊎ (g.E.Sink.failed c.args.errors.now ≡ g.E.Sink.failed c.args.errors.now + 1) in
+    let none = none_said tells c.args.why (inl (g.met.E.Sink.takes_nothing c.args.errors.now)) in
+    shown_done _ (λ path. Unit {0}) _ _ (Unit {0}) took (Unit {0}) (Unit {0}) c.args.request.now _ c.as_bytes-in-Ok-view.result.now _ (λ skipped. tells (skipped_text skipped ++ 10 ∷ [])) (IsSaid tells c.args.why) c.show-in-Ok-view.result c.in-View.is (search rules) (c.in-Ok-view.ensures.viewed, none) c.show-in-Ok-view.ensures.shown
+
+pub returns-in-Ok-gather-clause-done : goal.returns-in-Ok-gather-clause-done
+returns-in-Ok-gather-clause-done g c =
+    let took : List ℕ → Type 0 = λ text. g.W.Sink.takes c.args.output.now text c.gather.new.sink in
+    let brought : List ℕ → Type 0 = λ text. g.R.Source.brings c.args.source.now text c.gather.new.source in
+    let tells : List ℕ → Type 0 = λ text. g.E.Sink.takes c.args.errors.now text c.args.errors.now ⊎ (g.E.Sink.failed c.args.errors.now ≡ g.E.Sink.failed c.args.errors.now + 1) in
+    let none = none_said tells c.args.why (inl (g.met.E.Sink.takes_nothing c.args.errors.now)) in
+    let s = c.in-Ok-gather.ensures.listed in
+    gather_done _ (λ path. Unit {0}) brought (g.R.Source.ended c.gather.new.source) (Unit {0}) took (Unit {0}) (Unit {0}) c.args.request.now c.in-Gather-false-default.objects (λ skipped. tells (skipped_text skipped ++ 10 ∷ [])) (IsSaid tells c.args.why) s.listed (cc (c.in-Gather-false-default.is))
+    (record { text = s.text; came = s.came; end = s.end; pieces = s.pieces; lines = s.lines; is_listing = subst (λ (f : ListingForm). IsListing f s.pieces s.listed) c.form_of-in-Gather-false-default.ensures s.is_listing }) none s.taken
 
 pub returns-in-Ok-record-clause-stopped : goal.returns-in-Ok-record-clause-stopped
 returns-in-Ok-record-clause-stopped g c =
@@ -38,11 +74,11 @@ returns-in-Ok-record-clause-stopped g c =
 
 pub returns-in-Ok-replay-clause-stopped : goal.returns-in-Ok-replay-clause-stopped
 returns-in-Ok-replay-clause-stopped g c =
-    shown_stops _ _ _ _ _ _ _ _ c.args.request.now _ c.as_bytes.result.now _ c.show-in-Ok-replay.result c.in-Replay.is (search rules) c.in-Ok-replay.ensures.replayed c.show-in-Ok-replay.ensures.error c.show-in-Ok-replay.ensures.one_failed c.show-in-Ok-replay.ensures.begun
+    shown_stops _ _ _ _ _ _ _ _ c.args.request.now _ c.as_bytes.result.now _ c.show-in-Ok-replay.result c.in-Replay.is (search rules) (c.in-Ok-replay.ensures.replayed, tt) c.show-in-Ok-replay.ensures.error c.show-in-Ok-replay.ensures.one_failed c.show-in-Ok-replay.ensures.begun
 
 pub returns-in-Ok-view-clause-stopped : goal.returns-in-Ok-view-clause-stopped
 returns-in-Ok-view-clause-stopped g c =
-    shown_stops _ _ _ _ _ _ _ _ c.args.request.now _ c.as_bytes-in-Ok-view.result.now _ c.show-in-Ok-view.result c.in-View.is (search rules) c.in-Ok-view.ensures.viewed c.show-in-Ok-view.ensures.error c.show-in-Ok-view.ensures.one_failed c.show-in-Ok-view.ensures.begun
+    shown_stops _ _ _ _ _ _ _ _ c.args.request.now _ c.as_bytes-in-Ok-view.result.now _ c.show-in-Ok-view.result c.in-View.is (search rules) (c.in-Ok-view.ensures.viewed, tt) c.show-in-Ok-view.ensures.error c.show-in-Ok-view.ensures.one_failed c.show-in-Ok-view.ensures.begun
 
 pub returns-in-Err-replay-clause-stopped : goal.returns-in-Err-replay-clause-stopped
 returns-in-Err-replay-clause-stopped g c =
