@@ -7,7 +7,7 @@ use Rattle.std.proofs.lemmas.List.{append-nil}
 use Rattle.std.proofs.lemmas.Option.{slice_get_past, slice_get_read}
 use Rattle.wasm_types.specs.declared.value.ValType.{ValType}
 use Rattle.wasm_types.specs.declared.modules.LocalGroup.{LocalGroup}
-use Rattle.wasm_types.specs.Locals.{locals_in, locals_of}
+use Rattle.wasm_types.specs.Locals.{locals_of}
 use Rattle.validator.specs.Ends.{end_behind, ends_from}
 
 -- ---- one more end

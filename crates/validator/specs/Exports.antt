@@ -1,6 +1,9 @@
 -- Exported functions by name. WebAssembly Core 1.0, structure and validation, exports.
-use Rattle.std.specs.Prelude.{◌≡◌, ℕ, ◌&&◌, Bool, true, false, List, [], ◌∷◌, Option, Some, None, is_none, position, if◌then◌else◌, String, string_bytes}
+use Rattle.std.specs.Prelude.{◌≡◌, ℕ, ◌&&◌, Bool, true, false, List, [], ◌∷◌, Option, Some, None, is_none, position, if◌then◌else◌, take, String, string_bytes}
 use Rattle.std.specs.Global.{Global}
+use Rattle.std.specs.Hash.DefaultHasher as sip
+use Rattle.sha2.specs.Sha256.{sha256}
+use Rattle.validator.specs.declared.name_hasher.NameHasher.{NameHasher}
 use Rattle.std.specs.Str.{IsUtf8, bytes_eq}
 use Rattle.std.specs.Map.{lookup}
 use Rattle.wasm_types.specs.declared.modules.Export.{Export}
@@ -51,3 +54,7 @@ AreNames names exports = (name : List ℕ) → IsUtf8 name → value_of names na
 -- a map by name then has a number at a name, and at each other text what it had
 abbrev pub PutsNumber : List (String Global × ℕ) → List ℕ → ℕ → List (String Global × ℕ) → Type 0
 PutsNumber names name number later = (text : List ℕ) → value_of later text ≡ (if bytes_eq text name then Some number else value_of names text)
+
+-- a hasher hands out what was fed with the first half of the digest of a module's bytes
+abbrev pub HashesFor : List ℕ → NameHasher → Type 0
+HashesFor source hasher = hasher.begun ≡ sip.write sip.initial (take 16 (sha256 source))

@@ -14,7 +14,6 @@ use Rattle.wasm_types.specs.declared.instruction.BlockKind.{BlockKind}
 use Rattle.wasm_types.specs.declared.instruction.BlockKind.TheVariants.{Block, Loop, If}
 use Rattle.wasm_types.specs.declared.instruction.IndexOp.{IndexOp}
 use Rattle.wasm_types.specs.declared.instruction.IndexOp.TheVariants.{Branch, BranchIf, Call, LocalGet, LocalSet, LocalTee, GlobalGet, GlobalSet}
-use Rattle.wasm_types.specs.declared.instruction.Load.{Load}
 use Rattle.wasm_types.specs.declared.instruction.MemoryOp.{MemoryOp}
 use Rattle.wasm_types.specs.declared.instruction.MemoryOp.TheVariants as memory
 use Rattle.wasm_types.specs.declared.instruction.PagesOp.{PagesOp}

@@ -1,6 +1,7 @@
 //! The names of a module's exports.
 
 ghost use Rattle.std.specs.Prelude.{◌≡◌, true, false, is_none, IfOk, OnOk, IfNone, IfSome};
+ghost use Rattle.indexmap.specs.IndexMap.{hasher_of};
 ghost use Rattle.validator.specs.Exports.{distinct, function_index, value_of, AreNames, PutsNumber};
 
 use crate::name_hasher::NameHasher;
@@ -18,6 +19,7 @@ pub(crate) fn names_of(
     ensures twice { IfOk result (λ found. IfNone found (distinct exports.now ≡ false)) }
     ensures distinct { IfOk result (λ found. IfSome found (λ names. distinct exports.now ≡ true)) }
     ensures names { IfOk result (λ found. IfSome found (λ names. AreNames names.entries exports.now)) }
+    ensures hasher { IfOk result (λ found. IfSome found (λ names. hasher_of names ≡ hasher)) }
 {
     let mut names = IndexMap::with_capacity_and_hasher(alloc, exports.len(), hasher)?;
     // The names that are not UTF-8. A decoded module has none, and the set then takes no memory.
@@ -44,6 +46,7 @@ fn add_name(
 ) -> Result<bool, NoMemory>
     ensures is_new { IfOk result (λ is_new. is_new ≡ is_none (value_of names.old.entries name.now)) }
     ensures puts { OnOk result (PutsNumber names.old.entries name.now number names.new.entries) }
+    ensures hasher { OnOk result (hasher_of names.new ≡ hasher_of names.old) }
 {
     let Ok(number) = u32::try_from(number) else {
         return Err(NoMemory);

@@ -24,9 +24,8 @@ use std::alloc::Global;
 use std::marker::Model;
 use wasm_types::Module;
 
-/// A module that is well typed (WebAssembly Core 1.0, validation), with the targets of its functions' blocks and the groups of
-/// their instructions.
-/// Contracts see the module.
+/// A module that is well typed (WebAssembly Core 1.0, validation), with the targets of its functions' blocks and the
+/// groups of their instructions. Contracts see the module.
 #[derive(Drop)]
 pub struct Valid {
     module: Module,
@@ -41,7 +40,8 @@ pub struct Valid {
 impl Model for Valid {
     ghost use Rattle.wasm_types.specs.declared.modules.Module.{Module};
     ghost use Rattle.validator.specs.Valid.{WellTyped, all_targets};
-    ghost use Rattle.validator.specs.Exports.{AreNames};
+    ghost use Rattle.validator.specs.Exports.{AreNames, HashesFor};
+    ghost use Rattle.indexmap.specs.IndexMap.{hasher_of};
     ghost use Rattle.instruction_groups.specs.Groups.{DescribesAll};
     ghost use Rattle.std.specs.Prelude.{◌≡◌};
 
@@ -49,11 +49,11 @@ impl Model for Valid {
 
     ghost view = { λ v. v.module };
 
-    ghost invariant = { λ v. WellTyped v.module × AreNames v.names.entries v.module.exports × (v.targets.items ≡ all_targets v.module.bodies) × DescribesAll v.module.bodies v.groups.items };
+    ghost invariant = { λ v. WellTyped v.module × AreNames v.names.entries v.module.exports × (v.targets.items ≡ all_targets v.module.bodies) × DescribesAll v.module.bodies v.groups.items × HashesFor v.module.source (hasher_of v.names) };
 }
 
-/// Validates a module, which is given up on a refusal. A module that passes a limit (1,048,576 bytes, 256 pages and 4,096
-/// elements at first, 1,024 parameters and locals of a function), as no decoded module does, breaks a rule.
+/// Validates a module, which is given up on a refusal. A module that passes a limit (1,048,576 bytes, 256 pages and
+/// 4,096 elements at first, 1,024 parameters and locals of a function), as no decoded module does, breaks a rule.
 pub fn validate(alloc: Global, module: Module) -> Result<Valid, ValidFault>
     ensures same { IfOk result (λ valid. valid ≡ «module») }
     ensures typed { OnOk result (WellTyped «module») }
@@ -201,6 +201,7 @@ impl Valid {
     /// The groups of a function's instructions, one for each place; None past the last function. It takes no memory.
     pub fn groups(&self, function: u32) -> Option<&[Group]>
         ensures none { IfNone result (length self.now.bodies ≤ function) }
+        ensures some { IfSome result (λ groups. function < length self.now.bodies) }
         ensures groups { IfSome result (λ groups. (body : Body) → slice_get self.now.bodies function ≡ Some body → Describes body.code groups.now) }
     {
         match self.groups.as_slice().get(function as usize) {

@@ -1,4 +1,4 @@
-use Rattle.std.proofs.Common.{◌≡◌, ◌∙◌, sym, ap, subst, length, ◌<◌, get_or, ℕ, List, ◌+◌, ◌≤◌, map, take, Bool}
+use Rattle.std.proofs.Common.{◌∙◌, ap, subst, length, ◌<◌, get_or, ℕ, List, ◌+◌, ◌≤◌}
 use Rattle.std.specs.Prelude.{slice_index}
 use Rattle.std.specs.Bool.{Decides}
 use Rattle.wasm_types.specs.declared.modules.Body.{Body}

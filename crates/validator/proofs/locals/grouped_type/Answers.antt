@@ -1,6 +1,5 @@
-use Rattle.std.proofs.Common.{sym, ◌∙◌, ap, subst, arith}
+use Rattle.std.proofs.Common.{sym, subst, arith}
 use Rattle.std.specs.List.Sorted.{IsNonDecreasing}
-use Rattle.validator.specs.Ends.{ends_from}
 use Rattle.validator.proofs.EndLaws.{never_fall, none_there, some_there}
 use Rattle.validator.proofs.locals.grouped_type.Goals as goal
 

@@ -1,5 +1,3 @@
-use Rattle.std.proofs.Common.{refl, get_or, sym, ◌∙◌, ap, subst, arith}
-use Rattle.wasm_types.specs.declared.modules.LocalGroup.{LocalGroup}
 use Rattle.validator.specs.Ends.{ends_from}
 use Rattle.validator.proofs.EndLaws.{ends_go_on, ends_done}
 use Rattle.validator.proofs.locals.note_ends.Goals as goal
