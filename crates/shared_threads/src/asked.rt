@@ -19,15 +19,18 @@ pub(crate) trait Tasks {
 
     ghost leads: { Self.Task → Self.Task → Type 0 };
 
+    ghost stays: { Self.Task → Self.Task → Type 0 };
+
     /// The work of a thread. `begins` says of what it may begin, `leads` to what that leads.
     fn work(&self, task: Self::Task) -> Self::Task
         requires { begins task }
         ensures { leads task result };
 
-    /// What a task comes to for which the system made no thread.
+    /// What a task comes to for which the system made no thread. `stays` says what of it is as it was.
     fn leave_out(&self, task: Self::Task) -> Self::Task
         requires { begins task }
-        ensures { leads task result };
+        ensures leads { leads task result }
+        ensures stays { stays task result };
 }
 
 /// That a task leads to what its thread gives back.

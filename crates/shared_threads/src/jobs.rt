@@ -90,6 +90,8 @@ where
 
     ghost leads = { λ j k. IsWorked W.leads j.seat j.state k.seat k.state };
 
+    ghost stays = { λ j k. k.seat ≡ j.seat };
+
     fn work(&self, task: Job<S, J, W::State>) -> Job<S, J, W::State> {
         let Job { mut seat, state } = task;
         let state = self

@@ -1,4 +1,5 @@
-//! Threads over a shared space, from its opening to its end: one thread for each seat, and the history of what they did.
+//! Threads over a shared space, from its opening to its end: one thread for each seat, and the history of what they
+//! did.
 #![tactic(auto)]
 
 mod asked;

@@ -30,9 +30,9 @@ pub trait Work<S: Striped> {
         requires begins { begins J.named.memory.fixed state }
         ensures { leads seat.now.thread state [] result };
 
-    /// The work of one thread, from what it has to what it then has. `begins` says with what it may begin over a space with
-    /// these fixed numbers, `leads` to what the calls of the thread with a number lead. The seat is left for it, once it
-    /// is done.
+    /// The work of one thread, from what it has to what it then has. `begins` says with what it may begin over a space
+    /// with these fixed numbers, `leads` to what the calls of the thread with a number lead. The seat is left for it,
+    /// once it is done.
     fn work<J: Opening<S, S::Value, S::Fixed>, R: Wait>(
         &self,
         rt: &R,
