@@ -1,5 +1,5 @@
-//! Each operation on two integers for pairs of operands, as a plain program of another language gives it, and a few rows
-//! for each other kind of instruction.
+//! Each operation on two integers for pairs of operands, as a plain program of another language gives it, and a few
+//! rows for each other kind of instruction.
 
 use integer_ops::compute;
 use std::process::Abort;

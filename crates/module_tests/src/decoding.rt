@@ -1,5 +1,5 @@
-//! Modules from bytes: their summaries, where others are refused, and the limits. A module begins with a preamble of eight
-//! bytes.
+//! Modules from bytes: their summaries, where others are refused, and the limits. A module begins with a preamble of
+//! eight bytes.
 
 use binary_decoder::DecodeFault::Refused;
 use binary_decoder::{DecodeFault, decode, summary};
@@ -67,7 +67,8 @@ static SUMMARIES: &[(&str, &str)] = &[
         "0061736d01000000010401600000030201000a040102000b",
         FUNCTION_SUMMARY,
     ),
-    // Limits that are reached: pages, elements, and 1,024 locals of one function, also in groups of 1,023, of none, and of one.
+    // Limits that are reached: pages, elements, and 1,024 locals of one function, also in groups of 1,023, of none, and
+    // of one.
     (
         "0061736d010000000503010011",
         "types 0\nfunctions 0\ntable none\nmemory 17 - unshared\nglobals 0\nexports 0\nstart none\n",
@@ -237,7 +238,8 @@ static FAULTS: &[(&str, DecodeFault)] = &[
     ),
 ];
 
-/// The module that these digits spell. Where a growth of the test's own is refused it is answered as one of `decode` is.
+/// The module that these digits spell. Where a growth of the test's own is refused it is answered as one of `decode`
+/// is.
 pub(crate) fn module_of(alloc: Global, digits: &str) -> Result<Module, DecodeFault> {
     match hex::decode(alloc, digits) {
         Ok(bytes) => decode(alloc, &bytes),

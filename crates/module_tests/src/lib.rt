@@ -1,5 +1,5 @@
-//! Tests of the crates that read modules and plans, and of what they stand on. A crate with tests is proved twice, so they
-//! stand here, over what those crates offer.
+//! Tests of the crates that read modules and plans, and of what they stand on. A crate with tests is proved twice, so
+//! they stand here, over what those crates offer.
 #![tactic(auto)]
 
 #[cfg(test)]
@@ -12,6 +12,8 @@ mod block_targets;
 mod cursors;
 #[cfg(test)]
 mod decoding;
+#[cfg(test)]
+mod group_rows;
 #[cfg(test)]
 mod plans;
 #[cfg(test)]

@@ -8,8 +8,8 @@ use thread_plan::{Plan, PlanFault};
 use validator::Valid;
 use wasm_types::Value;
 
-/// A shared memory `m`, and functions: `i` takes an i32, `l` an i64, `two` both; one that takes nothing has the empty name,
-/// `zwölf`, and a name with a carriage return.
+/// A shared memory `m`, and functions: `i` takes an i32, `l` an i64, `two` both; one that takes nothing has the empty
+/// name, `zwölf`, and a name with a carriage return.
 pub(crate) const FUNCTIONS: &str = "\
     0061736d01000000\
     01110460017f0060017e0060000060027f7e00\

@@ -1,14 +1,15 @@
 //! What `validate` says of modules, and what valid ones answer.
 
 use crate::decoding::module_of;
+use crate::group_rows::GROUPED;
 use crate::validation_rows::{DROP, END, FAULTY, WELL_TYPED};
 use std::alloc::Global;
 use std::process::Abort;
 use validator::{Valid, ValidFault, validate};
 use wasm_types::{Block, Instr, Items, Module, NoMemory, Profile};
 
-/// A function of parameters i32 and i64 and of locals i64, none of i32, two i32 and i64, exported as `w`, with the labels
-/// 9, 1 and 2; a table, a shared memory of one page, a constant i64 global and a mutable i32 global.
+/// A function of parameters i32 and i64 and of locals i64, none of i32, two i32 and i64, exported as `w`, with the
+/// labels 9, 1 and 2; a table, a shared memory of one page, a constant i64 global and a mutable i32 global.
 const MODULE: &str = "\
     0061736d01000000010601\
     60027f7e00\
@@ -144,4 +145,28 @@ pub(crate) fn has_answers(
 fn a_valid_module_has_answers(rt: HostRuntime) {
     assert!(rt; has_answers(rt.alloc(), NESTING, true) == Ok(true));
     assert!(rt; has_answers(rt.alloc(), EXTENDING, false) == Ok(true));
+}
+
+/// Whether a function's table has at each place the group that the rows say.
+fn has_groups(alloc: Global) -> Result<bool, ValidFault> {
+    let mut code = Vec::new(alloc);
+    for (instr, _) in &GROUPED {
+        code.push(*instr)?;
+    }
+    let valid = validate(alloc, with_code(alloc, MODULE, &code)?)?;
+    let Some(groups) = valid.groups(0) else {
+        return Ok(false);
+    };
+    Ok(
+        groups.len() == GROUPED.len()
+            && groups
+                .iter()
+                .zip(&GROUPED)
+                .all(|(found, (_, group))| found == group),
+    )
+}
+
+#[test]
+fn a_valid_module_has_the_longest_groups(rt: HostRuntime) {
+    assert!(rt; has_groups(rt.alloc()) == Ok(true));
 }

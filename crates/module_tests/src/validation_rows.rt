@@ -1,5 +1,5 @@
-//! Functions of parameters i32 and i64 and of locals i64, none of i32, two i32 and i64, by their instructions: well typed
-//! ones, and others with the place of their fault. Their labels are 9, 1 and 2.
+//! Functions of parameters i32 and i64 and of locals i64, none of i32, two i32 and i64, by their instructions: well
+//! typed ones, and others with the place of their fault. Their labels are 9, 1 and 2.
 
 use wasm_types::{
     Access, AtomicOp, BinaryOp, BlockKind, Comparison, Extension, IndexOp, Instr, LabelRange, Load,
