@@ -161,8 +161,8 @@ fn recorded_by<L: Log, T: Threads + Wait + Sync, F: Files>(
     }
 }
 
-/// What a run came to: its report, or the lines of its pieces, and which threads stopped at `--steps`. The module is read and judged, then the plan, then the
-/// schedule, if the threads go on by one, then the size of the pieces.
+/// What a run came to: its report, or the lines of its pieces, and which threads stopped at `--steps`. The module is
+/// read and judged, then the plan, then the schedule, if the threads go on by one, then the size of the pieces.
 pub fn record<L: Log, T: Threads + Wait + Sync, F: Files>(
     rt: &L,
     threads: &T,
@@ -180,8 +180,8 @@ pub fn record<L: Log, T: Threads + Wait + Sync, F: Files>(
     recorded_by(rt, threads, alloc, files, &program, request)
 }
 
-/// The report of a recording, or the lines of its pieces, for which room is taken, and the line of the threads that stopped at
-/// `--steps`.
+/// The report of a recording, or the lines of its pieces, for which room is taken, and the line of the threads that
+/// stopped at `--steps`.
 fn written(
     alloc: Global,
     recording: Recording,

@@ -47,8 +47,8 @@ pub(crate) enum Way<'a> {
 /// A shared memory of one page and at most two.
 pub(crate) const SHARED: &str = "05 04 01 03 01 02";
 
-/// The preamble, and the types: of nothing an i32, of nothing an i64, of nothing nothing, of an i32 an i32, of an i32 and
-/// an i64 an i64, of two i32 an i32, and once more of an i32 an i32.
+/// The preamble, and the types: of nothing an i32, of nothing an i64, of nothing nothing, of an i32 an i32, of an i32
+/// and an i64 an i64, of two i32 an i32, and once more of an i32 an i32.
 const HEAD: &str = "00 61 73 6d 01 00 00 00 \
     01 22 07 60 00 01 7f 60 00 01 7e 60 00 00 60 01 7f 01 7f 60 02 7f 7e 01 7e 60 02 7f 7f 01 7f \
     60 01 7f 01 7f";
@@ -147,8 +147,8 @@ fn note(text: &mut String, next: &Next<Op>) -> Result<(), Fail> {
     Ok(())
 }
 
-/// Makes the next step, where there is one and a reply for it, and says whether it did. A thread at the greatest number of
-/// steps makes none.
+/// Makes the next step, where there is one and a reply for it, and says whether it did. A thread at the greatest number
+/// of steps makes none.
 pub(crate) fn advance(
     state: &mut ThreadState<'_>,
     next: Next<Op>,
@@ -181,7 +181,8 @@ fn reply_of(name: &str) -> Option<Reply> {
     }
 }
 
-/// Runs a thread with these replies, and writes what it asks for. Local steps are made in runs where `run` says of how many.
+/// Runs a thread with these replies, and writes what it asks for. Local steps are made in runs where `run` says of how
+/// many.
 fn play(
     text: &mut String,
     state: &mut ThreadState<'_>,
@@ -206,8 +207,8 @@ fn play(
     Ok(())
 }
 
-/// Runs a thread in runs of local steps, and writes how many steps each made, and how many there then are. Behind a run of
-/// none the thread may ask for a store, which it then gets.
+/// Runs a thread in runs of local steps, and writes how many steps each made, and how many there then are. Behind a run
+/// of none the thread may ask for a store, which it then gets.
 fn run_locally(text: &mut String, state: &mut ThreadState<'_>, mosts: &[u32]) -> Result<(), Fail> {
     for most in mosts {
         let made = state.local_run(*most)?;
@@ -232,8 +233,8 @@ fn go(text: &mut String, state: &mut ThreadState<'_>, way: Way<'_>) -> Result<()
     Ok(())
 }
 
-/// The same with the thread of a case over its module. It alone owns a thread, and the next one a module: who owns one and
-/// may return early takes long to prove.
+/// The same with the thread of a case over its module. It alone owns a thread, and the next one a module: who owns one
+/// and may return early takes long to prove.
 fn go_in(
     alloc: Global,
     text: &mut String,
@@ -273,9 +274,10 @@ pub(crate) fn check(
     Ok(())
 }
 
-/// Runs the case of a row step by step and in runs, and compares what is written. A row has the types, the bodies, the replies or `-`, and what is
-/// wanted; and, where they are others than these, the plan's lines `thread f`, the start and element sections of nothing,
-/// the memory section `SHARED` and the import section of nothing. Between them there is ` | `.
+/// Runs the case of a row step by step and in runs, and compares what is written. A row has the types, the bodies, the
+/// replies or `-`, and what is wanted; and, where they are others than these, the plan's lines `thread f`, the start
+/// and element sections of nothing, the memory section `SHARED` and the import section of nothing. Between them there
+/// is ` | `.
 fn stand_row(rt: &impl Abort, alloc: Global, profile: &Profile, row: &str) -> Result<(), Fail> {
     let mut fields = row.split(" | ");
     let (Some(functions), Some(bodies), Some(replies), Some(want)) = (
