@@ -68,11 +68,11 @@ module _ {State Op Reply Value Fixed : Type 0} (space : Space Op Reply Value Fix
       let is : e ≡ stand steps places outcome = known_same _ _ (sym ends ∙ at th.0 th.1) ∙ end in
       true_or_false _ ((end_decides e (stand steps places outcome)).1 is) other
 
-  -- where none are, and all is as logged
+  -- where none are, it stands as it is logged, or diverged
   pub goes_to_end : (steps places : ℕ) (outcome : Outcome) (e : End) → Some steps ≡ option_map (λ x. code.steps x.state) (slice_get w.threads t) → Some places ≡ option_map (λ x. x.places) (slice_get w.threads t)
-      → Some outcome ≡ option_map (λ x. outcome_of (code.next x.state)) (slice_get w.threads t) → log.end t ≡ Some (Known e) → e.steps ≤ steps → same_end e (stand steps places outcome) ≡ true
-      → turn.Done ≡ turn_of space code log w t
-  goes_to_end steps places outcome e a b d ends past same =
+      → Some outcome ≡ option_map (λ x. outcome_of (code.next x.state)) (slice_get w.threads t) → log.end t ≡ Some (Known e) → e.steps ≤ steps
+      → cond (same_end e (stand steps places outcome)) turn.Done (turn.Refused Diverged) ≡ turn_of space code log w t
+  goes_to_end steps places outcome e a b d ends past =
       let th = made_of (λ x. code.steps x.state) (slice_get w.threads t) steps (sym a) in
       let tp = made_of (λ x. x.places) (slice_get w.threads t) places (sym b) in
       let to = made_of (λ x. outcome_of (code.next x.state)) (slice_get w.threads t) outcome (sym d) in
@@ -81,5 +81,5 @@ module _ {State Op Reply Value Fixed : Type 0} (space : Space Op Reply Value Fix
       sym (
       by_end th.0 e th.1 ends
       ∙ ap (λ b. cond b (turn_by_next space code log w t th.0.places e.places (code.next th.0.state)) (cond (same_end e (end_of_thread code th.0)) turn.Done (turn.Refused Diverged))) (le-ltb _ _ past')
-      ∙ ap (λ b. cond b turn.Done (turn.Refused Diverged)) (ap (same_end e) end ∙ same)
+      ∙ ap (λ x. cond (same_end e x) turn.Done (turn.Refused Diverged)) end
       )

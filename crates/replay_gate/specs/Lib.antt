@@ -7,3 +7,4 @@ pub mod Rounds
 pub mod Turned
 pub mod LocalRounds
 pub mod Finished
+pub mod Local

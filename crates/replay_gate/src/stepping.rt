@@ -1,10 +1,12 @@
 //! A replay that is made turn by turn.
 
-ghost use Rattle.std.specs.Prelude.{◌≡◌, ◌⊎◌, Some, IfOk, IfErr, OnOk, OnErr};
+ghost use Rattle.std.specs.Prelude.{◌≡◌, ◌⊎◌, cond, slice_get, Some, IfOk, IfErr, OnOk, OnErr};
 ghost use Rattle.event_core.specs.World.{world_of};
 ghost use Rattle.replay_laws.specs.Turns.{turn_of, world_after_turn};
 ghost use Rattle.event_core.specs.Opening.{IsOpeningWorld};
+ghost use Rattle.replay_laws.specs.declared.turn.Turn.TheVariants as turn;
 ghost use Rattle.replay_gate.specs.Leads.{Leads};
+ghost use Rattle.replay_gate.specs.Local.{is_local, steps_left_of, HasStepsLeft};
 ghost use Rattle.replay_gate.specs.Shows.{ShowsRecorded};
 ghost use Rattle.replay_gate.specs.Turned.{answer_of_turn, TurnRefused, IsRightRefusal, IsFreeRefusal};
 ghost use Rattle.replay_gate.specs.declared.answers.ReplayFault.TheVariants as ReplayFault;
@@ -13,7 +15,7 @@ use crate::answers::{ReplayFault, Turned};
 use crate::looking::make_local_rounds;
 use crate::read_log::ReadLog;
 use crate::replaying::OpenWorld;
-use crate::turn::take_turn;
+use crate::turn::{steps_left, take_local, take_turn};
 use event_core::World;
 use rw_objects::{Machine, ObjectSpace};
 use std::alloc::Global;
@@ -87,5 +89,25 @@ impl<M: Machine<S>, S: ObjectSpace, L: ReadLog, O: OpenWorld<M, S>> Replay<M, S,
         ensures unchanged { OnErr result (world_of self.new.world ≡ (world_of self.old.world)) }
     {
         take_turn(alloc, &mut self.world, &self.log, thread)
+    }
+
+    /// How many steps a thread has left to its logged end, where that is known.
+    pub fn steps_left(&self, thread: u32) -> u32
+        ensures { result ≡ steps_left_of M.code ((L.log self.now.log).end thread) (slice_get (world_of self.now.world).threads thread) }
+    {
+        steps_left(&self.world, &self.log, thread)
+    }
+
+    /// A turn of a thread that has steps left to its logged end, where that is a local step; else nothing is done. It answers
+    /// whether the step was made, and looks at the thread alone.
+    pub fn local_turn(&mut self, thread: u32) -> Result<bool, NoMemory>
+        requires { HasStepsLeft M.code (L.log self.old.log) (world_of self.old.world) thread }
+        ensures log { self.new.log ≡ self.old.log }
+        ensures opens { self.new.opens ≡ self.old.opens }
+        ensures made { IfOk result (λ made. made ≡ is_local (turn_of S.meaning M.code (L.log self.old.log) (world_of self.old.world) thread)) }
+        ensures world { IfOk result (λ made. world_of self.new.world ≡ cond made (world_after_turn S.meaning M.code (world_of self.old.world) thread turn.Local) (world_of self.old.world)) }
+        ensures unchanged { OnErr result (world_of self.new.world ≡ (world_of self.old.world)) }
+    {
+        take_local(&mut self.world, &self.log, thread)
     }
 }

@@ -1,11 +1,14 @@
 //! One turn of a replay. It looks the item up by its place, whatever turns went before.
 
-ghost use Rattle.std.specs.Prelude.{◌≡◌, ◌⊎◌, Some, IfOk, IfErr, OnOk, OnErr};
+ghost use Rattle.std.specs.Prelude.{◌≡◌, ◌⊎◌, cond, slice_get, Some, IfOk, IfErr, OnOk, OnErr};
 ghost use Rattle.event_core.specs.World.{world_of};
-ghost use Rattle.replay_laws.specs.Turns.{op_for, can_give, turn_by_step, turn_by_item, turn_by_place, turn_by_next, turn_of, world_after_turn};
+ghost use Rattle.replay_laws.specs.Turns.{op_for, can_give, turn_by_step, turn_by_item, turn_by_place, turn_by_next, turn_of, world_after_turn, same_end};
+ghost use Rattle.replay_laws.specs.declared.turn.Turn.TheVariants as turn;
+ghost use Rattle.replay_laws.specs.declared.turn.Refusal.TheVariants as refusal;
 ghost use Rattle.replay_laws.specs.Finishing.{PassesOn};
 ghost use Rattle.replay_gate.specs.Answers.{makes_step, IsThreadsFault, TurnStops};
 ghost use Rattle.replay_gate.specs.Turned.{answer_of_turn, TurnRefused};
+ghost use Rattle.replay_gate.specs.Local.{is_local, steps_left_of, HasStepsLeft};
 
 use crate::answers::{ReplayFault, Turned, fault_of};
 use crate::event::input_for;
@@ -17,6 +20,7 @@ use log_pieces::End;
 use replay_laws::{Refusal, Turn};
 use rw_objects::{Entry, Kind, Machine, Next, ObjectSpace};
 use std::alloc::Global;
+use wasm_types::NoMemory;
 
 /// The operation that an entry of this kind speaks of.
 fn op_for<O: Copy>(next: Next<O>, kind: Kind) -> Option<O>
@@ -121,6 +125,17 @@ fn turn_by_next<M: Machine<S>, S: ObjectSpace, L: ReadLog>(
     }
 }
 
+/// What a turn of a thread does that stands so and has no steps left.
+fn turn_at_end(end: End, stands: End) -> Turn
+    ensures { result ≡ cond (same_end end stands) turn.Done (turn.Refused refusal.Diverged) }
+{
+    if end == stands {
+        Turn::Done
+    } else {
+        Turn::Refused(Refusal::Diverged)
+    }
+}
+
 /// What a turn of a thread does.
 pub fn turn_of<M: Machine<S>, S: ObjectSpace, L: ReadLog>(
     alloc: Global,
@@ -136,28 +151,27 @@ pub fn turn_of<M: Machine<S>, S: ObjectSpace, L: ReadLog>(
     let Some(places) = world.places(thread) else {
         return Turn::Done;
     };
-    let Some(next) = world.next(thread) else {
-        return Turn::Done;
-    };
-    let Some(outcome) = world.outcome(thread) else {
-        return Turn::Done;
-    };
     match log.end(thread) {
         None => Turn::Refused(Refusal::Missing),
         Some(Flat::Clash) => Turn::Refused(Refusal::Clash),
         Some(Flat::Known(end)) => {
             if steps < end.steps {
+                let Some(next) = world.next(thread) else {
+                    return Turn::Done;
+                };
                 turn_by_next(alloc, world, log, thread, places, end.places, next)
-            } else if end
-                == (End {
-                    steps,
-                    places,
-                    outcome,
-                })
-            {
-                Turn::Done
             } else {
-                Turn::Refused(Refusal::Diverged)
+                let Some(outcome) = world.outcome(thread) else {
+                    return Turn::Done;
+                };
+                turn_at_end(
+                    end,
+                    End {
+                        steps,
+                        places,
+                        outcome,
+                    },
+                )
             }
         }
     }
@@ -191,11 +205,11 @@ pub(crate) fn take_turn<M: Machine<S>, S: ObjectSpace, L: ReadLog>(
 {
     match turn_of(alloc, world, log, thread) {
         Turn::Done => Ok(Turned::Done),
-        Turn::Local => match world.step(Pick {
+        Turn::Local => match world.local(Pick {
             thread,
             input: Input::Go,
         }) {
-            Ok(_) => Ok(Turned::Local),
+            Ok(()) => Ok(Turned::Local),
             Err(_) => Err(ReplayFault::NoMemory),
         },
         Turn::Event(input) => match world.step(Pick { thread, input }) {
@@ -203,6 +217,45 @@ pub(crate) fn take_turn<M: Machine<S>, S: ObjectSpace, L: ReadLog>(
             Err(_) => Err(ReplayFault::NoMemory),
         },
         Turn::Refused(refusal) => Err(fault_at(world, thread, refusal)),
+    }
+}
+
+/// Makes the local step of a thread's turn, where the turn is that, and answers whether it did. It asks the thread alone,
+/// which has made fewer steps than its logged end has.
+pub(crate) fn take_local<M: Machine<S>, S: ObjectSpace, L: ReadLog>(
+    world: &mut World<M, S>,
+    log: &L,
+    thread: u32,
+) -> Result<bool, NoMemory>
+    requires { HasStepsLeft M.code (L.log log.now) (world_of world.old) thread }
+    ensures made { IfOk result (λ made. made ≡ is_local (turn_of S.meaning M.code (L.log log.now) (world_of world.old) thread)) }
+    ensures world { IfOk result (λ made. world_of world.new ≡ cond made (world_after_turn S.meaning M.code (world_of world.old) thread turn.Local) (world_of world.old)) }
+    ensures unchanged { OnErr result (world_of world.new ≡ world_of world.old) }
+{
+    let pick = Pick {
+        thread,
+        input: Input::Go,
+    };
+    match world.step_of(pick) {
+        PickStep::Local => match world.local(pick) {
+            Ok(()) => Ok(true),
+            Err(error) => Err(error),
+        },
+        PickStep::Event(_) | PickStep::Refused(_) => Ok(false),
+    }
+}
+
+/// How many steps a thread has left to its logged end, where that is known.
+pub(crate) fn steps_left<M: Machine<S>, S: ObjectSpace, L: ReadLog>(
+    world: &World<M, S>,
+    log: &L,
+    thread: u32,
+) -> u32
+    ensures { result ≡ steps_left_of M.code ((L.log log.now).end thread) (slice_get (world_of world.now).threads thread) }
+{
+    match (log.end(thread), world.steps(thread)) {
+        (Some(Flat::Known(end)), Some(steps)) => end.steps.saturating_sub(steps),
+        _ => 0,
     }
 }
 
