@@ -7,3 +7,4 @@ pub mod Recorded
 pub mod LocalRounds
 pub mod RoundsOn
 pub mod OneStop
+pub mod FreeSteps

@@ -5,3 +5,4 @@ pub mod Stops
 pub mod Rounds
 pub mod Clear
 pub mod OneStop
+pub mod Free

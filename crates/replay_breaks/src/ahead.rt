@@ -16,13 +16,17 @@ const FEWEST: u32 = 16;
 
 const MOST: u32 = 1_048_576;
 
+/// The most rounds that are made turn by turn between two tries.
+const LONGEST: u32 = 4096;
+
 /// How many rounds of local steps are tried at once, and how many rounds are first made turn by turn. Where all that were
-/// tried could be made, twice as many are next; where hardly any could, none are tried for a while, so that threads that
-/// make many events are not copied at each. Only speed depends on it.
+/// tried could be made, twice as many are next; where hardly any could, none are tried for a while, and for twice as long
+/// each time, so that threads that make many events are seldom copied. Only speed depends on it.
 #[derive(Clone, Copy, Debug, PartialEq, Eq)]
 pub(crate) struct Pace {
     tries: u32,
     pause: u32,
+    next_pause: u32,
 }
 
 impl Pace {
@@ -31,6 +35,7 @@ impl Pace {
         Pace {
             tries: FEWEST,
             pause: 0,
+            next_pause: FEWEST,
         }
     }
 
@@ -47,17 +52,20 @@ impl Pace {
         } else if made < FEWEST {
             Pace {
                 tries: FEWEST,
-                pause: FEWEST,
+                pause: self.next_pause,
+                next_pause: self.next_pause.saturating_mul(2).min(LONGEST),
             }
         } else if made < self.tries {
             Pace {
                 tries: made,
                 pause: 0,
+                next_pause: FEWEST,
             }
         } else {
             Pace {
                 tries: self.tries.saturating_mul(2).min(MOST),
                 pause: 0,
+                next_pause: FEWEST,
             }
         }
     }

@@ -3,6 +3,7 @@
 
 mod ahead;
 mod breaks;
+mod free;
 mod laws;
 mod marks;
 mod running;

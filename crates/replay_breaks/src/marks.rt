@@ -7,7 +7,7 @@ ghost use Rattle.replay_breaks.specs.Marks.{marks_of_step, is_any_rewritten, Are
 
 use crate::breaks::ObjectRange;
 use event_core::{Input, Pick, PickStep, World};
-use rw_objects::{Few, Machine, ObjectSpace, Versions};
+use rw_objects::{Few, Machine, Next, ObjectSpace, Versions};
 use std::alloc::Global;
 
 /// An object, and its version.
@@ -44,7 +44,7 @@ fn marks_of_pick<M: Machine<S>, S: ObjectSpace>(
     marks
 }
 
-/// The objects that a thread's next event may touch, with their versions.
+/// The objects that a thread's next event may touch, with their versions; none where its next step is local.
 pub(crate) fn marks_of<M: Machine<S>, S: ObjectSpace>(
     alloc: Global,
     world: &World<M, S>,
@@ -52,6 +52,11 @@ pub(crate) fn marks_of<M: Machine<S>, S: ObjectSpace>(
 ) -> Marks
     ensures { AreMarks S.meaning M.code (world_of world.now) thread result }
 {
+    if let Some(Next::Local) = world.next(thread) {
+        let goes = Few::new(alloc);
+        let times_out = Few::new(alloc);
+        return Marks { goes, times_out };
+    }
     let goes = marks_of_pick(
         alloc,
         world,

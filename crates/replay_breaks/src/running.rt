@@ -1,14 +1,16 @@
 //! Replay up to a break.
 
-ghost use Rattle.std.specs.Prelude.{◌≡◌, ◌||◌, None, IfSome, IfOk, IfErr};
+ghost use Rattle.std.specs.Prelude.{◌≡◌, ◌<◌, ◌||◌, None, IfSome, IfOk, IfErr};
 ghost use Rattle.event_core.specs.World.{world_of};
 ghost use Rattle.replay_laws.specs.Turns.{turn_of, world_after_turn};
 ghost use Rattle.replay_breaks.specs.Tests.{holds_by, IsFirst, HoldsNone};
 ghost use Rattle.replay_breaks.specs.Breaks.{NoneHits};
+ghost use Rattle.replay_breaks.specs.Free.{AreFree};
 ghost use Rattle.replay_breaks.specs.Stops.{GoesOn, taken_of, is_step, is_held, is_passed_over, is_done, TurnStopsAt, StopsAt, StopsRight, StopsFree};
 
 use crate::ahead::{Pace, go_ahead};
 use crate::breaks::{Break, Stopped};
+use crate::free::{free_steps, goes_freely};
 use crate::marks::{Marks, marks_of};
 use event_core::World;
 use replay_gate::{OpenWorld, ReadLog, Replay, ReplayFault, Turned};
@@ -147,11 +149,45 @@ fn take_turn<M: Machine<S>, S: ObjectSpace, L: ReadLog, O: OpenWorld<M, S>>(
     }
 }
 
+/// A turn of a thread, and the test of the breaks behind its step. Where a step of it is free, it asks the thread alone
+/// whether it is local, and then makes it: no break holds behind it.
+fn turn_on<M: Machine<S>, S: ObjectSpace, L: ReadLog, O: OpenWorld<M, S>>(
+    alloc: Global,
+    replay: &mut Replay<M, S, L, O>,
+    thread: u32,
+    breaks: &[Break],
+    free: &mut [u32; 16],
+) -> Result<Taken, Stopped>
+    requires few { thread < 16 }
+    requires free { AreFree M.code (L.log replay.old.log) (world_of replay.old.world) breaks.now free.old }
+    ensures log { replay.new.log ≡ replay.old.log }
+    ensures opens { replay.new.opens ≡ replay.old.opens }
+    ensures taken { IfOk result (λ taken. taken ≡ taken_of (turn_of S.meaning M.code (L.log replay.old.log) (world_of replay.old.world) thread)) }
+    ensures on { IfOk result (λ taken. GoesOn (turn_of S.meaning M.code (L.log replay.old.log) (world_of replay.old.world) thread)) }
+    ensures none { IfOk result (λ taken. NoneHits S.meaning M.code (L.log replay.old.log) (world_of replay.old.world) thread breaks.now) }
+    ensures world { IfOk result (λ taken. world_of replay.new.world ≡ world_after_turn S.meaning M.code (world_of replay.old.world) thread (turn_of S.meaning M.code (L.log replay.old.log) (world_of replay.old.world) thread)) }
+    ensures free { IfOk result (λ taken. AreFree M.code (L.log replay.old.log) (world_of replay.new.world) breaks.now free.new) }
+    ensures stops { IfErr result (TurnStopsAt S.meaning M.code (L.log replay.old.log) (world_of replay.old.world) thread breaks.now (world_of replay.new.world)) }
+{
+    match goes_freely(replay, thread, breaks, free) {
+        Err(_) => Err(Stopped::Fault(ReplayFault::NoMemory)),
+        Ok(true) => Ok(Taken::Step),
+        Ok(false) => match take_turn(alloc, replay, thread, breaks) {
+            Err(stopped) => Err(stopped),
+            Ok(taken) => {
+                free[thread as usize] = free_steps(replay, thread, breaks);
+                Ok(taken)
+            }
+        },
+    }
+}
+
 /// Takes turns of a replay up to a break: a turn for each thread of the order, then rounds of threads 0, 1, .., until a
 /// break holds behind a turn that made a step, no thread has a step any more, or a turn is refused for divergence or want
-/// of memory. Rounds of local steps, behind which no break can hold, are made many at a time. Threads that are done, that the log does not let pass, or of which it does not know are passed over. The
-/// replay can go on from there. On a log below that of a run no thread diverges; on the whole log of a run it is never
-/// stuck.
+/// of memory. Rounds of local steps, behind which no break can hold, are made many at a time; in the others a local step
+/// is free where its thread has steps left to its logged end and no break at its steps comes with it. Threads that are
+/// done, that the log does not let pass, or of which it does not know are passed over. The replay can go on from there. On
+/// a log below that of a run no thread diverges; on the whole log of a run it is never stuck.
 pub fn run_to<M: Machine<S> + Drop, S: ObjectSpace, L: ReadLog, O: OpenWorld<M, S>>(
     alloc: Global,
     replay: &mut Replay<M, S, L, O>,
@@ -175,9 +211,10 @@ pub fn run_to<M: Machine<S> + Drop, S: ObjectSpace, L: ReadLog, O: OpenWorld<M, 
     let mut made = false;
     let mut held = false;
     let mut pace = Pace::new();
+    let mut free = [0u32; 16];
     while made || next < count {
         if next < count {
-            match take_turn(alloc, replay, next, breaks) {
+            match turn_on(alloc, replay, next, breaks, &mut free) {
                 Ok(taken) => {
                     made = either(made, taken.is_step());
                     held = either(held, taken.is_held());
@@ -187,6 +224,7 @@ pub fn run_to<M: Machine<S> + Drop, S: ObjectSpace, L: ReadLog, O: OpenWorld<M, 
             next += 1;
         } else {
             pace = pace.behind(go_ahead(alloc, replay, breaks, pace.tries()));
+            free = [0; 16];
             next = 0;
             made = false;
             held = false;

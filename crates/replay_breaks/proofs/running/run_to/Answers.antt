@@ -7,10 +7,12 @@ use Rattle.replay_laws.specs.Turns.{turn_of, world_after_turn}
 use Rattle.replay_gate.proofs.Rounds.{thread_in_order, turn_grows, turn_keeps, least}
 use Rattle.replay_breaks.specs.Breaks.{NoneHits}
 use Rattle.replay_breaks.specs.Stops.{GoesOn, taken_of, is_step, TurnStopsAt, IsBehind}
+use Rattle.replay_breaks.specs.Free.{AreFree}
 use Rattle.replay_breaks.specs.Rounds.{IsInRound}
 use Rattle.replay_breaks.specs.declared.breaks.Stopped.TheVariants as stopped
 use Rattle.replay_breaks.proofs.Rounds.{steps_taken, at_length, turn_on, in_turn, round_start, round_again, of_round, round_on, ends_so, sticks_so}
 use Rattle.replay_gate.specs.LocalRounds.{RoundsLead}
+use Rattle.replay_breaks.proofs.FreeSteps.{all_none_free}
 use Rattle.replay_breaks.proofs.RoundsOn.{steps_kept, rounds_on}
 use Rattle.replay_breaks.proofs.Recorded.{stops_right, stops_free}
 use Rattle.replay_breaks.proofs.running.run_to.Goals as goal
@@ -67,27 +69,28 @@ loop-made-init g c =
     record {
       round = round_start space code log start order breaks w (subst (λ k. IsBehind space code log start order breaks k w) end inv.behind);
       count = c.count-count.ensures.count ∙ ap (λ x. length (world_of x).threads) c.world.ensures.same ∙ at_length space code log start order breaks c.loop-thread.thread-index w inv.behind;
+      free = all_none_free code log breaks w 16;
       log = inv.log;
       opens = inv.opens;
     }
 
-pub returns-in-Err-take_turn-clause-stops : goal.returns-in-Err-take_turn-clause-stops
-returns-in-Err-take_turn-clause-stops g c =
+pub returns-in-Err-turn_on-clause-stops : goal.returns-in-Err-turn_on-clause-stops
+returns-in-Err-turn_on-clause-stops g c =
     let space = g.S.ObjectSpace.meaning in
     let code = g.M.Machine.code in
     let log = g.L.ReadLog.log c.args.replay.now.log in
     let start = world_of c.args.replay.now.world in
     let w = world_of c.loop-made.replay.world in
-    let v = world_of c.take_turn-then-next-count-2.new.replay.world in
+    let v = world_of c.turn_on.new.replay.world in
     let order = c.args.order.now in
     let breaks = c.args.breaks.now in
     let inv = c.loop-made.invariant in
     let r = inv.round in
     let t = c.loop-made.next in
     let within : t < length start.threads = let l = c.if-next-count-2.true in let n = inv.count in omega (arith, l, n) in
-    in_turn space code log start order breaks (length order + (r.rounds * length start.threads + t)) t w v c.in-Err-take_turn.stopped r.turn
+    in_turn space code log start order breaks (length order + (r.rounds * length start.threads + t)) t w v c.in-Err-turn_on.stopped r.turn
     (of_round space code log start order breaks t c.loop-made.made c.loop-made.held w r within)
-    (subst (λ x. TurnStopsAt space code (g.L.ReadLog.log x) w t breaks v c.in-Err-take_turn.stopped) inv.log c.in-Err-take_turn.ensures.stops)
+    (subst (λ x. TurnStopsAt space code (g.L.ReadLog.log x) w t breaks v c.in-Err-turn_on.stopped) inv.log c.in-Err-turn_on.ensures.stops)
 
 pub loop-made-smaller-then-next-count-2 : goal.loop-made-smaller-then-next-count-2
 loop-made-smaller-then-next-count-2 g c =
@@ -98,13 +101,13 @@ loop-made-smaller-then-next-count-2 g c =
     let laws = g.met.S.ObjectSpace.laws in
     let rules' = g.met.M.Machine.laws in
     let w = world_of c.loop-made.replay.world in
-    let v = world_of c.take_turn-then-next-count-2.new.replay.world in
+    let v = world_of c.turn_on.new.replay.world in
     let t = c.loop-made.next in
-    let is = c.is_step.ensures ∙ ap is_step c.in-Ok-take_turn.ensures.taken ∙ steps_taken (turn_of space code log w t) in
-    let after = c.in-Ok-take_turn.ensures.world in
+    let is = c.is_step.ensures ∙ ap is_step c.in-Ok-turn_on.ensures.taken ∙ steps_taken (turn_of space code log w t) in
+    let after = c.in-Ok-turn_on.ensures.world in
     rw c.either-made.ensures
     (least c.loop-made.made c.is_step.result c.count-count.result t (all_steps code w.threads) (all_steps code v.threads) c.if-next-count-2.true
-    (steps_most space code v.threads v.memory c.take_turn-then-next-count-2.new.replay.world.sound)
+    (steps_most space code v.threads v.memory c.turn_on.new.replay.world.sound)
     (λ h. turn_grows space code laws rules' log limits w v t c.loop-made.replay.world.sound (sym is ∙ h) after)
     (λ h. turn_keeps space code laws rules' log limits w v t (sym is ∙ h) after))
 
@@ -115,28 +118,29 @@ loop-made-preserved-then-next-count-2 g c =
     let log = g.L.ReadLog.log c.args.replay.now.log in
     let start = world_of c.args.replay.now.world in
     let w = world_of c.loop-made.replay.world in
-    let v = world_of c.take_turn-then-next-count-2.new.replay.world in
+    let v = world_of c.turn_on.new.replay.world in
     let order = c.args.order.now in
     let breaks = c.args.breaks.now in
     let inv = c.loop-made.invariant in
     let made = c.loop-made.made in
     let held = c.loop-made.held in
-    let x = c.in-Ok-take_turn.taken in
+    let x = c.in-Ok-turn_on.taken in
     let t = c.loop-made.next in
     let within : t < length start.threads = let l = c.if-next-count-2.true in let n = inv.count in omega (arith, l, n) in
     let r = round_on space code log start order breaks t made held x w v inv.round within
-    (subst (λ y. GoesOn (turn_of space code (g.L.ReadLog.log y) w t)) inv.log c.in-Ok-take_turn.ensures.on)
-    (subst (λ y. NoneHits space code (g.L.ReadLog.log y) w t breaks) inv.log c.in-Ok-take_turn.ensures.none)
-    (subst (λ y. x ≡ taken_of (turn_of space code (g.L.ReadLog.log y) w t)) inv.log c.in-Ok-take_turn.ensures.taken)
-    (subst (λ y. v ≡ world_after_turn space code w t (turn_of space code (g.L.ReadLog.log y) w t)) inv.log c.in-Ok-take_turn.ensures.world) in
+    (subst (λ y. GoesOn (turn_of space code (g.L.ReadLog.log y) w t)) inv.log c.in-Ok-turn_on.ensures.on)
+    (subst (λ y. NoneHits space code (g.L.ReadLog.log y) w t breaks) inv.log c.in-Ok-turn_on.ensures.none)
+    (subst (λ y. x ≡ taken_of (turn_of space code (g.L.ReadLog.log y) w t)) inv.log c.in-Ok-turn_on.ensures.taken)
+    (subst (λ y. v ≡ world_after_turn space code w t (turn_of space code (g.L.ReadLog.log y) w t)) inv.log c.in-Ok-turn_on.ensures.world) in
     let steps = c.either-made.ensures ∙ ap (λ b. made || b) c.is_step.ensures in
     let holds = c.either-held.ensures ∙ ap (λ b. held || b) c.is_held.ensures in
     record {
       round = subst (λ b. IsInRound space code log start order breaks (t + 1) b c.either-held.result v) (sym steps)
           (subst (λ b. IsInRound space code log start order breaks (t + 1) (made || is_step x) b v) (sym holds) r);
       count = inv.count;
-      log = c.take_turn-then-next-count-2.ensures.log ∙ inv.log;
-      opens = c.take_turn-then-next-count-2.ensures.opens ∙ inv.opens;
+      log = c.turn_on.ensures.log ∙ inv.log;
+      opens = c.turn_on.ensures.opens ∙ inv.opens;
+      free = subst (λ y. AreFree code (g.L.ReadLog.log y) v breaks c.turn_on.new.free) (inv.log) c.in-Ok-turn_on.ensures.free;
     }
 
 pub loop-made-smaller : goal.loop-made-smaller
@@ -164,6 +168,7 @@ loop-made-preserved g c =
       round = rounds_on space code g.met.M.Machine.laws log start order breaks c.go_ahead.result w v
           (subst (λ r. RoundsLead space code (g.L.ReadLog.log r) c.go_ahead.result w v) inv.log c.go_ahead.ensures.rounds) c.go_ahead.ensures.clear begun;
       count = inv.count;
+      free = all_none_free code log breaks v 16;
       log = c.go_ahead.ensures.log ∙ inv.log;
       opens = c.go_ahead.ensures.opens ∙ inv.opens;
     }
@@ -206,17 +211,17 @@ returns-in-Err-clause-free g c =
     stops_free g.S.ObjectSpace.meaning g.M.Machine.code g.met.S.ObjectSpace.laws g.met.M.Machine.laws (g.L.ReadLog.log c.args.replay.now.log) (g.L.ReadLog.log r.log) (g.O.OpenWorld.opened c.args.replay.now.opens) (g.O.OpenWorld.opened r.opens)
     (world_of c.args.replay.now.world) (world_of r.world) c.args.order.now c.args.breaks.now (ap g.L.ReadLog.log (c.take_turn.ensures.log ∙ c.loop-thread.invariant.log)) (ap g.O.OpenWorld.opened (c.take_turn.ensures.opens ∙ c.loop-thread.invariant.opens)) r.opening r.leads (g.met.L.ReadLog.limits c.args.replay.now.log) c.in-Err.stopped (returns-in-Err-clause-stops g c)
 
-pub returns-in-Err-take_turn-clause-right : goal.returns-in-Err-take_turn-clause-right
-returns-in-Err-take_turn-clause-right g c =
-    let r = c.take_turn-then-next-count-2.new.replay in
+pub returns-in-Err-turn_on-clause-right : goal.returns-in-Err-turn_on-clause-right
+returns-in-Err-turn_on-clause-right g c =
+    let r = c.turn_on.new.replay in
     stops_right g.S.ObjectSpace.meaning g.M.Machine.code g.met.S.ObjectSpace.laws g.met.M.Machine.laws (g.L.ReadLog.log c.args.replay.now.log) (g.L.ReadLog.log r.log) (g.O.OpenWorld.opened c.args.replay.now.opens) (g.O.OpenWorld.opened r.opens)
-    (world_of c.args.replay.now.world) (world_of r.world) c.args.order.now c.args.breaks.now (ap g.L.ReadLog.log (c.take_turn-then-next-count-2.ensures.log ∙ c.loop-made.invariant.log)) (ap g.O.OpenWorld.opened (c.take_turn-then-next-count-2.ensures.opens ∙ c.loop-made.invariant.opens)) r.opening r.leads c.in-Err-take_turn.stopped (returns-in-Err-take_turn-clause-stops g c)
+    (world_of c.args.replay.now.world) (world_of r.world) c.args.order.now c.args.breaks.now (ap g.L.ReadLog.log (c.turn_on.ensures.log ∙ c.loop-made.invariant.log)) (ap g.O.OpenWorld.opened (c.turn_on.ensures.opens ∙ c.loop-made.invariant.opens)) r.opening r.leads c.in-Err-turn_on.stopped (returns-in-Err-turn_on-clause-stops g c)
 
-pub returns-in-Err-take_turn-clause-free : goal.returns-in-Err-take_turn-clause-free
-returns-in-Err-take_turn-clause-free g c =
-    let r = c.take_turn-then-next-count-2.new.replay in
+pub returns-in-Err-turn_on-clause-free : goal.returns-in-Err-turn_on-clause-free
+returns-in-Err-turn_on-clause-free g c =
+    let r = c.turn_on.new.replay in
     stops_free g.S.ObjectSpace.meaning g.M.Machine.code g.met.S.ObjectSpace.laws g.met.M.Machine.laws (g.L.ReadLog.log c.args.replay.now.log) (g.L.ReadLog.log r.log) (g.O.OpenWorld.opened c.args.replay.now.opens) (g.O.OpenWorld.opened r.opens)
-    (world_of c.args.replay.now.world) (world_of r.world) c.args.order.now c.args.breaks.now (ap g.L.ReadLog.log (c.take_turn-then-next-count-2.ensures.log ∙ c.loop-made.invariant.log)) (ap g.O.OpenWorld.opened (c.take_turn-then-next-count-2.ensures.opens ∙ c.loop-made.invariant.opens)) r.opening r.leads (g.met.L.ReadLog.limits c.args.replay.now.log) c.in-Err-take_turn.stopped (returns-in-Err-take_turn-clause-stops g c)
+    (world_of c.args.replay.now.world) (world_of r.world) c.args.order.now c.args.breaks.now (ap g.L.ReadLog.log (c.turn_on.ensures.log ∙ c.loop-made.invariant.log)) (ap g.O.OpenWorld.opened (c.turn_on.ensures.opens ∙ c.loop-made.invariant.opens)) r.opening r.leads (g.met.L.ReadLog.limits c.args.replay.now.log) c.in-Err-turn_on.stopped (returns-in-Err-turn_on-clause-stops g c)
 
 pub returns-then-held-clause-right : goal.returns-then-held-clause-right
 returns-then-held-clause-right g c =

@@ -3,6 +3,7 @@ use Rattle.std.proofs.Common.{◌≡◌, ◌+◌, ◌-◌, ◌*◌, cond, length
 use Rattle.event_core.specs.Threads.{all_steps}
 use Rattle.event_core.specs.World.{world_of}
 use Rattle.replay_breaks.specs.Stops.{IsBehind}
+use Rattle.replay_breaks.specs.Free.{AreFree}
 use Rattle.replay_breaks.specs.Rounds.{IsInRound}
 use Rattle.replay_breaks.proofs.running.run_to.Given as goal
 
@@ -17,6 +18,7 @@ abbrev pub invariant-loop-made : goal.invariant-loop-made
 invariant-loop-made g l = record {
   round : IsInRound g.S.ObjectSpace.meaning g.M.Machine.code (g.L.ReadLog.log l.fn.replay.log) (world_of l.fn.replay.world) l.order l.breaks l.next l.made l.held (world_of l.replay.world);
   count : l.count ≡ length (world_of l.fn.replay.world).threads;
+  free : AreFree g.M.Machine.code (g.L.ReadLog.log l.fn.replay.log) (world_of l.replay.world) l.breaks l.free;
   log : l.replay.log ≡ l.fn.replay.log;
   opens : l.replay.opens ≡ l.fn.replay.opens;
 }

@@ -1,0 +1,32 @@
+use Rattle.std.proofs.Common.{◌≡◌, ◌∙◌, subst, arith}
+use Rattle.event_core.specs.World.{world_of}
+use Rattle.replay_laws.specs.Turns.{turn_of, world_after_turn}
+use Rattle.replay_breaks.specs.Breaks.{NoneHits}
+use Rattle.replay_breaks.specs.Free.{IsFree, GoesFreely}
+use Rattle.replay_breaks.proofs.FreeSteps.{turned_free}
+use Rattle.replay_breaks.proofs.running.turn_on.Goals as goal
+
+pub returns-in-Ok-clause-none : goal.returns-in-Ok-clause-none
+returns-in-Ok-clause-none g c =
+    let space = g.S.ObjectSpace.meaning in
+    let code = g.M.Machine.code in
+    let log = g.L.ReadLog.log c.args.replay.now.log in
+    let breaks = c.args.breaks.now in
+    let t = c.args.thread in
+    let u = world_of c.goes_freely.new.replay.world in
+    let same : u ≡ world_of c.args.replay.now.world = subst (λ b. GoesFreely space code log breaks t (world_of c.args.replay.now.world) b u) c.in-Ok-false.field-0-test c.in-Ok-false.ensures.goes in
+    subst (λ x. NoneHits space code log x t breaks) same (subst (λ y. NoneHits space code (g.L.ReadLog.log y) u t breaks) c.goes_freely.ensures.log c.in-Ok.ensures.none)
+
+pub returns-in-Ok-clause-free : goal.returns-in-Ok-clause-free
+returns-in-Ok-clause-free g c =
+    let space = g.S.ObjectSpace.meaning in
+    let code = g.M.Machine.code in
+    let log = g.L.ReadLog.log c.args.replay.now.log in
+    let breaks = c.args.breaks.now in
+    let t = c.args.thread in
+    let u = world_of c.goes_freely.new.replay.world in
+    let v = world_of c.take_turn.new.replay.world in
+    turned_free space code log breaks u v t c.free_steps.result c.goes_freely.new.free c.in-Ok-false.ensures.free
+    (subst (λ y. IsFree code (g.L.ReadLog.log y) v breaks t c.free_steps.result) (c.take_turn.ensures.log ∙ c.goes_freely.ensures.log) c.free_steps.ensures)
+    (subst (λ y. v ≡ world_after_turn space code u t (turn_of space code (g.L.ReadLog.log y) u t)) c.goes_freely.ensures.log c.in-Ok.ensures.world)
+    (let e = c.goes_freely.array_long in let f = c.requires.few in omega (arith, e, f))
