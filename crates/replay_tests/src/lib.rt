@@ -12,3 +12,5 @@ mod recordings;
 mod refused;
 #[cfg(test)]
 mod replays;
+#[cfg(test)]
+mod turns;
