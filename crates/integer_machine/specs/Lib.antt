@@ -6,4 +6,3 @@ pub mod Sound
 pub mod Trying
 pub mod Alone
 pub mod Standing
-pub mod Here
