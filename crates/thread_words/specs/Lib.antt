@@ -5,3 +5,4 @@ pub mod Leaving
 pub mod Calling
 pub mod Accesses
 pub mod Copies
+pub mod Apart

@@ -1,11 +1,12 @@
 //! Branches.
 
-ghost use Rattle.std.specs.Prelude.{◌≡◌, ℕ, ◌+◌, ◌<◌, ◌^◌, List, Some, true, slice_get};
+ghost use Rattle.std.specs.Prelude.{◌≡◌, ℕ, ◌+◌, ◌-◌, ◌<◌, ◌≤◌, ◌^◌, List, Some, true, false, length, slice_get, vec_capacity};
 ghost use Rattle.wasm_types.specs.declared.instruction.Instr.TheVariants.{Index, BranchTable};
 ghost use Rattle.wasm_types.specs.declared.instruction.IndexOp.TheVariants.{Branch, BranchIf};
 ghost use Rattle.validator.specs.Context.{labels_in};
 ghost use Rattle.thread_step.specs.Step.{chosen_label};
 ghost use Rattle.thread_step.specs.Thread.{Function, function_at};
+ghost use Rattle.thread_words.specs.Apart.{IsInner, CanLandInside, LandsInside};
 ghost use Rattle.thread_words.specs.Fields.{Keeps, IsHeight};
 ghost use Rattle.thread_words.specs.Leaving.{CanBranch, Branches, CanLand, Lands, CanLandAt, LandsAt, HasTable};
 ghost use Rattle.thread_words.specs.Moves.{CanStepIn, StepsIn};
@@ -13,7 +14,7 @@ ghost use Rattle.thread_words.specs.Moves.{CanStepIn, StepsIn};
 use crate::functions::{behind_end, body_of_function, instruction_at};
 use crate::leaving::leave;
 use crate::operands::{cut, drop_top, i32_operand};
-use crate::stacks::Stacks;
+use crate::stacks::{Label, Stacks};
 use validator::Valid;
 use wasm_types::{BlockKind, Instr, LabelRange, ValType};
 
@@ -65,6 +66,39 @@ fn height_below(words: usize, low: u32) -> usize
     words - above as usize
 }
 
+/// Whether the label at a depth is a block's, and not the function's.
+#[inline(always)]
+pub(crate) fn is_inner(m: &Stacks, depth: u32) -> bool
+    requires { m.now.here.labels ≤ length m.now.labels.items }
+    ensures inner { result ≡ true → IsInner depth m.now }
+    ensures outer { result ≡ false → length m.now.labels.items - m.now.here.labels ≡ depth }
+{
+    m.labels.len() - m.here.labels != depth as usize
+}
+
+/// A branch to a block, on the labels and the words of a function. Answers the place to go on at.
+#[inline(always)]
+pub(crate) fn land_inside(
+    labels: &mut Vec<Label>,
+    words: &mut Vec<u64>,
+    valid: &Valid,
+    function: u32,
+    depth: u32,
+) -> u32
+    requires { CanLandInside valid.now function depth words.old labels.old }
+    ensures lands { LandsInside valid.now function depth words.old labels.old result words.new labels.new }
+    ensures capacity { vec_capacity words.new ≡ vec_capacity words.old }
+    ensures shorter { length words.new.items ≤ length words.old.items }
+{
+    let at = labels.len() - 1 - depth as usize;
+    let label = labels[at];
+    let landing = landing_at(valid, function, label.opener);
+    let height = height_below(words.len(), label.height);
+    cut(words, height, landing.keep);
+    labels.truncate(at + landing.labels);
+    landing.place
+}
+
 /// A branch to the label at a depth, the outermost of which is the function's. Answers whether the same function is
 /// known to go on.
 #[inline(always)]
@@ -73,17 +107,12 @@ fn branch_to(m: &mut Stacks, valid: &Valid, depth: u32) -> bool
     ensures steps { Branches valid.now depth m.old m.new }
     ensures kept { result ≡ true → Keeps m.old m.new }
 {
-    if m.labels.len() - m.here.labels == depth as usize {
+    if !is_inner(m, depth) {
         leave(m, valid);
         return false;
     }
-    let at = m.labels.len() - 1 - depth as usize;
-    let label = m.labels[at];
-    let landing = landing_at(valid, m.here.function, label.opener);
-    let height = height_below(m.words.len(), label.height);
-    cut(&mut m.words, height, landing.keep);
-    m.labels.truncate(at + landing.labels);
-    m.here.place = landing.place;
+    let function = m.here.function;
+    m.here.place = land_inside(&mut m.labels, &mut m.words, valid, function, depth);
     true
 }
 
