@@ -9,6 +9,7 @@ pub mod Variables
 pub mod Bodies
 pub mod Returns
 pub mod Opening
+pub mod Apart
 pub mod Landings
 pub mod Entering
 pub mod Asking

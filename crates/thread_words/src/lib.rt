@@ -3,7 +3,9 @@
 
 mod accesses;
 mod blocks;
+mod blocks_apart;
 mod branches;
+mod branches_apart;
 mod calls;
 mod copying;
 mod functions;
@@ -19,7 +21,9 @@ mod stacks;
 
 pub use accesses::access_of;
 pub use blocks::{block, end, end_first_arm};
+pub use blocks_apart::{choose_apart, close_apart, end_arm_apart, open_apart};
 pub use branches::{branch, branch_if, branch_table};
+pub use branches_apart::{branch_apart, branch_if_apart};
 pub use calls::{call, declared_locals, put_zeros};
 pub use functions::{code_of_function, groups_of_function, instruction_at};
 pub use indirect::call_indirect;

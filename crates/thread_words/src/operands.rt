@@ -4,6 +4,7 @@ ghost use Rattle.std.specs.Prelude.{◌≡◌, ℕ, ◌+◌, ◌-◌, ◌<◌, �
 ghost use Rattle.wasm_types.specs.declared.value.ValType.TheVariants.{I32};
 ghost use Rattle.thread_step.specs.Effect.{operand as operand_bits};
 ghost use Rattle.wasm_types.specs.Values.{bits_of, value_of};
+ghost use Rattle.thread_words.specs.declared.stacks.Stacks.{Stacks};
 ghost use Rattle.thread_words.specs.Accesses.{Holds, HasOperands};
 ghost use Rattle.thread_words.specs.Fields.{Puts, one_if, HasOperand, IsOperand};
 ghost use Rattle.thread_words.specs.Moves.{Unchanged, HasWordLeft};
@@ -131,6 +132,15 @@ pub(crate) fn i32_operand(m: &Stacks, depth: usize) -> u32
     ensures { IsOperand I32 depth m.now (Value.I32 result) }
 {
     operand(&m.words, depth) as u32
+}
+
+/// The bits of an i32 operand that is on top of these words.
+#[inline(always)]
+pub(crate) fn i32_on_top(words: &[u64]) -> u32
+    requires { (m : Stacks) × (words.now ≡ m.words.items) × HasOperand I32 0 m }
+    ensures { (m : Stacks) → words.now ≡ m.words.items → IsOperand I32 0 m (Value.I32 result) }
+{
+    operand(words, 0) as u32
 }
 
 /// The bits of the operand of an access that has one, an i32.
