@@ -1,15 +1,12 @@
-use Rattle.std.proofs.Common.{◌≡◌, ◌∙◌, ◌+◌, suc, add-one, sym, ap, subst, rules, length, Some}
+use Rattle.std.proofs.Common.{◌≡◌, ◌∙◌, ◌+◌, sym, subst, rules, length}
 use Rattle.std.proofs.Math.Facts.{Fits-of_lt}
 use Rattle.wasm_types.specs.declared.instruction.Instr.TheVariants as instr
 use Rattle.wasm_types.specs.declared.instruction.Plain.TheVariants.{End}
-use Rattle.thread_step.specs.Activation.{at_place}
-use Rattle.thread_step.specs.Step.{Stays}
 use Rattle.thread_step.specs.Thread.{Local}
-use Rattle.thread_words.specs.declared.stacks.Level.{Level}
 use Rattle.thread_words.specs.Words.{Stands}
-use Rattle.thread_words.specs.Fields.{Closes}
 use Rattle.thread_words.proofs.Here.{acts_here, next_fits}
-use Rattle.thread_words.proofs.Opening.{ends_function, ends_block}
+use Rattle.thread_words.proofs.Apart.{end_closes}
+use Rattle.thread_words.proofs.Opening.{ends_function}
 use Rattle.thread_words.proofs.blocks.end.Goals as goal
 
 pub leave-requires : goal.leave-requires
@@ -34,6 +31,4 @@ returns-then-len-m-clause-steps c = λ instance s after k.
 pub returns-clause-steps : goal.returns-clause-steps
 returns-clause-steps c = λ instance s after k.
     let size : c.len.result ≡ length c.args.m.now.labels.items = search rules in
-    let a = acts_here c.args.valid.now instance (instr.Plain End) s (Local after) c.args.m.now k in
-    ends_block c.args.valid.now instance (instr.Plain End) s after c.args.m.now c.close.new.m a.next (λ ls. Some (Stays (at_place (suc s.top.activation.place) s.top.activation.stack ls s.top.activation))) (suc s.top.activation.place) k a.acts a.moves (λ z. c.if-len-m.false (size ∙ z)) (λ ls e. e)
-    (subst (λ x. Closes x c.args.m.now c.close.new.m) (ap (λ (y : Level). y.place + 1) k.lies.here ∙ add-one s.top.activation.place) c.close.ensures)
+    end_closes c.args.valid.now instance s after c.args.m.now c.close.new.m k (λ z. c.if-len-m.false (size ∙ z)) c.close.ensures

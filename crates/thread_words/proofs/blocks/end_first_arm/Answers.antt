@@ -1,14 +1,11 @@
-use Rattle.std.proofs.Common.{◌≡◌, ◌∙◌, suc, sym, subst, rules, length, Some}
+use Rattle.std.proofs.Common.{◌≡◌, ◌∙◌, sym, subst, rules, length}
 use Rattle.wasm_types.specs.declared.instruction.Instr.TheVariants as instr
 use Rattle.wasm_types.specs.declared.instruction.Plain.TheVariants.{Else}
-use Rattle.thread_step.specs.Activation.{at_place}
-use Rattle.thread_step.specs.Step.{Stays, found}
 use Rattle.thread_step.specs.Thread.{Local}
-use Rattle.control_flow.specs.Targets.{end_from}
 use Rattle.thread_words.specs.Words.{Stands}
-use Rattle.thread_words.specs.Fields.{Closes}
 use Rattle.thread_words.proofs.Here.{acts_here}
-use Rattle.thread_words.proofs.Opening.{ends_function, ends_block, else_end}
+use Rattle.thread_words.proofs.Apart.{else_closes}
+use Rattle.thread_words.proofs.Opening.{ends_function, else_end}
 use Rattle.thread_words.proofs.blocks.end_first_arm.Goals as goal
 
 pub leave-requires : goal.leave-requires
@@ -36,7 +33,4 @@ returns-then-len-m-clause-steps c = λ instance s after k.
 pub returns-clause-steps : goal.returns-clause-steps
 returns-clause-steps c = λ instance s after k.
     let size : c.len.result ≡ length c.args.m.now.labels.items = search rules in
-    let a = acts_here c.args.valid.now instance (instr.Plain Else) s (Local after) c.args.m.now k in
-    let e = else_end c.args.valid.now instance s (Local after) c.args.m.now k (λ z. c.if-len-m.false (size ∙ z)) in
-    ends_block c.args.valid.now instance (instr.Plain Else) s after c.args.m.now c.close.new.m a.next (λ ls. found (end_from (suc s.top.activation.place) k.is 0) (λ e. Some (Stays (at_place (suc e) s.top.activation.stack ls s.top.activation)))) (suc e.0) k a.acts a.moves (λ z. c.if-len-m.false (size ∙ z)) e.2
-    (subst (λ x. Closes x c.args.m.now c.close.new.m) (c.behind_end-place.ensures e.0 e.1) c.close.ensures)
+    else_closes c.args.valid.now instance s after c.args.m.now c.close.new.m c.behind_end-place.result k (λ z. c.if-len-m.false (size ∙ z)) c.behind_end-place.ensures c.close.ensures
