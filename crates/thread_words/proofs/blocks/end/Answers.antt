@@ -1,4 +1,4 @@
-use Rattle.std.proofs.Common.{◌≡◌, ◌∙◌, ◌+◌, sym, subst, rules, length}
+use Rattle.std.proofs.Common.{◌≡◌, ◌∙◌, sym, subst, rules, length}
 use Rattle.std.proofs.Math.Facts.{Fits-of_lt}
 use Rattle.wasm_types.specs.declared.instruction.Instr.TheVariants as instr
 use Rattle.wasm_types.specs.declared.instruction.Plain.TheVariants.{End}

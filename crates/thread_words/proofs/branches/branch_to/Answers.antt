@@ -1,4 +1,4 @@
-use Rattle.std.proofs.Common.{◌≡◌, ◌+◌, ◌-◌, refl, subst, arith, rules, length}
+use Rattle.std.proofs.Common.{◌≡◌, ◌-◌, refl, subst, arith, rules, length}
 use Rattle.thread_words.specs.Words.{Stands}
 use Rattle.thread_words.proofs.Landings.{depth_is, branch_leaves}
 use Rattle.thread_words.proofs.branches.branch_to.Goals as goal
