@@ -1,6 +1,7 @@
 //! The thread machine.
 #![tactic(auto)]
 
+mod block_moves;
 mod groups;
 mod instance;
 mod laws;
