@@ -58,7 +58,7 @@ module _ {State Op Reply Fixed : Type 0} (code : Code State Op Reply Fixed) {Val
   all_none_free w n t = subst (IsFree code log w breaks t) (sym (same_everywhere n t 0)) (none_free w t)
 
   -- it is told by the thread alone
-  free_same : (w v : WorldAt State Value Fixed') (t n : ℕ) → slice_get v.threads t ≡ slice_get w.threads t → IsFree code log w breaks t n → IsFree code log v breaks t n
+  pub free_same : (w v : WorldAt State Value Fixed') (t n : ℕ) → slice_get v.threads t ≡ slice_get w.threads t → IsFree code log w breaks t n → IsFree code log v breaks t n
   free_same w v t n same f = record {
     within = subst (λ o. n ≤ steps_left_of code (log.end t) o) (sym same) f.within;
     clear = λ th e. f.clear th (sym same ∙ e);

@@ -8,3 +8,4 @@ pub mod LocalRounds
 pub mod RoundsOn
 pub mod OneStop
 pub mod FreeSteps
+pub mod FreeRounds

@@ -41,7 +41,7 @@ use Rattle.replay_breaks.proofs.Rounds.{at_length, turn_on}
 
 -- ---- lists
 
-same_lists : {A : Type 0} (xs ys : List A) → length xs ≡ length ys → ((t : ℕ) (x y : A) → slice_get xs t ≡ Some x → slice_get ys t ≡ Some y → x ≡ y) → xs ≡ ys
+pub same_lists : {A : Type 0} (xs ys : List A) → length xs ≡ length ys → ((t : ℕ) (x y : A) → slice_get xs t ≡ Some x → slice_get ys t ≡ Some y → x ≡ y) → xs ≡ ys
 same_lists [] [] n h = refl
 same_lists [] (y ∷ ys) n h = absurd (omega (arith, n))
 same_lists (x ∷ xs) [] n h = absurd (omega (arith, n))

@@ -4,6 +4,7 @@ ghost use Rattle.std.specs.Prelude.{◌≡◌, ◌≤◌};
 ghost use Rattle.event_core.specs.World.{world_of};
 ghost use Rattle.replay_gate.specs.LocalRounds.{RoundsLead};
 ghost use Rattle.replay_breaks.specs.Clear.{IsClear, AreClear};
+ghost use Rattle.replay_breaks.specs.Free.{AreFree};
 
 use crate::breaks::Break;
 use event_core::World;
@@ -107,18 +108,26 @@ fn clear_of_all<M: Machine<S>, S: ObjectSpace>(
     clear
 }
 
-/// Makes rounds of local steps, up to so many, where no break holds behind them. Answers how many.
+/// Makes rounds of local steps, up to so many, where no break holds behind them. Answers how many. Where there are some, no
+/// step is known to be free behind them.
 pub(crate) fn go_ahead<M: Machine<S> + Drop, S: ObjectSpace, L: ReadLog, O: OpenWorld<M, S>>(
     alloc: Global,
     replay: &mut Replay<M, S, L, O>,
     breaks: &[Break],
     most: u32,
+    free: &mut [u32; 16],
 ) -> u32
+    requires { AreFree M.code (L.log replay.old.log) (world_of replay.old.world) breaks.now free.old }
     ensures log { replay.new.log ≡ replay.old.log }
     ensures opens { replay.new.opens ≡ replay.old.opens }
     ensures rounds { RoundsLead S.meaning M.code (L.log replay.old.log) result (world_of replay.old.world) (world_of replay.new.world) }
     ensures clear { AreClear M.code (world_of replay.old.world) result breaks.now }
+    ensures free { AreFree M.code (L.log replay.old.log) (world_of replay.new.world) breaks.now free.new }
 {
     let clear = clear_of_all(breaks, replay.world(), most);
-    replay.local_rounds(alloc, clear)
+    let made = replay.local_rounds(alloc, clear);
+    if made > 0 {
+        *free = [0; 16];
+    }
+    made
 }

@@ -223,8 +223,7 @@ pub fn run_to<M: Machine<S> + Drop, S: ObjectSpace, L: ReadLog, O: OpenWorld<M, 
             }
             next += 1;
         } else {
-            pace = pace.behind(go_ahead(alloc, replay, breaks, pace.tries()));
-            free = [0; 16];
+            pace = pace.behind(go_ahead(alloc, replay, breaks, pace.tries(), &mut free));
             next = 0;
             made = false;
             held = false;

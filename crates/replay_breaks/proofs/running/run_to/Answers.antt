@@ -168,7 +168,7 @@ loop-made-preserved g c =
       round = rounds_on space code g.met.M.Machine.laws log start order breaks c.go_ahead.result w v
           (subst (λ r. RoundsLead space code (g.L.ReadLog.log r) c.go_ahead.result w v) inv.log c.go_ahead.ensures.rounds) c.go_ahead.ensures.clear begun;
       count = inv.count;
-      free = all_none_free code log breaks v 16;
+      free = subst (λ y. AreFree code (g.L.ReadLog.log y) v breaks c.go_ahead.new.free) inv.log c.go_ahead.ensures.free;
       log = c.go_ahead.ensures.log ∙ inv.log;
       opens = c.go_ahead.ensures.opens ∙ inv.opens;
     }
