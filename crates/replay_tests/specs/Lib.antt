@@ -1,2 +1,1 @@
 pub mod Claimed
-pub mod Resting

@@ -12,5 +12,3 @@ mod recordings;
 mod refused;
 #[cfg(test)]
 mod replays;
-#[cfg(test)]
-mod turns;
