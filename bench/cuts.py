@@ -6,8 +6,8 @@ usage: cuts.py PROGRAM [--count N] [--from SEED]
 Each of N modules (20,000) has a random function over locals, a memory, blocks, loops, branches and calls; its number is the seed that
 makes it. It is recorded up to a random number of steps by three schedules: in one stretch, cut at random places, and step by step, where
 a thread that has ended is picked between two steps. A stretch is made by groups, a single step is made plainly. All three must write
-the same pieces and the same report. It prints how many steps were made and how the threads ended, and ends with status 1 and the seed at
-the first that differ.
+the same pieces and the same report, and so must a replay of the pieces in turns and by threads. It prints up to how many steps were asked
+for and how the threads ended, and ends with status 1 and the number of the module at the first that differ.
 """
 
 import argparse
@@ -22,7 +22,6 @@ I32, I64 = 0x7F, 0x7E
 CONST = {I32: 0x41, I64: 0x42}
 BINARY = {I32: range(0x6A, 0x79), I64: range(0x7C, 0x8B)}
 COMPARE = {I32: range(0x46, 0x50), I64: range(0x51, 0x5B)}
-IS_ZERO = {I32: 0x45, I64: 0x50}
 COUNT_BITS = {I32: range(0x67, 0x6A), I64: range(0x79, 0x7C)}
 SIGNS = {I32: (0xC0, 0xC1), I64: (0xC2, 0xC3, 0xC4)}
 LOADS = {I32: (0x28, 0x2C, 0x2D, 0x2E, 0x2F), I64: (0x29, 0x30, 0x31, 0x32, 0x33, 0x34, 0x35)}
@@ -62,7 +61,6 @@ class Function:
         self.draw = draw
         self.calls = calls
         self.locals = [I32] + [draw.choice((I32, I32, I64)) for _ in range(draw.randint(2, 7))]
-        self.counters = draw.randint(1, 3)
         self.size = draw.randint(5, 60)
 
     def local_of(self, kind):
@@ -134,10 +132,9 @@ class Function:
     def loop(self, labels):
         """A loop that goes round a few times, by a local of its own."""
         at = len(self.locals)
-        self.locals.append(I32)
+        self.locals.append(0)  # no statement finds it
         body = self.statements(labels + 1)
         round_again = b"\x20" + leb(at) + b"\x41\x01\x6b\x22" + leb(at) + b"\x0d\x00"
-        self.locals[at] = 0
         return b"\x41" + signed(self.draw.randint(1, 12)) + b"\x21" + leb(at) + b"\x03\x40" + body + round_again + b"\x0b"
 
     def statements(self, labels):
@@ -192,12 +189,15 @@ def written(folder, name, content):
     return path
 
 
-def recorded(program, folder, files, steps, more):
-    words = [program, "record", *files[:2], "--schedule", files[2], "--steps", str(steps), *more]
+def written_by(words):
     done = subprocess.run(words, capture_output=True, check=False)
     if done.returncode != 0:
         sys.exit(f"{' '.join(words)}: {done.stderr.decode()}")
     return done.stdout
+
+
+def recorded(program, files, steps, more):
+    return written_by([program, "record", *files[:2], "--schedule", files[2], "--steps", str(steps), *more])
 
 
 def main():
@@ -216,9 +216,13 @@ def main():
             answers = []
             for at, text in enumerate(schedules(draw, steps)):
                 files = wasm, plan, written(folder, "schedule", text)
-                answers.append((recorded(asked.program, folder, files, steps, ["--report"]), recorded(asked.program, folder, files, steps, [])))
+                answers.append((recorded(asked.program, files, steps, ["--report"]), recorded(asked.program, files, steps, [])))
             if answers[0] != answers[1] or answers[0] != answers[2]:
                 sys.exit(f"module {seed} up to step {steps}: the runs differ")
+            pieces = written(folder, "pieces", answers[0][1])
+            for more in [], ["--threads"]:
+                if written_by([asked.program, "replay", wasm, plan, pieces, *more]) != answers[0][0]:
+                    sys.exit(f"module {seed} up to step {steps}: the replay {' '.join(more)} differs")
             line = next(it for it in answers[0][0].decode().splitlines() if it.startswith("thread 0"))
             ends[" ".join(line.split()[2:4]) if "trap" in line else line.split()[2]] += 1
             all_steps += steps
