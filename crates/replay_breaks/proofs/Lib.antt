@@ -9,3 +9,4 @@ pub mod RoundsOn
 pub mod OneStop
 pub mod FreeSteps
 pub mod FreeRounds
+pub mod FarThreads

@@ -116,9 +116,12 @@ fn first_that_holds<M: Machine<S>, S: ObjectSpace>(
 fn take_turn<M: Machine<S>, S: ObjectSpace, L: ReadLog, O: OpenWorld<M, S>>(
     alloc: Global,
     replay: &mut Replay<M, S, L, O>,
+    reader: &mut L::Reader,
     thread: u32,
     breaks: &[Break],
 ) -> Result<Taken, Stopped>
+    requires { L.reads replay.old.log reader.old }
+    ensures reads { L.reads replay.new.log reader.new }
     ensures log { replay.new.log ≡ replay.old.log }
     ensures opens { replay.new.opens ≡ replay.old.opens }
     ensures taken { IfOk result (λ taken. taken ≡ taken_of (turn_of S.meaning M.code (L.log replay.old.log) (world_of replay.old.world) thread)) }
@@ -128,7 +131,7 @@ fn take_turn<M: Machine<S>, S: ObjectSpace, L: ReadLog, O: OpenWorld<M, S>>(
     ensures stops { IfErr result (TurnStopsAt S.meaning M.code (L.log replay.old.log) (world_of replay.old.world) thread breaks.now (world_of replay.new.world)) }
 {
     let marks = marks_of(alloc, replay.world(), thread);
-    match replay.turn(alloc, thread) {
+    match replay.turn_by(alloc, reader, thread) {
         Err(fault) => {
             if is_passed_over(fault) {
                 Ok(Taken::Held)
@@ -150,16 +153,18 @@ fn take_turn<M: Machine<S>, S: ObjectSpace, L: ReadLog, O: OpenWorld<M, S>>(
 }
 
 /// A turn of a thread, and the test of the breaks behind its step. Where a step of it is free, it asks the thread alone
-/// whether it is local, and then makes it: no break holds behind it.
+/// whether it is local, and then makes it: no break holds behind it. There is no thread past the sixteenth.
 fn turn_on<M: Machine<S>, S: ObjectSpace, L: ReadLog, O: OpenWorld<M, S>>(
     alloc: Global,
     replay: &mut Replay<M, S, L, O>,
+    reader: &mut L::Reader,
     thread: u32,
     breaks: &[Break],
     free: &mut [u32; 16],
 ) -> Result<Taken, Stopped>
-    requires few { thread < 16 }
+    requires reads { L.reads replay.old.log reader.old }
     requires free { AreFree M.code (L.log replay.old.log) (world_of replay.old.world) breaks.now free.old }
+    ensures reads { L.reads replay.new.log reader.new }
     ensures log { replay.new.log ≡ replay.old.log }
     ensures opens { replay.new.opens ≡ replay.old.opens }
     ensures taken { IfOk result (λ taken. taken ≡ taken_of (turn_of S.meaning M.code (L.log replay.old.log) (world_of replay.old.world) thread)) }
@@ -169,10 +174,13 @@ fn turn_on<M: Machine<S>, S: ObjectSpace, L: ReadLog, O: OpenWorld<M, S>>(
     ensures free { IfOk result (λ taken. AreFree M.code (L.log replay.old.log) (world_of replay.new.world) breaks.now free.new) }
     ensures stops { IfErr result (TurnStopsAt S.meaning M.code (L.log replay.old.log) (world_of replay.old.world) thread breaks.now (world_of replay.new.world)) }
 {
+    if thread >= 16 {
+        return Ok(Taken::Done);
+    }
     match goes_freely(replay, thread, breaks, free) {
         Err(_) => Err(Stopped::Fault(ReplayFault::NoMemory)),
         Ok(true) => Ok(Taken::Step),
-        Ok(false) => match take_turn(alloc, replay, thread, breaks) {
+        Ok(false) => match take_turn(alloc, replay, reader, thread, breaks) {
             Err(stopped) => Err(stopped),
             Ok(taken) => {
                 free[thread as usize] = free_steps(replay, thread, breaks);
@@ -182,26 +190,22 @@ fn turn_on<M: Machine<S>, S: ObjectSpace, L: ReadLog, O: OpenWorld<M, S>>(
     }
 }
 
-/// Takes turns of a replay up to a break: a turn for each thread of the order, then rounds of threads 0, 1, .., until a
-/// break holds behind a turn that made a step, no thread has a step any more, or a turn is refused for divergence or want
-/// of memory. Rounds of local steps, behind which no break can hold, are made many at a time; in the others a local step
-/// is free where its thread has steps left to its logged end and no break at its steps comes with it. Threads that are
-/// done, that the log does not let pass, or of which it does not know are passed over. The replay can go on from there. On
-/// a log below that of a run no thread diverges; on the whole log of a run it is never stuck.
-pub fn run_to<M: Machine<S> + Drop, S: ObjectSpace, L: ReadLog, O: OpenWorld<M, S>>(
+/// As `run_to`; the reader goes forward through the log.
+fn run_by<M: Machine<S> + Drop, S: ObjectSpace, L: ReadLog, O: OpenWorld<M, S>>(
     alloc: Global,
     replay: &mut Replay<M, S, L, O>,
+    reader: &mut L::Reader,
     order: &[u32],
     breaks: &[Break],
 ) -> Stopped
+    requires { L.reads replay.old.log reader.old }
     ensures log { replay.new.log ≡ replay.old.log }
     ensures opens { replay.new.opens ≡ replay.old.opens }
     ensures stops { StopsAt S.meaning M.code (L.log replay.old.log) (world_of replay.old.world) order.now breaks.now (world_of replay.new.world) result }
-    ensures right { StopsRight S.meaning M.code (L.log replay.old.log) (O.opened replay.old.opens) result }
-    ensures free { StopsFree S.meaning M.code (L.log replay.old.log) (O.opened replay.old.opens) result }
 {
+    let mut free = [0u32; 16];
     for thread in order {
-        match take_turn(alloc, replay, *thread, breaks) {
+        match turn_on(alloc, replay, reader, *thread, breaks, &mut free) {
             Ok(_) => {}
             Err(stopped) => return stopped,
         }
@@ -211,10 +215,9 @@ pub fn run_to<M: Machine<S> + Drop, S: ObjectSpace, L: ReadLog, O: OpenWorld<M, 
     let mut made = false;
     let mut held = false;
     let mut pace = Pace::new();
-    let mut free = [0u32; 16];
     while made || next < count {
         if next < count {
-            match turn_on(alloc, replay, next, breaks, &mut free) {
+            match turn_on(alloc, replay, reader, next, breaks, &mut free) {
                 Ok(taken) => {
                     made = either(made, taken.is_step());
                     held = either(held, taken.is_held());
@@ -234,4 +237,26 @@ pub fn run_to<M: Machine<S> + Drop, S: ObjectSpace, L: ReadLog, O: OpenWorld<M, 
     } else {
         Stopped::Finished
     }
+}
+
+/// Takes turns of a replay up to a break: a turn for each thread of the order, then rounds of threads 0, 1, .., until a
+/// break holds behind a turn that made a step, no thread has a step any more, or a turn is refused for divergence or want
+/// of memory. Rounds of local steps, behind which no break can hold, are made many at a time; elsewhere a local step is free
+/// where its thread has steps left to its logged end and no break at its steps comes with it. One reader goes forward through
+/// the log. Threads that are done, that the log does not let pass, or of which it does not know are passed over. The replay
+/// can go on from there. On a log below that of a run no thread diverges; on the whole log of a run it is never stuck.
+pub fn run_to<M: Machine<S> + Drop, S: ObjectSpace, L: ReadLog, O: OpenWorld<M, S>>(
+    alloc: Global,
+    replay: &mut Replay<M, S, L, O>,
+    order: &[u32],
+    breaks: &[Break],
+) -> Stopped
+    ensures log { replay.new.log ≡ replay.old.log }
+    ensures opens { replay.new.opens ≡ replay.old.opens }
+    ensures stops { StopsAt S.meaning M.code (L.log replay.old.log) (world_of replay.old.world) order.now breaks.now (world_of replay.new.world) result }
+    ensures right { StopsRight S.meaning M.code (L.log replay.old.log) (O.opened replay.old.opens) result }
+    ensures free { StopsFree S.meaning M.code (L.log replay.old.log) (O.opened replay.old.opens) result }
+{
+    let mut reader = replay.reader();
+    run_by(alloc, replay, &mut reader, order, breaks)
 }

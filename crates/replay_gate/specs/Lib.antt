@@ -8,3 +8,4 @@ pub mod Turned
 pub mod LocalRounds
 pub mod Finished
 pub mod Local
+pub mod Needs

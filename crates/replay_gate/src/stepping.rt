@@ -76,6 +76,35 @@ impl<M: Machine<S>, S: ObjectSpace, L: ReadLog, O: OpenWorld<M, S>> Replay<M, S,
         &self.world
     }
 
+    /// A reader of the log, for turns.
+    pub fn reader(&self) -> L::Reader
+        ensures { L.reads self.now.log result }
+    {
+        self.log.reader()
+    }
+
+    /// A turn of a thread, for which the reader goes forward in the log to the entry that the turn needs. Who takes many turns
+    /// has one reader for them all, so that no entry is searched for.
+    pub fn turn_by(
+        &mut self,
+        alloc: Global,
+        reader: &mut L::Reader,
+        thread: u32,
+    ) -> Result<Turned, ReplayFault>
+        requires { L.reads self.old.log reader.old }
+        ensures reads { L.reads self.new.log reader.new }
+        ensures log { self.new.log ≡ self.old.log }
+        ensures opens { self.new.opens ≡ self.old.opens }
+        ensures ok { IfOk result (λ turned. answer_of_turn (turn_of S.meaning M.code (L.log self.old.log) (world_of self.old.world) thread) ≡ Some turned) }
+        ensures world { OnOk result (world_of self.new.world ≡ world_after_turn S.meaning M.code (world_of self.old.world) thread (turn_of S.meaning M.code (L.log self.old.log) (world_of self.old.world) thread)) }
+        ensures refused { IfErr result (λ f. (f ≡ ReplayFault.NoMemory) ⊎ TurnRefused S.meaning M.code (L.log self.old.log) (world_of self.old.world) thread f) }
+        ensures right { IfErr result (IsRightRefusal S.meaning M.code (L.log self.old.log) (O.opened self.old.opens)) }
+        ensures free { IfErr result (IsFreeRefusal S.meaning M.code (L.log self.old.log) (O.opened self.old.opens)) }
+        ensures unchanged { OnErr result (world_of self.new.world ≡ (world_of self.old.world)) }
+    {
+        take_turn(alloc, &mut self.world, &self.log, reader, thread)
+    }
+
     /// A turn of a thread: its next step, where the log lets it pass. A refusal leaves the replay as it was. On a log below
     /// that of a run nothing clashes and no thread diverges; on the whole log of a run it is refused by a shut gate alone.
     pub fn turn(&mut self, alloc: Global, thread: u32) -> Result<Turned, ReplayFault>
@@ -88,7 +117,8 @@ impl<M: Machine<S>, S: ObjectSpace, L: ReadLog, O: OpenWorld<M, S>> Replay<M, S,
         ensures free { IfErr result (IsFreeRefusal S.meaning M.code (L.log self.old.log) (O.opened self.old.opens)) }
         ensures unchanged { OnErr result (world_of self.new.world ≡ (world_of self.old.world)) }
     {
-        take_turn(alloc, &mut self.world, &self.log, thread)
+        let mut reader = self.reader();
+        self.turn_by(alloc, &mut reader, thread)
     }
 
     /// How many steps a thread has left to its logged end, where that is known.

@@ -1,10 +1,9 @@
-//! One turn of a replay. It looks the item up by its place, whatever turns went before.
+//! One turn of a replay.
 
-ghost use Rattle.std.specs.Prelude.{◌≡◌, ◌⊎◌, cond, slice_get, Some, IfOk, IfErr, OnOk, OnErr};
+ghost use Rattle.std.specs.Prelude.{◌≡◌, ◌⊎◌, cond, slice_get, option_copied, Some, IfOk, IfErr, OnOk, OnErr};
 ghost use Rattle.event_core.specs.World.{world_of};
-ghost use Rattle.replay_laws.specs.Turns.{op_for, can_give, turn_by_step, turn_by_item, turn_by_place, turn_by_next, turn_of, world_after_turn, same_end};
+ghost use Rattle.replay_laws.specs.Turns.{op_for, can_give, turn_by_step, turn_by_item, turn_by_entry, turn_of, world_after_turn};
 ghost use Rattle.replay_laws.specs.declared.turn.Turn.TheVariants as turn;
-ghost use Rattle.replay_laws.specs.declared.turn.Refusal.TheVariants as refusal;
 ghost use Rattle.replay_laws.specs.Finishing.{PassesOn};
 ghost use Rattle.replay_gate.specs.Answers.{makes_step, IsThreadsFault, TurnStops};
 ghost use Rattle.replay_gate.specs.Turned.{answer_of_turn, TurnRefused};
@@ -13,10 +12,10 @@ ghost use Rattle.replay_gate.specs.Local.{is_local, steps_left_of, HasStepsLeft}
 use crate::answers::{ReplayFault, Turned, fault_of};
 use crate::event::input_for;
 use crate::gates::{are_of, is_open};
+use crate::needs::{Needs, needs_of};
 use crate::read_log::ReadLog;
 use event_core::{Input, Pick, PickStep, World};
 use join_laws::Flat;
-use log_pieces::End;
 use replay_laws::{Refusal, Turn};
 use rw_objects::{Entry, Kind, Machine, Next, ObjectSpace};
 use std::alloc::Global;
@@ -83,56 +82,20 @@ fn turn_by_item<M: Machine<S>, S: ObjectSpace>(
     }
 }
 
-/// What a turn does where the thread's next step is an event.
-fn turn_by_place<M: Machine<S>, S: ObjectSpace, L: ReadLog>(
+/// What a turn does by what the log says at its place.
+fn turn_by_entry<M: Machine<S>, S: ObjectSpace>(
     alloc: Global,
     world: &World<M, S>,
-    log: &L,
     thread: u32,
     next: Next<S::Op>,
-    place: u32,
-    places: u32,
+    entry: Option<&Flat<Entry>>,
 ) -> Turn
-    ensures { result ≡ turn_by_place S.meaning M.code (L.log log.now) (world_of world.now) thread next place places }
+    ensures { result ≡ turn_by_entry S.meaning M.code (world_of world.now) thread next (option_copied entry.entry) }
 {
-    if place < places {
-        match log.entry(thread, place) {
-            None => Turn::Refused(Refusal::Missing),
-            Some(Flat::Clash) => Turn::Refused(Refusal::Clash),
-            Some(Flat::Known(item)) => turn_by_item(alloc, world, thread, next, &item),
-        }
-    } else {
-        Turn::Refused(Refusal::Diverged)
-    }
-}
-
-/// What a turn does where steps are left.
-fn turn_by_next<M: Machine<S>, S: ObjectSpace, L: ReadLog>(
-    alloc: Global,
-    world: &World<M, S>,
-    log: &L,
-    thread: u32,
-    place: u32,
-    places: u32,
-    next: Next<S::Op>,
-) -> Turn
-    ensures { result ≡ turn_by_next S.meaning M.code (L.log log.now) (world_of world.now) thread place places next }
-{
-    match next {
-        Next::Local => Turn::Local,
-        Next::Halted(_) => Turn::Refused(Refusal::Diverged),
-        _ => turn_by_place(alloc, world, log, thread, next, place, places),
-    }
-}
-
-/// What a turn of a thread does that stands so and has no steps left.
-fn turn_at_end(end: End, stands: End) -> Turn
-    ensures { result ≡ cond (same_end end stands) turn.Done (turn.Refused refusal.Diverged) }
-{
-    if end == stands {
-        Turn::Done
-    } else {
-        Turn::Refused(Refusal::Diverged)
+    match entry {
+        None => Turn::Refused(Refusal::Missing),
+        Some(Flat::Clash) => Turn::Refused(Refusal::Clash),
+        Some(Flat::Known(item)) => turn_by_item(alloc, world, thread, next, item),
     }
 }
 
@@ -145,34 +108,32 @@ pub fn turn_of<M: Machine<S>, S: ObjectSpace, L: ReadLog>(
 ) -> Turn
     ensures { result ≡ turn_of S.meaning M.code (L.log log.now) (world_of world.now) thread }
 {
-    let Some(steps) = world.steps(thread) else {
-        return Turn::Done;
-    };
-    let Some(places) = world.places(thread) else {
-        return Turn::Done;
-    };
-    match log.end(thread) {
-        None => Turn::Refused(Refusal::Missing),
-        Some(Flat::Clash) => Turn::Refused(Refusal::Clash),
-        Some(Flat::Known(end)) => {
-            if steps < end.steps {
-                let Some(next) = world.next(thread) else {
-                    return Turn::Done;
-                };
-                turn_by_next(alloc, world, log, thread, places, end.places, next)
-            } else {
-                let Some(outcome) = world.outcome(thread) else {
-                    return Turn::Done;
-                };
-                turn_at_end(
-                    end,
-                    End {
-                        steps,
-                        places,
-                        outcome,
-                    },
-                )
-            }
+    match needs_of(world, log, thread) {
+        Needs::Nothing(turn) => turn,
+        Needs::Entry { next, place } => {
+            let entry = log.entry(thread, place);
+            turn_by_entry(alloc, world, thread, next, entry.as_ref())
+        }
+    }
+}
+
+/// What a turn of a thread does. The reader goes forward to the entry that it needs.
+fn read_turn<M: Machine<S>, S: ObjectSpace, L: ReadLog>(
+    alloc: Global,
+    world: &World<M, S>,
+    log: &L,
+    reader: &mut L::Reader,
+    thread: u32,
+) -> Turn
+    requires { L.reads log.now reader.old }
+    ensures turn { result ≡ turn_of S.meaning M.code (L.log log.now) (world_of world.now) thread }
+    ensures reads { L.reads log.now reader.new }
+{
+    match needs_of(world, log, thread) {
+        Needs::Nothing(turn) => turn,
+        Needs::Entry { next, place } => {
+            log.read(reader, thread, place);
+            turn_by_entry(alloc, world, thread, next, L::held(reader, thread))
         }
     }
 }
@@ -191,19 +152,23 @@ fn fault_at<M: Machine<S>, S: ObjectSpace>(
     }
 }
 
-/// Makes the step of a turn, where the log lets it pass; a refusal, a shut gate's too, leaves the world as it was.
+/// Makes the step of a turn, where the log lets it pass; a refusal, a shut gate's too, leaves the world as it was. The reader
+/// goes forward to the entry that the turn needs.
 pub(crate) fn take_turn<M: Machine<S>, S: ObjectSpace, L: ReadLog>(
     alloc: Global,
     world: &mut World<M, S>,
     log: &L,
+    reader: &mut L::Reader,
     thread: u32,
 ) -> Result<Turned, ReplayFault>
+    requires { L.reads log.now reader.old }
+    ensures reads { L.reads log.now reader.new }
     ensures ok { IfOk result (λ turned. answer_of_turn (turn_of S.meaning M.code (L.log log.now) (world_of world.old) thread) ≡ Some turned) }
     ensures world { OnOk result (world_of world.new ≡ world_after_turn S.meaning M.code (world_of world.old) thread (turn_of S.meaning M.code (L.log log.now) (world_of world.old) thread)) }
     ensures err { IfErr result (λ f. (f ≡ ReplayFault.NoMemory) ⊎ TurnRefused S.meaning M.code (L.log log.now) (world_of world.old) thread f) }
     ensures unchanged { OnErr result (world_of world.new ≡ world_of world.old) }
 {
-    match turn_of(alloc, world, log, thread) {
+    match read_turn(alloc, world, log, reader, thread) {
         Turn::Done => Ok(Turned::Done),
         Turn::Local => match world.local(Pick {
             thread,
@@ -264,15 +229,18 @@ pub(crate) fn pass<M: Machine<S>, S: ObjectSpace, L: ReadLog>(
     alloc: Global,
     world: &mut World<M, S>,
     log: &L,
+    reader: &mut L::Reader,
     thread: u32,
 ) -> Result<bool, ReplayFault>
+    requires { L.reads log.now reader.old }
+    ensures reads { L.reads log.now reader.new }
     ensures pass { IfOk result (λ made. PassesOn (turn_of S.meaning M.code (L.log log.now) (world_of world.old) thread)) }
     ensures made { IfOk result (λ made. made ≡ makes_step (turn_of S.meaning M.code (L.log log.now) (world_of world.old) thread)) }
     ensures world { IfOk result (λ made. world_of world.new ≡ world_after_turn S.meaning M.code (world_of world.old) thread (turn_of S.meaning M.code (L.log log.now) (world_of world.old) thread)) }
     ensures err { IfErr result (λ f. (f ≡ ReplayFault.NoMemory) ⊎ TurnStops S.meaning M.code (L.log log.now) (world_of world.old) thread f) }
     ensures unchanged { OnErr result (world_of world.new ≡ world_of world.old) }
 {
-    match take_turn(alloc, world, log, thread) {
+    match take_turn(alloc, world, log, reader, thread) {
         Ok(Turned::Done) => Ok(false),
         Ok(Turned::Local | Turned::Event) => Ok(true),
         Err(fault) => match fault {

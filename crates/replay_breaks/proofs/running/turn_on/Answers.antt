@@ -1,10 +1,31 @@
-use Rattle.std.proofs.Common.{◌≡◌, ◌∙◌, subst, arith}
+use Rattle.std.proofs.Common.{◌≡◌, ◌≤◌, length, refl, ◌∙◌, subst, arith}
 use Rattle.event_core.specs.World.{world_of}
 use Rattle.replay_laws.specs.Turns.{turn_of, world_after_turn}
 use Rattle.replay_breaks.specs.Breaks.{NoneHits}
 use Rattle.replay_breaks.specs.Free.{IsFree, GoesFreely}
+use Rattle.replay_breaks.proofs.FarThreads.{far_taken, far_goes_on, far_hits_none, far_same}
 use Rattle.replay_breaks.proofs.FreeSteps.{turned_free}
 use Rattle.replay_breaks.proofs.running.turn_on.Goals as goal
+
+pub returns-then-thread-ge16 : goal.returns-then-thread-ge16
+returns-then-thread-ge16 g c =
+    let space = g.S.ObjectSpace.meaning in
+    let code = g.M.Machine.code in
+    let log = g.L.ReadLog.log c.args.replay.now.log in
+    let w = world_of c.args.replay.now.world in
+    let t = c.args.thread in
+    let far : length w.threads ≤ t = let few = c.args.replay.now.world.sound.few in let past = c.if-thread-ge16.true in omega (arith, few, past) in
+    record {
+      reads = c.requires.reads;
+      log = refl;
+      opens = refl;
+      taken = far_taken space code log w t far;
+      on = far_goes_on space code log w t far;
+      none = far_hits_none space code log w t far c.args.breaks.now;
+      world = far_same space code log w t far;
+      free = c.requires.free;
+      stops = tt;
+    }
 
 pub returns-in-Ok-clause-none : goal.returns-in-Ok-clause-none
 returns-in-Ok-clause-none g c =
@@ -29,4 +50,4 @@ returns-in-Ok-clause-free g c =
     turned_free space code log breaks u v t c.free_steps.result c.goes_freely.new.free c.in-Ok-false.ensures.free
     (subst (λ y. IsFree code (g.L.ReadLog.log y) v breaks t c.free_steps.result) (c.take_turn.ensures.log ∙ c.goes_freely.ensures.log) c.free_steps.ensures)
     (subst (λ y. v ≡ world_after_turn space code u t (turn_of space code (g.L.ReadLog.log y) u t)) c.goes_freely.ensures.log c.in-Ok.ensures.world)
-    (let e = c.goes_freely.array_long in let f = c.requires.few in omega (arith, e, f))
+    (let e = c.goes_freely.array_long in let f = c.if-thread-ge16.false in omega (arith, e, f))

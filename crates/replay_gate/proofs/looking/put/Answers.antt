@@ -1,6 +1,5 @@
-use Rattle.std.proofs.Common.{◌≡◌, ◌+◌, ◌<◌, ◌≤◌, ℕ, suc, [], ◌∷◌, ◌++◌, length, drop, Some, slice_get, sym, ap, ◌∙◌, subst, add-one, arith}
+use Rattle.std.proofs.Common.{◌≡◌, ◌<◌, ◌≤◌, suc, [], ◌∷◌, ◌++◌, length, drop, Some, slice_get, sym, ap, ◌∙◌, subst, arith}
 use Rattle.std.proofs.lemmas.Option.{slice_get_within}
-use Rattle.event_core.specs.Threads.{ThreadAt}
 use Rattle.event_core.specs.World.{world_of}
 use Rattle.replay_gate.specs.declared.looking.Ahead.TheVariants as ahead
 use Rattle.replay_gate.proofs.Putting.{drop_more, ArePut, put_goes, put_rests, length_more}

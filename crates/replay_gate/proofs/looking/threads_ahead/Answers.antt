@@ -1,4 +1,4 @@
-use Rattle.std.proofs.Common.{◌≡◌, ◌∷◌, [], ◌++◌, length, Some, slice_get, sym, ap, ◌∙◌, subst, arith, inl, inr}
+use Rattle.std.proofs.Common.{length, slice_get, sym, ap, ◌∙◌, subst, arith, inl, inr}
 use Rattle.event_core.specs.World.{world_of}
 use Rattle.replay_gate.specs.LocalRounds.{IsAhead}
 use Rattle.replay_gate.proofs.Putting.{length_more, get_pushed}

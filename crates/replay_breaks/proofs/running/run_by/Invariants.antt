@@ -5,11 +5,13 @@ use Rattle.event_core.specs.World.{world_of}
 use Rattle.replay_breaks.specs.Stops.{IsBehind}
 use Rattle.replay_breaks.specs.Free.{AreFree}
 use Rattle.replay_breaks.specs.Rounds.{IsInRound}
-use Rattle.replay_breaks.proofs.running.run_to.Given as goal
+use Rattle.replay_breaks.proofs.running.run_by.Given as goal
 
 abbrev pub invariant-loop-thread : goal.invariant-loop-thread
 invariant-loop-thread g l = record {
   behind : IsBehind g.S.ObjectSpace.meaning g.M.Machine.code (g.L.ReadLog.log l.fn.replay.log) (world_of l.fn.replay.world) l.order l.breaks l.thread-index (world_of l.replay.world);
+  free : AreFree g.M.Machine.code (g.L.ReadLog.log l.fn.replay.log) (world_of l.replay.world) l.breaks l.free;
+  reads : g.L.ReadLog.reads l.replay.log l.reader;
   log : l.replay.log ≡ l.fn.replay.log;
   opens : l.replay.opens ≡ l.fn.replay.opens;
 }
@@ -19,6 +21,7 @@ invariant-loop-made g l = record {
   round : IsInRound g.S.ObjectSpace.meaning g.M.Machine.code (g.L.ReadLog.log l.fn.replay.log) (world_of l.fn.replay.world) l.order l.breaks l.next l.made l.held (world_of l.replay.world);
   count : l.count ≡ length (world_of l.fn.replay.world).threads;
   free : AreFree g.M.Machine.code (g.L.ReadLog.log l.fn.replay.log) (world_of l.replay.world) l.breaks l.free;
+  reads : g.L.ReadLog.reads l.replay.log l.reader;
   log : l.replay.log ≡ l.fn.replay.log;
   opens : l.replay.opens ≡ l.fn.replay.opens;
 }

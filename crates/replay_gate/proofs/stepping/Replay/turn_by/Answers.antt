@@ -3,7 +3,7 @@ use Rattle.event_core.specs.World.{world_of}
 use Rattle.replay_gate.specs.Leads.{Leads}
 use Rattle.replay_gate.proofs.Orders.{if_err}
 use Rattle.replay_gate.proofs.Refusing.{either_way, right_merely, free_merely, turn_merely}
-use Rattle.replay_gate.proofs.stepping.Replay.turn.Goals as goal
+use Rattle.replay_gate.proofs.stepping.Replay.turn_by.Goals as goal
 
 pub invariant_of-self : goal.invariant_of-self
 invariant_of-self g c =
