@@ -1,22 +1,17 @@
 -- Free steps of threads, and what turns leave of them.
-use Rattle.std.proofs.Common.{◌≡◌, ◌≢◌, ℕ, ◌+◌, ◌-◌, ◌<◌, ◌≤◌, List, length, get_or, slice_set, replicate, Some, slice_get, option_map, refl, sym, ap, ◌∙◌, subst, arith, inl, inr}
+use Rattle.std.proofs.Common.{◌≡◌, ◌≢◌, ℕ, ◌+◌, ◌-◌, ◌<◌, ◌≤◌, List, length, slice_set, replicate, Some, slice_get, option_map, sym, ap, ◌∙◌, subst, arith, inl, inr}
 use Rattle.std.proofs.lemmas.Bool.{cases_lt}
-use Rattle.std.proofs.lemmas.List.{get_or-set_same, get_or-set_other, get_or-replicate, length-replicate, get_or_past}
 use Rattle.rw_objects.specs.Space.{Space}
 use Rattle.rw_objects.specs.Code.{Code, CodeLaws}
-use Rattle.event_core.specs.declared.pick.Input.TheVariants.{Go}
-use Rattle.event_core.specs.declared.step.PickStep.{PickStep}
-use Rattle.event_core.specs.declared.step.PickStep.TheVariants as step
 use Rattle.event_core.specs.Threads.{ThreadAt, change_at, thread_after_local}
-use Rattle.event_core.specs.World.{WorldAt, step_of_pick, world_after_step}
-use Rattle.event_core.proofs.LocalRuns.{get_same, get_other}
-use Rattle.join_laws.specs.declared.flat.Flat.TheVariants.{Known}
-use Rattle.replay_laws.specs.declared.turn.Turn.{Turn}
+use Rattle.event_core.specs.World.{WorldAt}
+use Rattle.event_core.proofs.LocalRuns.{get_same}
 use Rattle.replay_laws.specs.declared.turn.Turn.TheVariants as turn
 use Rattle.replay_laws.specs.Log.{Log, HasLimits}
-use Rattle.replay_laws.specs.Turns.{pick_of, turn_of, world_after_turn}
+use Rattle.replay_laws.specs.Turns.{turn_of, world_after_turn}
 use Rattle.replay_gate.specs.Local.{steps_left_of}
-use Rattle.replay_gate.proofs.LocalTurns.{StandsLocally, stands_locally, steps_locally}
+use Rattle.replay_gate.proofs.LeftSteps as left
+use Rattle.replay_gate.proofs.LocalTurns.{StandsLocally, stands_locally}
 use Rattle.replay_breaks.specs.declared.breaks.Break.{Break}
 use Rattle.replay_breaks.specs.declared.breaks.Break.TheVariants as break
 use Rattle.replay_breaks.specs.Breaks.{is_event, Hits, NoneHits}
@@ -29,9 +24,6 @@ some_same a b h = cc
 pub made_by : {State Op Reply Value Fixed Fixed' : Type 0} (code : Code State Op Reply Fixed) (w : WorldAt State Value Fixed') (t made : ℕ) (thread : ThreadAt State) → Some made ≡ option_map (λ x. code.steps x.state) (slice_get w.threads t) → slice_get w.threads t ≡ Some thread
     → code.steps thread.state ≡ made
 made_by code w t made thread read is = some_same _ _ (sym (read ∙ ap (option_map (λ x. code.steps x.state)) is))
-
-same_everywhere : (n t a : ℕ) → get_or (replicate n a) t a ≡ a
-same_everywhere n t a = elim (cases_lt t n) [ inl l ↦ get_or-replicate n t a a l | inr l ↦ get_or_past (replicate n a) t a (let e = length-replicate n a in omega (arith, l, e)) ]
 
 -- ---- one break
 
@@ -55,7 +47,7 @@ module _ {State Op Reply Fixed : Type 0} (code : Code State Op Reply Fixed) {Val
   none_free w t = record { within = omega arith; clear = λ th e j b is. none_free_of t (code.steps th.state) b }
 
   pub all_none_free : (w : WorldAt State Value Fixed') (n : ℕ) → AreFree code log w breaks (replicate n 0)
-  all_none_free w n t = subst (IsFree code log w breaks t) (sym (same_everywhere n t 0)) (none_free w t)
+  all_none_free w n t = subst (IsFree code log w breaks t) (sym (left.same_everywhere n t 0)) (none_free w t)
 
   -- it is told by the thread alone
   pub free_same : (w v : WorldAt State Value Fixed') (t n : ℕ) → slice_get v.threads t ≡ slice_get w.threads t → IsFree code log w breaks t n → IsFree code log v breaks t n
@@ -64,43 +56,17 @@ module _ {State Op Reply Fixed : Type 0} (code : Code State Op Reply Fixed) {Val
     clear = λ th e. f.clear th (sym same ∙ e);
   }
 
-  at_or_not : (w v : WorldAt State Value Fixed') (t i n m : ℕ) → m ≡ n → i ≡ t → IsFree code log v breaks t m → IsFree code log v breaks i n
-  at_or_not w v t i n m e is f = subst (λ k. IsFree code log v breaks k n) (sym is) (subst (IsFree code log v breaks t) e f)
-
   -- a turn of thread t, behind which so many steps of it are free
   pub all_free : (w v : WorldAt State Value Fixed') (t m : ℕ) (free : List ℕ) → AreFree code log w breaks free → IsFree code log v breaks t m → ((i : ℕ) → i ≢ t → slice_get v.threads i ≡ slice_get w.threads i) → t < length free
       → AreFree code log v breaks (slice_set free t m)
-  all_free w v t m free all here others within i =
-      let far : i ≢ t → IsFree code log v breaks i (get_or (slice_set free t m) i 0) = λ d.
-      subst (IsFree code log v breaks i) (sym (get_or-set_other free t i m 0 d)) (free_same w v i (get_or free i 0) (others i d) (all i)) in
-      elim (cases_lt i t) [
-        | inl l ↦ far (λ q. omega (arith, l, q))
-        | inr l ↦
-            elim (cases_lt t i) [
-              | inl x ↦ far (λ q. omega (arith, x, q))
-              | inr x ↦
-                  let q : i ≡ t = omega (arith, l, x) in
-                  at_or_not w v t i (get_or (slice_set free t m) i 0) m (sym (get_or-set_same free t m 0 within) ∙ ap (λ k. get_or (slice_set free t m) k 0) (sym q)) q here
-            ]
-      ]
+  all_free w v t m free all here others =
+      left.set_for (IsFree code log w breaks) (IsFree code log v breaks) free t m all here (λ i n d f. free_same w v i n (others i d) f)
 
 module _ {State Op Reply Value Fixed : Type 0} (space : Space Op Reply Value Fixed) (code : Code State Op Reply Fixed) where
-  other_by_step : (w : WorldAt State Value Fixed) (t i : ℕ) → i ≢ t → (s : PickStep Op) → slice_get (world_after_step space code w t s).threads i ≡ slice_get w.threads i
-  other_by_step w t i d (step.Refused f) = refl
-  other_by_step w t i d step.Local = get_other _ w.threads t i d
-  other_by_step w t i d (step.Event op) = get_other _ w.threads t i d
-
-  -- a turn changes its own thread alone
-  other_thread : (w : WorldAt State Value Fixed) (t i : ℕ) → i ≢ t → (x : Turn) → slice_get (world_after_turn space code w t x).threads i ≡ slice_get w.threads i
-  other_thread w t i d turn.Done = refl
-  other_thread w t i d turn.Local = other_by_step w t i d (step_of_pick space code w (pick_of t Go))
-  other_thread w t i d (turn.Event input) = other_by_step w t i d (step_of_pick space code w (pick_of t input))
-  other_thread w t i d (turn.Refused r) = refl
-
   pub turned_free : (log : Log) (breaks : List Break) (w v : WorldAt State Value Fixed) (t m : ℕ) (free : List ℕ) → AreFree code log w breaks free → IsFree code log v breaks t m
       → v ≡ world_after_turn space code w t (turn_of space code log w t) → t < length free → AreFree code log v breaks (slice_set free t m)
   turned_free log breaks w v t m free all here after within =
-      all_free code log breaks w v t m free all here (λ i d. ap (λ (x : WorldAt State Value Fixed). slice_get x.threads i) after ∙ other_thread w t i d (turn_of space code log w t)) within
+      all_free code log breaks w v t m free all here (λ i d. ap (λ (x : WorldAt State Value Fixed). slice_get x.threads i) after ∙ left.other_thread space code w t i d (turn_of space code log w t)) within
 
   -- ---- a free local step
 
@@ -109,7 +75,7 @@ module _ {State Op Reply Value Fixed : Type 0} (space : Space Op Reply Value Fix
     stands = stands_locally space code log w t local
 
     leads : world_after_turn space code w t turn.Local ≡ record { threads = change_at w.threads t (thread_after_local code); memory = w.memory }
-    leads = ap (world_after_step space code w t) (steps_locally space code log w t limits local)
+    leads = left.leads_locally space code rules log limits w t local
 
     at_thread : slice_get (world_after_turn space code w t turn.Local).threads t ≡ Some (thread_after_local code stands.thread)
     at_thread = ap (λ (x : WorldAt State Value Fixed). slice_get x.threads t) leads ∙ get_same (thread_after_local code) w.threads t stands.thread stands.exists
@@ -134,13 +100,9 @@ module _ {State Op Reply Value Fixed : Type 0} (space : Space Op Reply Value Fix
     pub none_hits : NoneHits space code log w t breaks
     none_hits j b is hits = none_of b (free.clear stands.thread stands.exists j b is) hits
 
-    within_at : n ≤ stands.end.steps - code.steps stands.thread.state
-    within_at = subst (λ o. n ≤ steps_left_of code (Some (Known stands.end)) o) stands.exists (subst (λ e. n ≤ steps_left_of code e (slice_get w.threads t)) stands.is_known free.within)
-
     pub one_fewer : IsFree code log (world_after_turn space code w t turn.Local) breaks t (n - 1)
     one_fewer = record {
-      within = subst (λ e. n - 1 ≤ steps_left_of code e (slice_get (world_after_turn space code w t turn.Local).threads t)) (sym stands.is_known)
-          (subst (λ o. n - 1 ≤ steps_left_of code (Some (Known stands.end)) o) (sym at_thread) (let l = within_at in let more = one in omega (arith, l, more)));
+      within = left.one_fewer space code rules log limits w t local n free.within;
       clear = λ th e j b is.
           let same : th ≡ thread_after_local code stands.thread = some_same th (thread_after_local code stands.thread) (sym e ∙ at_thread) in
           next_free_of t (code.steps stands.thread.state) (code.steps th.state) n b some (ap (λ (x : ThreadAt State). code.steps x.state) same ∙ one) (free.clear stands.thread stands.exists j b is);

@@ -239,12 +239,13 @@ fn run_by<M: Machine<S> + Drop, S: ObjectSpace, L: ReadLog, O: OpenWorld<M, S>>(
     }
 }
 
-/// Takes turns of a replay up to a break: a turn for each thread of the order, then rounds of threads 0, 1, .., until a
-/// break holds behind a turn that made a step, no thread has a step any more, or a turn is refused for divergence or want
-/// of memory. Rounds of local steps, behind which no break can hold, are made many at a time; elsewhere a local step is free
-/// where its thread has steps left to its logged end and no break at its steps comes with it. One reader goes forward through
-/// the log. Threads that are done, that the log does not let pass, or of which it does not know are passed over. The replay
-/// can go on from there. On a log below that of a run no thread diverges; on the whole log of a run it is never stuck.
+/// Takes turns of a replay up to a break: a turn for each thread of the order, then rounds of threads 0, 1, .., until
+/// a break holds behind a turn that made a step, no thread has a step any more, or a turn is refused for divergence
+/// or want of memory. Rounds of local steps, behind which no break can hold, are made many at a time; elsewhere a
+/// local step is free where its thread has steps left to its logged end and no break at its steps comes with it. One
+/// reader goes forward through the log. Threads that are done, that the log does not let pass, or of which it does
+/// not know are passed over. The replay can go on from there. On a log below that of a run no thread diverges; on the
+/// whole log of a run it is never stuck.
 pub fn run_to<M: Machine<S> + Drop, S: ObjectSpace, L: ReadLog, O: OpenWorld<M, S>>(
     alloc: Global,
     replay: &mut Replay<M, S, L, O>,

@@ -1,5 +1,5 @@
 -- Local turns of a thread that has steps left.
-use Rattle.std.specs.Prelude.{ℕ, ◌-◌, ◌<◌, Bool, true, false, Option, Some, None, slice_get}
+use Rattle.std.specs.Prelude.{ℕ, ◌-◌, ◌<◌, ◌≤◌, Bool, true, false, List, Option, Some, None, slice_get, slice_index}
 use Rattle.rw_objects.specs.Code.{Code}
 use Rattle.event_core.specs.Threads.{ThreadAt}
 use Rattle.event_core.specs.World.{WorldAt}
@@ -27,3 +27,7 @@ module _ {State Op Reply Fixed : Type 0} (code : Code State Op Reply Fixed) wher
   -- some, to its logged end
   abbrev pub HasStepsLeft : {Value Fixed' : Type 0} → Log → WorldAt State Value Fixed' → ℕ → Type 0
   HasStepsLeft log w t = 0 < steps_left_of (log.end t) (slice_get w.threads t)
+
+  -- so many of each thread
+  abbrev pub AreLeft : {Value Fixed' : Type 0} → Log → WorldAt State Value Fixed' → List ℕ → Type 0
+  AreLeft log w left = (t : ℕ) → slice_index left t ≤ steps_left_of (log.end t) (slice_get w.threads t)

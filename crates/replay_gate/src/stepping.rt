@@ -83,8 +83,8 @@ impl<M: Machine<S>, S: ObjectSpace, L: ReadLog, O: OpenWorld<M, S>> Replay<M, S,
         self.log.reader()
     }
 
-    /// A turn of a thread, for which the reader goes forward in the log to the entry that the turn needs. Who takes many turns
-    /// has one reader for them all, so that no entry is searched for.
+    /// A turn of a thread, for which the reader goes forward in the log to the entry that the turn needs. Who takes
+    /// many turns has one reader for them all, so that no entry is searched for.
     pub fn turn_by(
         &mut self,
         alloc: Global,

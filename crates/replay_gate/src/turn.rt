@@ -4,8 +4,7 @@ ghost use Rattle.std.specs.Prelude.{◌≡◌, ◌⊎◌, cond, slice_get, optio
 ghost use Rattle.event_core.specs.World.{world_of};
 ghost use Rattle.replay_laws.specs.Turns.{op_for, can_give, turn_by_step, turn_by_item, turn_by_entry, turn_of, world_after_turn};
 ghost use Rattle.replay_laws.specs.declared.turn.Turn.TheVariants as turn;
-ghost use Rattle.replay_laws.specs.Finishing.{PassesOn};
-ghost use Rattle.replay_gate.specs.Answers.{makes_step, IsThreadsFault, TurnStops};
+ghost use Rattle.replay_gate.specs.Answers.{IsThreadsFault};
 ghost use Rattle.replay_gate.specs.Turned.{answer_of_turn, TurnRefused};
 ghost use Rattle.replay_gate.specs.Local.{is_local, steps_left_of, HasStepsLeft};
 
@@ -152,8 +151,8 @@ fn fault_at<M: Machine<S>, S: ObjectSpace>(
     }
 }
 
-/// Makes the step of a turn, where the log lets it pass; a refusal, a shut gate's too, leaves the world as it was. The reader
-/// goes forward to the entry that the turn needs.
+/// Makes the step of a turn, where the log lets it pass; a refusal, a shut gate's too, leaves the world as it was. The
+/// reader goes forward to the entry that the turn needs.
 pub(crate) fn take_turn<M: Machine<S>, S: ObjectSpace, L: ReadLog>(
     alloc: Global,
     world: &mut World<M, S>,
@@ -221,31 +220,5 @@ pub(crate) fn steps_left<M: Machine<S>, S: ObjectSpace, L: ReadLog>(
     match (log.end(thread), world.steps(thread)) {
         (Some(Flat::Known(end)), Some(steps)) => end.steps.saturating_sub(steps),
         _ => 0,
-    }
-}
-
-/// Makes the step of a turn, if it has one. Answers whether it did; a shut gate and a thread that is done are passed over.
-pub(crate) fn pass<M: Machine<S>, S: ObjectSpace, L: ReadLog>(
-    alloc: Global,
-    world: &mut World<M, S>,
-    log: &L,
-    reader: &mut L::Reader,
-    thread: u32,
-) -> Result<bool, ReplayFault>
-    requires { L.reads log.now reader.old }
-    ensures reads { L.reads log.now reader.new }
-    ensures pass { IfOk result (λ made. PassesOn (turn_of S.meaning M.code (L.log log.now) (world_of world.old) thread)) }
-    ensures made { IfOk result (λ made. made ≡ makes_step (turn_of S.meaning M.code (L.log log.now) (world_of world.old) thread)) }
-    ensures world { IfOk result (λ made. world_of world.new ≡ world_after_turn S.meaning M.code (world_of world.old) thread (turn_of S.meaning M.code (L.log log.now) (world_of world.old) thread)) }
-    ensures err { IfErr result (λ f. (f ≡ ReplayFault.NoMemory) ⊎ TurnStops S.meaning M.code (L.log log.now) (world_of world.old) thread f) }
-    ensures unchanged { OnErr result (world_of world.new ≡ world_of world.old) }
-{
-    match take_turn(alloc, world, log, reader, thread) {
-        Ok(Turned::Done) => Ok(false),
-        Ok(Turned::Local | Turned::Event) => Ok(true),
-        Err(fault) => match fault {
-            ReplayFault::Shut => Ok(false),
-            _ => Err(fault),
-        },
     }
 }
