@@ -1,1 +1,2 @@
 pub mod Claimed
+pub mod Resting

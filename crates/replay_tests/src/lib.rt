@@ -12,3 +12,7 @@ mod recordings;
 mod refused;
 #[cfg(test)]
 mod replays;
+#[cfg(test)]
+mod resting;
+#[cfg(test)]
+mod turns;
