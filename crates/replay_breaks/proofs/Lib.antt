@@ -9,4 +9,3 @@ pub mod RoundsOn
 pub mod OneStop
 pub mod FreeSteps
 pub mod FreeRounds
-pub mod FarThreads

@@ -1,5 +1,5 @@
 -- What a turn and the test of the breaks behind it tell.
-use Rattle.std.proofs.Common.{◌≡◌, ℕ, ◌⊎◌, true, false, List, Some, refl, sym, ap, ◌∙◌, subst, inl, inr}
+use Rattle.std.proofs.Common.{Bool, ◌≡◌, ℕ, ◌⊎◌, true, false, List, Some, refl, sym, ap, ◌∙◌, subst, inl, inr}
 use Rattle.rw_objects.specs.Space.{Space}
 use Rattle.rw_objects.specs.Code.{Code}
 use Rattle.event_core.specs.World.{WorldAt}
@@ -21,7 +21,8 @@ use Rattle.replay_breaks.specs.declared.running.Taken.TheVariants as taken
 use Rattle.replay_breaks.specs.Marks.{AreMarks}
 use Rattle.replay_breaks.specs.Tests.{holds_by, IsFirst, HoldsNone}
 use Rattle.replay_breaks.specs.Breaks.{Hits, NoneHits, FirstHits}
-use Rattle.replay_breaks.specs.Stops.{GoesOn, is_passed_over, is_done, taken_of, Diverges}
+use Rattle.replay_breaks.specs.Free.{GoesFreely}
+use Rattle.replay_breaks.specs.Stops.{GoesOn, is_passed_over, is_done, taken_of, TurnTakes, Diverges}
 use Rattle.replay_breaks.proofs.Testing.{passes_holds, fails_holds}
 
 -- ---- answers
@@ -39,6 +40,26 @@ step_taken turn.Done h = absurd cc
 step_taken turn.Local h = refl
 step_taken (turn.Event input) h = refl
 step_taken (turn.Refused r) h = absurd cc
+
+step_on : (x : Turn) → makes_step x ≡ true → GoesOn x
+step_on turn.Done h = absurd cc
+step_on turn.Local h = tt
+step_on (turn.Event input) h = tt
+step_on (turn.Refused r) h = absurd cc
+
+-- a turn that was done
+pub done_is : (x : Turn) (d : Turned) → answer_of_turn x ≡ Some d → is_done d ≡ true → x ≡ turn.Done
+done_is turn.Done d is h = refl
+done_is turn.Local turned.Done is h = absurd cc
+done_is turn.Local turned.Local is h = absurd cc
+done_is turn.Local turned.Event is h = absurd cc
+done_is (turn.Event input) turned.Done is h = absurd cc
+done_is (turn.Event input) turned.Local is h = absurd cc
+done_is (turn.Event input) turned.Event is h = absurd cc
+done_is (turn.Refused r) d is h = absurd cc
+
+step_or_not : (b : Bool) → b ≡ true → b ≡ false → ⊥
+step_or_not b h other = cc
 
 passed_by : (r : Refusal) (t place : ℕ) → is_passed_over (fault_of r t place) ≡ true → GoesOn (turn.Refused r)
 passed_by Missing t place h = tt
@@ -68,17 +89,16 @@ module _ {State Op Reply Value Fixed : Type 0} (space : Space Op Reply Value Fix
   passed f (inl e) h = absurd (memory_stops f e h)
   passed f (inr x) h = record { refusal = x.refusal; refused = x.refused; goes_on = passed_by x.refusal t x.thread.places (ap is_passed_over (sym x.is) ∙ h) }
 
-  pub passed_taken : (f : ReplayFault) → (f ≡ fault.NoMemory) ⊎ TurnRefused space code log w t f → is_passed_over f ≡ true → taken.Held ≡ taken_of (turn_of space code log w t)
-  passed_taken f r h = let p = passed f r h in ap taken_of (sym p.refused)
-
-  pub passed_goes_on : (f : ReplayFault) → (f ≡ fault.NoMemory) ⊎ TurnRefused space code log w t f → is_passed_over f ≡ true → GoesOn (turn_of space code log w t)
-  passed_goes_on f r h = let p = passed f r h in subst GoesOn (sym p.refused) p.goes_on
-
-  pub passed_none : (f : ReplayFault) (breaks : List Break) → (f ≡ fault.NoMemory) ⊎ TurnRefused space code log w t f → is_passed_over f ≡ true → NoneHits space code log w t breaks
-  passed_none f breaks r h j b is y = let p = passed f r h in let q = ap makes_step p.refused in let s = y.step in cc
-
-  pub passed_world : (f : ReplayFault) (v : WorldAt State Value Fixed) → (f ≡ fault.NoMemory) ⊎ TurnRefused space code log w t f → is_passed_over f ≡ true → v ≡ w → v ≡ world_after_turn space code w t (turn_of space code log w t)
-  passed_world f v r h same = let p = passed f r h in same ∙ ap (world_after_turn space code w t) (sym p.refused)
+  pub passed_takes : (f : ReplayFault) (breaks : List Break) (v : WorldAt State Value Fixed) → (f ≡ fault.NoMemory) ⊎ TurnRefused space code log w t f → is_passed_over f ≡ true → v ≡ w → TurnTakes space code log w t breaks v taken.Held
+  passed_takes f breaks v r h same =
+      let p = passed f r h in
+      let q = ap makes_step p.refused in
+      record {
+        taken = ap taken_of (sym p.refused);
+        on = subst GoesOn (sym p.refused) p.goes_on;
+        none = λ j b is y. step_or_not _ y.step q;
+        world = same ∙ ap (world_after_turn space code w t) (sym p.refused);
+      }
 
   pub fault_stops : (f : ReplayFault) → (f ≡ fault.NoMemory) ⊎ TurnRefused space code log w t f → is_passed_over f ≡ false → (f ≡ fault.NoMemory) ⊎ Diverges space code log w t f
   fault_stops f (inl e) h = inl e
@@ -88,8 +108,21 @@ module _ {State Op Reply Value Fixed : Type 0} (space : Space Op Reply Value Fix
 
   -- ---- breaks
 
-  pub done_none : (breaks : List Break) → turn_of space code log w t ≡ turn.Done → NoneHits space code log w t breaks
-  done_none breaks is j b at y = let q = ap makes_step is in let s = y.step in cc
+  pub done_takes : (breaks : List Break) (v : WorldAt State Value Fixed) → turn_of space code log w t ≡ turn.Done → v ≡ w → TurnTakes space code log w t breaks v taken.Done
+  done_takes breaks v is same = record {
+    taken = ap taken_of (sym is);
+    on = subst GoesOn (sym is) tt;
+    none = λ j b at y. step_or_not _ y.step (ap makes_step is);
+    world = same ∙ ap (world_after_turn space code w t) (sym is);
+  }
+
+  pub freely_takes : (breaks : List Break) (v : WorldAt State Value Fixed) → GoesFreely space code log breaks t w true v → TurnTakes space code log w t breaks v taken.Step
+  freely_takes breaks v goes = record {
+    taken = ap taken_of (sym goes.0);
+    on = subst GoesOn (sym goes.0) tt;
+    none = goes.1;
+    world = goes.2 ∙ ap (world_after_turn space code w t) (sym goes.0);
+  }
 
   module _ (d : Turned) (marks : Marks) (v : WorldAt State Value Fixed) (m : AreMarks space code w t marks) (is : answer_of_turn (turn_of space code log w t) ≡ Some d)
       (after : v ≡ world_after_turn space code w t (turn_of space code log w t)) where
@@ -109,5 +142,10 @@ module _ {State Op Reply Value Fixed : Type 0} (space : Space Op Reply Value Fix
       first = λ j b l at. misses b (f.first j b l at);
     }
 
-    pub none_hits : (breaks : List Break) → HoldsNone code breaks t d marks v → NoneHits space code log w t breaks
+    none_hits : (breaks : List Break) → HoldsNone code breaks t d marks v → NoneHits space code log w t breaks
     none_hits breaks n j b at = misses b (n j b at)
+
+    pub step_takes : (breaks : List Break) → is_done d ≡ false → HoldsNone code breaks t d marks v → TurnTakes space code log w t breaks v taken.Step
+    step_takes breaks s n =
+        let made = step_made (turn_of space code log w t) d is s in
+        record { taken = step_taken (turn_of space code log w t) made; on = step_on (turn_of space code log w t) made; none = none_hits breaks n; world = after }

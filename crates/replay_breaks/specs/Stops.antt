@@ -104,6 +104,13 @@ module _ {State Op Reply Value Fixed : Type 0} (space : Space Op Reply Value Fix
   TurnStopsAt log w t breaks v stopped.Stuck = ⊥
   TurnStopsAt log w t breaks v (stopped.Fault f) = ((f ≡ fault.NoMemory) ⊎ Diverges log w t f) × (v ≡ w)
 
+  -- a turn of thread t, from world w on, does this, stops no replay, and leads to world v
+  pub record TurnTakes (log : Log) (w : WorldAt State Value Fixed) (t : ℕ) (breaks : List Break) (v : WorldAt State Value Fixed) (x : Taken) : Type 0 where
+    pub taken : x ≡ taken_of (turn_of space code log w t)
+    pub on : GoesOn (turn_of space code log w t)
+    pub none : NoneHits space code log w t breaks
+    pub world : v ≡ world_after_turn space code w t (turn_of space code log w t)
+
   module _ (log : Log) (start : WorldAt State Value Fixed) (order : List ℕ) (breaks : List Break) where
     -- behind the first k turns: each goes on, and behind none a break holds
     pub record IsBehind (k : ℕ) (w : WorldAt State Value Fixed) : Type 0 where

@@ -2,11 +2,9 @@
 
 ghost use Rattle.std.specs.Prelude.{◌≡◌, ◌<◌, ◌||◌, None, IfSome, IfOk, IfErr};
 ghost use Rattle.event_core.specs.World.{world_of};
-ghost use Rattle.replay_laws.specs.Turns.{turn_of, world_after_turn};
 ghost use Rattle.replay_breaks.specs.Tests.{holds_by, IsFirst, HoldsNone};
-ghost use Rattle.replay_breaks.specs.Breaks.{NoneHits};
 ghost use Rattle.replay_breaks.specs.Free.{AreFree};
-ghost use Rattle.replay_breaks.specs.Stops.{GoesOn, taken_of, is_step, is_held, is_passed_over, is_done, TurnStopsAt, StopsAt, StopsRight, StopsFree};
+ghost use Rattle.replay_breaks.specs.Stops.{is_step, is_held, is_passed_over, is_done, TurnTakes, TurnStopsAt, StopsAt, StopsRight, StopsFree};
 
 use crate::ahead::{Pace, go_ahead};
 use crate::breaks::{Break, Stopped};
@@ -124,10 +122,7 @@ fn take_turn<M: Machine<S>, S: ObjectSpace, L: ReadLog, O: OpenWorld<M, S>>(
     ensures reads { L.reads replay.new.log reader.new }
     ensures log { replay.new.log ≡ replay.old.log }
     ensures opens { replay.new.opens ≡ replay.old.opens }
-    ensures taken { IfOk result (λ taken. taken ≡ taken_of (turn_of S.meaning M.code (L.log replay.old.log) (world_of replay.old.world) thread)) }
-    ensures on { IfOk result (λ taken. GoesOn (turn_of S.meaning M.code (L.log replay.old.log) (world_of replay.old.world) thread)) }
-    ensures none { IfOk result (λ taken. NoneHits S.meaning M.code (L.log replay.old.log) (world_of replay.old.world) thread breaks.now) }
-    ensures world { IfOk result (λ taken. world_of replay.new.world ≡ world_after_turn S.meaning M.code (world_of replay.old.world) thread (turn_of S.meaning M.code (L.log replay.old.log) (world_of replay.old.world) thread)) }
+    ensures takes { IfOk result (TurnTakes S.meaning M.code (L.log replay.old.log) (world_of replay.old.world) thread breaks.now (world_of replay.new.world)) }
     ensures stops { IfErr result (TurnStopsAt S.meaning M.code (L.log replay.old.log) (world_of replay.old.world) thread breaks.now (world_of replay.new.world)) }
 {
     let marks = marks_of(alloc, replay.world(), thread);
@@ -167,10 +162,7 @@ fn turn_on<M: Machine<S>, S: ObjectSpace, L: ReadLog, O: OpenWorld<M, S>>(
     ensures reads { L.reads replay.new.log reader.new }
     ensures log { replay.new.log ≡ replay.old.log }
     ensures opens { replay.new.opens ≡ replay.old.opens }
-    ensures taken { IfOk result (λ taken. taken ≡ taken_of (turn_of S.meaning M.code (L.log replay.old.log) (world_of replay.old.world) thread)) }
-    ensures on { IfOk result (λ taken. GoesOn (turn_of S.meaning M.code (L.log replay.old.log) (world_of replay.old.world) thread)) }
-    ensures none { IfOk result (λ taken. NoneHits S.meaning M.code (L.log replay.old.log) (world_of replay.old.world) thread breaks.now) }
-    ensures world { IfOk result (λ taken. world_of replay.new.world ≡ world_after_turn S.meaning M.code (world_of replay.old.world) thread (turn_of S.meaning M.code (L.log replay.old.log) (world_of replay.old.world) thread)) }
+    ensures takes { IfOk result (TurnTakes S.meaning M.code (L.log replay.old.log) (world_of replay.old.world) thread breaks.now (world_of replay.new.world)) }
     ensures free { IfOk result (λ taken. AreFree M.code (L.log replay.old.log) (world_of replay.new.world) breaks.now free.new) }
     ensures stops { IfErr result (TurnStopsAt S.meaning M.code (L.log replay.old.log) (world_of replay.old.world) thread breaks.now (world_of replay.new.world)) }
 {

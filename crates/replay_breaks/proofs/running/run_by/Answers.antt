@@ -6,7 +6,7 @@ use Rattle.event_core.proofs.SoundSteps.{steps_most}
 use Rattle.replay_laws.specs.Turns.{turn_of, world_after_turn}
 use Rattle.replay_gate.proofs.Rounds.{thread_in_order, turn_grows, turn_keeps, least}
 use Rattle.replay_breaks.specs.Breaks.{NoneHits}
-use Rattle.replay_breaks.specs.Stops.{GoesOn, taken_of, is_step, TurnStopsAt, IsBehind}
+use Rattle.replay_breaks.specs.Stops.{GoesOn, is_step, TurnTakes, TurnStopsAt, IsBehind}
 use Rattle.replay_breaks.specs.Free.{AreFree}
 use Rattle.replay_breaks.specs.Rounds.{IsInRound}
 use Rattle.replay_breaks.proofs.Rounds.{steps_taken, at_length, turn_on, in_turn, round_start, round_again, of_round, round_on, ends_so, sticks_so}
@@ -55,9 +55,9 @@ loop-thread-preserved g c =
     let t = get_or order k 0 in
     let inv = c.loop-thread.invariant in
     let on = turn_on space code log start order breaks k t w v inv.behind (thread_in_order order (length start.threads) k 0 c.loop-thread-test.true)
-    (subst (λ r. GoesOn (turn_of space code (g.L.ReadLog.log r) w t)) inv.log c.in-Ok.ensures.on)
-    (subst (λ r. NoneHits space code (g.L.ReadLog.log r) w t breaks) inv.log c.in-Ok.ensures.none)
-    (subst (λ r. v ≡ world_after_turn space code w t (turn_of space code (g.L.ReadLog.log r) w t)) inv.log c.in-Ok.ensures.world) in
+    (subst (λ r. GoesOn (turn_of space code (g.L.ReadLog.log r) w t)) inv.log c.in-Ok.ensures.takes.on)
+    (subst (λ r. NoneHits space code (g.L.ReadLog.log r) w t breaks) inv.log c.in-Ok.ensures.takes.none)
+    (subst (λ r. v ≡ world_after_turn space code w t (turn_of space code (g.L.ReadLog.log r) w t)) inv.log c.in-Ok.ensures.takes.world) in
     record {
       free = subst (λ y. AreFree code (g.L.ReadLog.log y) v breaks c.turn_on.new.free) inv.log c.in-Ok.ensures.free;
       reads = c.turn_on.ensures.reads;
@@ -115,8 +115,8 @@ loop-made-smaller-then-next-count-2 g c =
     let w = world_of c.loop-made.replay.world in
     let v = world_of c.turn_on-then-next-count-2.new.replay.world in
     let t = c.loop-made.next in
-    let is = c.is_step.ensures ∙ ap is_step c.in-Ok-turn_on.ensures.taken ∙ steps_taken (turn_of space code log w t) in
-    let after = c.in-Ok-turn_on.ensures.world in
+    let is = c.is_step.ensures ∙ ap is_step c.in-Ok-turn_on.ensures.takes.taken ∙ steps_taken (turn_of space code log w t) in
+    let after = c.in-Ok-turn_on.ensures.takes.world in
     rw c.either-made.ensures
     (least c.loop-made.made c.is_step.result c.count-count.result t (all_steps code w.threads) (all_steps code v.threads) c.if-next-count-2.true
     (steps_most space code v.threads v.memory c.turn_on-then-next-count-2.new.replay.world.sound)
@@ -139,11 +139,8 @@ loop-made-preserved-then-next-count-2 g c =
     let x = c.in-Ok-turn_on.taken in
     let t = c.loop-made.next in
     let within : t < length start.threads = let l = c.if-next-count-2.true in let n = inv.count in omega (arith, l, n) in
-    let r = round_on space code log start order breaks t made held x w v inv.round within
-    (subst (λ y. GoesOn (turn_of space code (g.L.ReadLog.log y) w t)) inv.log c.in-Ok-turn_on.ensures.on)
-    (subst (λ y. NoneHits space code (g.L.ReadLog.log y) w t breaks) inv.log c.in-Ok-turn_on.ensures.none)
-    (subst (λ y. x ≡ taken_of (turn_of space code (g.L.ReadLog.log y) w t)) inv.log c.in-Ok-turn_on.ensures.taken)
-    (subst (λ y. v ≡ world_after_turn space code w t (turn_of space code (g.L.ReadLog.log y) w t)) inv.log c.in-Ok-turn_on.ensures.world) in
+    let takes = subst (λ y. TurnTakes space code (g.L.ReadLog.log y) w t breaks v x) inv.log c.in-Ok-turn_on.ensures.takes in
+    let r = round_on space code log start order breaks t made held x w v inv.round within takes.on takes.none takes.taken takes.world in
     let steps = c.either-made.ensures ∙ ap (λ b. made || b) c.is_step.ensures in
     let holds = c.either-held.ensures ∙ ap (λ b. held || b) c.is_held.ensures in
     record {

@@ -1,8 +1,9 @@
-use Rattle.std.proofs.Common.{sym, ◌∙◌, subst}
+use Rattle.std.proofs.Common.{sym, ap, ◌∙◌, subst}
 use Rattle.event_core.specs.World.{world_of}
+use Rattle.replay_laws.specs.Turns.{turn_of, world_after_turn}
 use Rattle.replay_breaks.specs.Marks.{AreMarks}
 use Rattle.replay_breaks.specs.Tests.{IsFirst, HoldsNone}
-use Rattle.replay_breaks.proofs.Taking.{fault_stops, first_hits, none_hits}
+use Rattle.replay_breaks.proofs.Taking.{fault_stops, first_hits, passed_takes, done_is, done_takes, step_takes}
 use Rattle.replay_breaks.proofs.running.take_turn.Goals as goal
 
 pub returns-else-is_passed_over-clause-stops : goal.returns-else-is_passed_over-clause-stops
@@ -26,8 +27,8 @@ returns-in-Some-clause-stops g c =
       c.in-Ok.ensures.world,
     )
 
-pub returns-in-None-clause-none : goal.returns-in-None-clause-none
-returns-in-None-clause-none g c =
+pub returns-in-None-clause-takes : goal.returns-in-None-clause-takes
+returns-in-None-clause-takes g c =
     let space = g.S.ObjectSpace.meaning in
     let code = g.M.Machine.code in
     let w = world_of c.args.replay.now.world in
@@ -37,4 +38,18 @@ returns-in-None-clause-none g c =
     let marks = c.marks_of-marks.result in
     let m = subst (λ x. AreMarks space code (world_of x) t marks) c.world.ensures.same c.marks_of-marks.ensures in
     let none = subst (λ x. HoldsNone code c.args.breaks.now t d marks (world_of x)) c.world-else-is_done.ensures.same (c.first_that_holds.ensures.none c.in-None.is) in
-    none_hits space code (g.L.ReadLog.log c.args.replay.now.log) w t d marks v m c.in-Ok.ensures.ok c.in-Ok.ensures.world c.args.breaks.now none
+    step_takes space code (g.L.ReadLog.log c.args.replay.now.log) w t d marks v m c.in-Ok.ensures.ok c.in-Ok.ensures.world c.args.breaks.now (sym c.is_done.ensures ∙ c.if-is_done.false) none
+
+pub returns-then-is_passed_over-clause-takes : goal.returns-then-is_passed_over-clause-takes
+returns-then-is_passed_over-clause-takes g c =
+    passed_takes g.S.ObjectSpace.meaning g.M.Machine.code (g.L.ReadLog.log c.args.replay.now.log) (world_of c.args.replay.now.world) c.args.thread c.in-Err.fault c.args.breaks.now (world_of c.turn_by.new.self.world) c.in-Err.ensures.refused
+    (sym c.is_passed_over.ensures ∙ c.if-is_passed_over.true) c.in-Err.ensures.unchanged
+
+pub returns-then-is_done-clause-takes : goal.returns-then-is_done-clause-takes
+returns-then-is_done-clause-takes g c =
+    let space = g.S.ObjectSpace.meaning in
+    let code = g.M.Machine.code in
+    let log = g.L.ReadLog.log c.args.replay.now.log in
+    let w = world_of c.args.replay.now.world in
+    let is = done_is (turn_of space code log w c.args.thread) c.in-Ok.turned c.in-Ok.ensures.ok (sym c.is_done.ensures ∙ c.if-is_done.true) in
+    done_takes space code log w c.args.thread c.args.breaks.now (world_of c.turn_by.new.self.world) is (c.in-Ok.ensures.world ∙ ap (world_after_turn space code w c.args.thread) is)
