@@ -1,8 +1,7 @@
 -- Of seats that have the calls of their threads.
-use Rattle.std.proofs.Common.{◌≡◌, ℕ, ◌+◌, List, [], ◌∷◌, length, map, refl, sym, ap, ◌∙◌, subst, arith}
+use Rattle.std.proofs.Common.{◌≡◌, ◌⊎◌, ℕ, ◌+◌, List, [], ◌∷◌, length, map, refl, sym, ap, ◌∙◌, subst, arith, inl, inr}
 use Rattle.std.specs.List.{All, AllZip}
 use Rattle.std.proofs.lemmas.List.Elements.{All-nil, All-cons, All-head, All-tail}
-use Rattle.rw_objects.specs.declared.entry.Entry.{Entry}
 use Rattle.shared_parts.specs.declared.call.Call.{Call}
 use Rattle.shared_parts.specs.Calls.{Part, part_of, entries_in, IsNumbered, AreNew, AreParts}
 use Rattle.shared_threads.specs.Jobs.{IsWorked}
@@ -28,6 +27,28 @@ module _ {Op Reply State : Type 0} where
     pub all_new : (js : List Job) → AreNew (map seat js) → All (λ j. (seat j).calls ≡ []) js
     all_new [] n = All-nil (λ j. (seat j).calls ≡ [])
     all_new (j ∷ js) n = All-cons (λ j. (seat j).calls ≡ []) j js n.0 (all_new js n.1)
+
+    -- the seat stays as it was, and no calls lead to what the thread has then
+    abbrev pub IsLeftOut : (leads : ℕ → State → List (Call Op Reply) → State → Type 0) → Job → Job → Type 0
+    IsLeftOut leads j k = (seat k ≡ seat j) × leads (seat j).thread (state j) [] (state k)
+
+    -- the calls that a seat has lead to what its thread has then, also where it is left out, since it then has none
+    pub one_worked : (leads : ℕ → State → List (Call Op Reply) → State → Type 0) (j k : Job) → IsWorked leads (seat j) (state j) (seat k) (state k) ⊎ IsLeftOut leads j k
+        → (seat j).calls ≡ [] → IsWorked leads (seat j) (state j) (seat k) (state k)
+    one_worked leads j k (inl worked) new = worked
+    one_worked leads j k (inr left) new = record {
+      thread = ap (λ s. s.thread) left.0;
+      led = subst (λ cs. leads (seat j).thread (state j) cs (state k)) (sym (ap (λ s. s.calls) left.0 ∙ new)) left.1;
+    }
+
+    pub all_worked : (leads : ℕ → State → List (Call Op Reply) → State → Type 0) (js ks : List Job)
+        → AllZip (λ j k. IsWorked leads (seat j) (state j) (seat k) (state k) ⊎ IsLeftOut leads j k) js ks → All (λ j. (seat j).calls ≡ []) js
+        → AllZip (λ j k. IsWorked leads (seat j) (state j) (seat k) (state k)) js ks
+    all_worked leads [] [] z new = tt
+    all_worked leads [] (k ∷ ks) z new = absurd z
+    all_worked leads (j ∷ js) [] z new = absurd z
+    all_worked leads (j ∷ js) (k ∷ ks) z new =
+        (one_worked leads j k z.0 (All-head (λ j. (seat j).calls ≡ []) j js new), all_worked leads js ks z.1 (All-tail (λ j. (seat j).calls ≡ []) j js new))
 
     pub same_numbers : (leads : ℕ → State → List (Call Op Reply) → State → Type 0) (b : ℕ) (js ks : List Job) → AllZip (λ j k. IsWorked leads (seat j) (state j) (seat k) (state k)) js ks
         → IsNumbered b (map seat js) → IsNumbered b (map seat ks)

@@ -1,6 +1,6 @@
 //! Threads that are asked for one by one, so that it is known for which task the system made none.
 
-ghost use Rattle.std.specs.Prelude.{◌<◌, IfOk, length};
+ghost use Rattle.std.specs.Prelude.{◌<◌, ◌⊎◌, IfOk, length};
 ghost use Rattle.std.specs.List.{All, AllZip};
 
 use std::alloc::AllocError;
@@ -26,27 +26,28 @@ pub(crate) trait Tasks {
         requires { begins task }
         ensures { leads task result };
 
-    /// What a task comes to for which the system made no thread. `stays` says what of it is as it was.
+    /// What a task comes to for which the system made no thread. `stays` says what of it is as it was, and what is not.
     fn leave_out(&self, task: Self::Task) -> Self::Task
         requires { begins task }
-        ensures leads { leads task result }
-        ensures stays { stays task result };
+        ensures { stays task result };
 }
 
-/// That a task leads to what its thread gives back.
+/// That a task comes to what its thread gives back: to what its work leads to, or to what is left of it.
 #[derive(Drop)]
-struct LeadsFrom<A: Tasks> {
+struct ComesFrom<A: Tasks> {
     task: Snapshot<A::Task>,
 }
 
-impl<A: Tasks> Promise<A::Task> for LeadsFrom<A> {
-    ghost kept_by = { λ p r. A.leads p.task.value r };
+impl<A: Tasks> Promise<A::Task> for ComesFrom<A> {
+    ghost use Rattle.std.specs.Prelude.{◌⊎◌};
+
+    ghost kept_by = { λ p r. A.leads p.task.value r ⊎ A.stays p.task.value r };
 }
 
-/// What a task comes to: it is left out where it is the one for which no thread was made.
+/// What a task comes to: it is left out where it is the one for which no thread was made, and worked where it is not.
 fn work_one<A: Tasks>(work: &A, refused: &AtomicUsize, number: usize, task: A::Task) -> A::Task
     requires { A.begins task }
-    ensures { A.leads task result }
+    ensures { A.leads task result ⊎ A.stays task result }
 {
     if refused.load(Ordering::SeqCst) == number {
         work.leave_out(task)
@@ -79,7 +80,7 @@ fn work_in<'s, E, A: Tasks + Sync, R: Threads>(
     mut tasks: Vec<A::Task>,
 ) -> Result<Vec<A::Task>, AllocError>
     requires { All A.begins tasks.items }
-    ensures { IfOk result (λ done. AllZip A.leads tasks.items done.items) }
+    ensures { IfOk result (λ done. AllZip (λ x y. A.leads x y ⊎ A.stays x y) tasks.items done.items) }
 {
     if tasks.len() < 2 {
         return work_first(work, tasks);
@@ -88,14 +89,14 @@ fn work_in<'s, E, A: Tasks + Sync, R: Threads>(
         unreachable!()
     };
     let number = tasks.len();
-    let leads: LeadsFrom<A> = LeadsFrom {
+    let comes: ComesFrom<A> = ComesFrom {
         task: Snapshot::of(&task),
     };
     let asked = scope.spawn_with(
-        leads,
+        comes,
         move || -> A::Task
             requires { A.begins task }
-            ensures { A.leads task result }
+            ensures { A.leads task result ⊎ A.stays task result }
         { work_one(work, refused, number, task) },
     );
     let (mut done, last) = match asked {
@@ -121,7 +122,7 @@ pub(crate) fn work_each<A: Tasks + Sync, R: Threads + Wait>(
     tasks: Vec<A::Task>,
 ) -> Result<Vec<A::Task>, AllocError>
     requires { All A.begins tasks.items }
-    ensures { IfOk result (λ done. AllZip A.leads tasks.items done.items) }
+    ensures { IfOk result (λ done. AllZip (λ x y. A.leads x y ⊎ A.stays x y) tasks.items done.items) }
 {
     // The first task, whose number is 0, is not asked for.
     let refused = AtomicUsize::new(0);
@@ -131,7 +132,7 @@ pub(crate) fn work_each<A: Tasks + Sync, R: Threads + Wait>(
         rt,
         move |scope| -> Result<Vec<A::Task>, AllocError>
             requires { All A.begins tasks.items }
-            ensures { IfOk result (λ done. AllZip A.leads tasks.items done.items) }
+            ensures { IfOk result (λ done. AllZip (λ x y. A.leads x y ⊎ A.stays x y) tasks.items done.items) }
         { work_in(rt, scope, work, refused, tasks) },
     )
 }

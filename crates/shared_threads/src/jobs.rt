@@ -90,7 +90,7 @@ where
 
     ghost leads = { λ j k. IsWorked W.leads j.seat j.state k.seat k.state };
 
-    ghost stays = { λ j k. k.seat ≡ j.seat };
+    ghost stays = { λ j k. (k.seat ≡ j.seat) × W.leads j.seat.thread j.state [] k.state };
 
     fn work(&self, task: Job<S, J, W::State>) -> Job<S, J, W::State> {
         let Job { mut seat, state } = task;
