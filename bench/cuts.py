@@ -1,13 +1,23 @@
 #!/usr/bin/env python3
 """Compares runs by groups of instructions with runs step by step, over random modules and cuts.
 
-usage: cuts.py PROGRAM [--count N] [--from SEED]
+usage: cuts.py PROGRAM [WREPLAY_BENCH] [--count N] [--from SEED]
 
 Each of N modules (20,000) has a random function over locals, a memory, blocks, loops, branches and calls; its number is the seed that
 makes it. It is recorded up to a random number of steps by three schedules: in one stretch, cut at random places, and step by step, where
 a thread that has ended is picked between two steps. A stretch is made by groups, a single step is made plainly. All three must write
-the same pieces and the same report, and so must a replay of the pieces in turns and by threads. It prints up to how many steps were asked
-for and how the threads ended, and ends with status 1 and the number of the module at the first that differ.
+the same pieces and the same report, and so must a replay of the pieces in turns and by threads.
+
+Of every fourth module more is compared, of a thread that is stopped behind a random number of its steps, most often while it runs:
+- the view of the longer recording, whose replay is stopped there: the steps and accesses, where the thread and its callers stand,
+  versions, reads and bytes. The view of the end of a recording of so many single steps must show the same;
+- its locals, globals and operands, which no view shows: a recording that goes there in one stretch, and from there to the thread's end
+  (or 3,000 steps) by single steps, must write the same pieces and report as one by one stretch and as one by single steps;
+- where WREPLAY_BENCH is given, the end of a recording of that thread with no other, in one stretch: where it comes within 100,000
+  steps, `WREPLAY_BENCH machine` must write the same steps and the same outcome.
+
+It prints up to how many steps were asked for, how the threads ended, and what was compared, and ends with status 1 and the number of
+the module at the first that differ.
 """
 
 import argparse
@@ -27,6 +37,13 @@ SIGNS = {I32: (0xC0, 0xC1), I64: (0xC2, 0xC3, 0xC4)}
 LOADS = {I32: (0x28, 0x2C, 0x2D, 0x2E, 0x2F), I64: (0x29, 0x30, 0x31, 0x32, 0x33, 0x34, 0x35)}
 STORES = {I32: (0x36, 0x3A, 0x3B), I64: (0x37, 0x3C, 0x3D, 0x3E)}
 PLAN = "wreplay plan 1\nthread run\nthread idle\n"
+ALONE_PLAN = "wreplay plan 1\nthread run\n"
+# Of one module of so many more is compared, and so many bytes are shown.
+STOPPED = 4
+SHOWN = 4608
+# The steps behind a stretch that are compared at most, and those of a thread alone.
+FURTHER = 3000
+MOST_ALONE = 100_000
 
 
 def leb(number):
@@ -200,35 +217,118 @@ def recorded(program, files, steps, more):
     return written_by([program, "record", *files[:2], "--schedule", files[2], "--steps", str(steps), *more])
 
 
+def report_and_pieces(program, files, steps):
+    return recorded(program, files, steps, ["--report"]), recorded(program, files, steps, [])
+
+
+class Compared:
+    """What was compared of a thread that was stopped, and how often."""
+
+    def __init__(self, program, bench, folder):
+        self.program, self.bench, self.folder = program, bench, folder
+        self.plan = written(folder, "plan", PLAN)
+        self.alone_plan = written(folder, "alone.plan", ALONE_PLAN)
+        self.counts = collections.Counter()
+
+    def record(self, wasm, schedule, steps):
+        return report_and_pieces(self.program, (wasm, self.plan, written(self.folder, "stopped.schedule", schedule)), steps)
+
+    def view(self, wasm, pieces, more):
+        """The lines of a view, but for why it stopped and for thread 1, which may stand before its one step."""
+        path = written(self.folder, "stopped.pieces", pieces)
+        words = [self.program, "view", wasm, self.plan, path, "--names", "--len", str(SHOWN), *more]
+        return [it for it in written_by(words).decode().splitlines()[1:] if not it.startswith("thread 1")]
+
+    def views(self, wasm, pieces, stop):
+        """Whether the view of a step of the pieces shows what single steps come to."""
+        shown = self.view(wasm, pieces, ["--step", f"0.{stop}"])
+        _, single = self.record(wasm, "go 1 1\n" + "go 0 1\ngo 1 1\n" * stop, stop)
+        self.counts["views of a step"] += 1
+        thread = shown[0].split()
+        if "running" in thread:
+            self.counts["of these of a thread that runs"] += 1
+            self.counts["of these within a called function"] += thread.count("from") > 1
+        return shown == self.view(wasm, single, [])
+
+    def goes_on(self, wasm, stop):
+        """Whether single steps behind a stretch come to what one stretch and single steps alone come to."""
+        steps = stop + FURTHER
+        singles = "go 0 1\ngo 1 1\n"
+        stretch = f"go 1 1\ngo 0 {stop}\n" + singles * FURTHER
+        answers = [self.record(wasm, it, steps) for it in (stretch, f"go 1 1\ngo 0 {steps}\n", "go 1 1\n" + singles * steps)]
+        self.counts["stretches with single steps behind them"] += 1
+        self.counts["of these up to the thread's end"] += b"thread 0 running" not in answers[0][0]
+        return answers[0] == answers[1] == answers[2]
+
+    def alone(self, wasm):
+        """Whether the thread alone comes to the end of its recording."""
+        if self.bench is None:
+            return True
+        schedule = written(self.folder, "alone.schedule", f"go 0 {MOST_ALONE}\n")
+        pieces = recorded(self.program, (wasm, self.alone_plan, schedule), MOST_ALONE, [])
+        path = written(self.folder, "alone.pieces", pieces)
+        view = written_by([self.program, "view", wasm, self.alone_plan, path, "--len", "0"]).decode().splitlines()[1].split()
+        if view[6] == "running":
+            self.counts["threads that did not end alone"] += 1
+            return True
+        self.counts["threads alone"] += 1
+        return written_by([self.bench, "machine", wasm, self.alone_plan]).decode().split() == [view[3]] + view[6:]
+
+    def differ(self, draw, wasm, pieces, steps):
+        """What differs of the thread; None where nothing does."""
+        stop = draw.randint(1, steps)
+        if not self.views(wasm, pieces, stop):
+            return f"the views of step {stop} differ"
+        if not self.goes_on(wasm, stop):
+            return f"the runs behind step {stop} differ"
+        if not self.alone(wasm):
+            return "the thread alone differs"
+        return None
+
+
+def pieces_of(program, files, draw, steps):
+    """The report and the pieces that all schedules write, and the replays; or what differs."""
+    wasm, plan, folder = files
+    answers = []
+    for text in schedules(draw, steps):
+        answers.append(report_and_pieces(program, (wasm, plan, written(folder, "schedule", text)), steps))
+    if answers[0] != answers[1] or answers[0] != answers[2]:
+        return answers[0], "the runs differ"
+    pieces = written(folder, "pieces", answers[0][1])
+    for more in [], ["--threads"]:
+        if written_by([program, "replay", wasm, plan, pieces, *more]) != answers[0][0]:
+            return answers[0], f"the replay {' '.join(more)} differs"
+    return answers[0], None
+
+
 def main():
     words = argparse.ArgumentParser(description=__doc__.split("\n", 1)[0])
     words.add_argument("program")
+    words.add_argument("bench", nargs="?")
     words.add_argument("--count", type=int, default=20000)
     words.add_argument("--from", type=int, default=0, dest="first")
     asked = words.parse_args()
     ends, all_steps = collections.Counter(), 0
     with tempfile.TemporaryDirectory() as folder:
-        plan = written(folder, "plan", PLAN)
+        compared = Compared(asked.program, asked.bench, folder)
         for seed in range(asked.first, asked.first + asked.count):
             draw = random.Random(-1 - seed)
             steps = draw.choice((draw.randint(1, 60), draw.randint(1, 3000)))
             wasm = written(folder, "module.wasm", module(seed))
-            answers = []
-            for at, text in enumerate(schedules(draw, steps)):
-                files = wasm, plan, written(folder, "schedule", text)
-                answers.append((recorded(asked.program, files, steps, ["--report"]), recorded(asked.program, files, steps, [])))
-            if answers[0] != answers[1] or answers[0] != answers[2]:
-                sys.exit(f"module {seed} up to step {steps}: the runs differ")
-            pieces = written(folder, "pieces", answers[0][1])
-            for more in [], ["--threads"]:
-                if written_by([asked.program, "replay", wasm, plan, pieces, *more]) != answers[0][0]:
-                    sys.exit(f"module {seed} up to step {steps}: the replay {' '.join(more)} differs")
-            line = next(it for it in answers[0][0].decode().splitlines() if it.startswith("thread 0"))
+            (report, pieces), fault = pieces_of(asked.program, (wasm, compared.plan, folder), draw, steps)
+            if fault is None and seed % STOPPED == 0:
+                fault = compared.differ(draw, wasm, pieces, steps)
+            if fault is not None:
+                sys.exit(f"module {seed} up to step {steps}: {fault}")
+            line = next(it for it in report.decode().splitlines() if it.startswith("thread 0"))
             ends[" ".join(line.split()[2:4]) if "trap" in line else line.split()[2]] += 1
             all_steps += steps
     print(f"{asked.count} modules, {all_steps} steps at most, as they ended:")
     for end, count in ends.most_common():
         print(f"{count:8} {end}")
+    print("compared of every fourth:")
+    for what, count in compared.counts.items():
+        print(f"{count:8} {what}")
 
 
 main()
