@@ -28,7 +28,7 @@ module _ {Op Reply State : Type 0} where
     all_new [] n = All-nil (λ j. (seat j).calls ≡ [])
     all_new (j ∷ js) n = All-cons (λ j. (seat j).calls ≡ []) j js n.0 (all_new js n.1)
 
-    -- the seat stays as it was, and no calls lead to what the thread has then
+    -- the seat stays as it was, and the empty list of calls leads to what the thread has then
     abbrev pub IsLeftOut : (leads : ℕ → State → List (Call Op Reply) → State → Type 0) → Job → Job → Type 0
     IsLeftOut leads j k = (seat k ≡ seat j) × leads (seat j).thread (state j) [] (state k)
 

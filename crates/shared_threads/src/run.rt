@@ -18,8 +18,8 @@ use striped_objects::Striped;
 use wasm_types::NoMemory;
 
 /// Runs a thread for each of the states, over a space that is opened for so many: the history of all their calls, and
-/// what each has then. A state for which the system makes no thread is left out: its seat enters no call, and to what it has
-/// then no calls lead.
+/// what each has then. A state for which the system makes no thread is left out: its seat enters no call, and the empty
+/// list of calls leads to what it has then.
 pub fn run_threads<
     S: Striped + Drop + Send + Sync,
     J: Opening<S, S::Value, S::Fixed> + Send + Sync,

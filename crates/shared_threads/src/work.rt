@@ -21,7 +21,8 @@ pub trait Work<S: Striped> {
 
     ghost leads: { ℕ → Self.State → List (Call S.Op S.Reply) → Self.State → Type 0 };
 
-    /// What a thread has then which the system did not make: its seat enters no call.
+    /// What a thread has then which the system did not make: its seat enters no call, and the empty list of calls leads
+    /// to it.
     fn leave_out<J: Opening<S, S::Value, S::Fixed>>(
         &self,
         seat: &Seat<S, J>,
