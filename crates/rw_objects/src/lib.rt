@@ -3,6 +3,7 @@
 
 mod count;
 mod entry;
+mod entry_log;
 mod few;
 mod machine;
 mod next;
@@ -14,8 +15,9 @@ mod versions;
 
 pub use count::Count;
 pub use entry::{Entry, Kind};
+pub use entry_log::{EntryLog, NoLog};
 pub use few::Few;
-pub use machine::Machine;
+pub use machine::{Machine, Made};
 pub use next::Next;
 pub use space::ObjectSpace;
 pub use touch::{Found, Mode, Touch};
