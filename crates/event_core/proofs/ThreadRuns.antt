@@ -1,11 +1,11 @@
 -- The steps of a thread over its memory are picks of its world.
-use Rattle.std.proofs.Common.{◌≡◌, ℕ, zero, suc, ◌+◌, ◌==◌, ◌<◌, ◌≤◌, true, cond, List, [], ◌∷◌, ◌++◌, length, get_or, slice_set, Some, None, slice_get, refl, sym, ◌∙◌, ap, subst, arith, add-one, inl, inr}
+use Rattle.std.proofs.Common.{◌≡◌, ℕ, zero, suc, ◌+◌, ◌==◌, ◌<◌, ◌≤◌, true, cond, List, [], ◌∷◌, ◌++◌, length, get_or, slice_set, Some, slice_get, refl, sym, ◌∙◌, ap, subst, arith, inl, inr}
 use Rattle.std.proofs.lemmas.Bool.Decides.{eqb_tells}
 use Rattle.std.proofs.lemmas.List.{length-set, get_or-set_same}
 use Rattle.rw_objects.specs.declared.entry.Entry.{Entry}
 use Rattle.rw_objects.specs.declared.next.Next.{Next}
 use Rattle.rw_objects.specs.declared.next.Next.TheVariants as next
-use Rattle.rw_objects.specs.Alone.{AloneAt, alone_with, after_next, after_step, Goes, IsOver, IsSoundAlone}
+use Rattle.rw_objects.specs.Alone.{AloneAt, alone_with, after_next, Goes, IsSoundAlone}
 use Rattle.rw_objects.specs.Code.{Code, CodeLaws}
 use Rattle.rw_objects.specs.Memory.{Memory, memory_after, entry_of}
 use Rattle.rw_objects.specs.Space.{Space, SpaceLaws, reply_of}
@@ -24,7 +24,7 @@ use Rattle.event_core.specs.Threads.{ThreadAt, ThreadIs, thread_of, threads_of, 
 use Rattle.event_core.specs.World.{WorldAt, step_of_pick, world_after, world_after_step}
 use Rattle.event_core.proofs.LocalRuns.{get_same, nothing_changed, changed_twice}
 use Rattle.event_core.proofs.SoundSteps.{local_kept, event_kept, steps_most}
-use Rattle.event_core.proofs.Threads.{step_some, seen_at, map_set, is_at}
+use Rattle.event_core.proofs.Threads.{step_some, seen_at, map_set}
 
 some_same : {A : Type 0} (a b : A) → Some a ≡ Some b → a ≡ b
 some_same a b h = cc
@@ -139,7 +139,7 @@ module _ {State Op Reply Value Fixed Seen : Type 0} (space : Space Op Reply Valu
         let there : slice_get us t ≡ Some (thread_behind r.state r.events x) = ap (λ ts. slice_get ts t) r.leads ∙ get_same (thread_behind r.state r.events) w.threads t x is in
         let z : x.places + 0 ≡ x.places = omega arith in
         let g : Goes space code add n (alone_with x.state w.memory log x.places) b =
-            subst (λ k. Goes space code add n (alone_with x.state w.memory log k) b) z (goes_later x.places n (alone_with x.state w.memory log 0) (alone_with r.state after new r.events) (r.goes x is)) in
+        subst (λ k. Goes space code add n (alone_with x.state w.memory log k) b) z (goes_later x.places n (alone_with x.state w.memory log 0) (alone_with r.state after new r.events) (r.goes x is)) in
         let k = ran t n w x log b is g (most (thread_behind r.state r.events x) there) in
         record {
           run = k.run;
