@@ -19,3 +19,8 @@ pub record ArePacked (count : ℕ) (bytes : List ℕ) : Type 0 where
   pub spelled : bytes ≡ flat_map entry_bytes (entries_in count bytes)
   pub many : length (entries_in count bytes) ≡ count
   pub fits : All FitsEntry (entries_in count bytes)
+
+-- entries, and for how many bytes more there is room
+pub record WriterAt : Type 0 where
+  pub entries : List Entry
+  pub room : ℕ

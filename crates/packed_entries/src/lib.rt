@@ -3,6 +3,8 @@
 
 mod packed;
 mod reader;
+mod writer;
 
 pub use packed::PackedEntries;
 pub use reader::EntriesReader;
+pub use writer::EntriesWriter;

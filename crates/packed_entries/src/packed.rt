@@ -1,8 +1,10 @@
 //! Entries in the bytes by which pieces spell them.
 
 ghost use Rattle.std.specs.Prelude.{◌≡◌, ◌++◌, ◌∷◌, ◌==◌, [], length, OnOk, OnErr};
+ghost use Rattle.packed_entries.specs.EntriesIn.{entries_in, ArePacked};
 
 use crate::reader::EntriesReader;
+use crate::writer::EntriesWriter;
 use log_pieces::Packed;
 use rw_objects::Entry;
 use std::alloc::Global;
@@ -69,6 +71,22 @@ impl PackedEntries {
                 Err(fault)
             }
         }
+    }
+
+    /// The entries that bytes spell.
+    pub(crate) fn of(bytes: Vec<u8>, count: usize) -> PackedEntries
+        requires { ArePacked count bytes.items }
+        ensures { result ≡ entries_in count bytes.items }
+    {
+        PackedEntries { bytes, count }
+    }
+
+    /// A writer that goes on behind the entries. It takes no memory.
+    pub fn into_writer(self) -> EntriesWriter
+        ensures { result.entries ≡ self }
+    {
+        let PackedEntries { bytes, count } = self;
+        EntriesWriter::new(bytes, count)
     }
 
     /// A reader of the entries, from the first on.

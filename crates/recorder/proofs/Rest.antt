@@ -59,12 +59,12 @@ module _ {State Op Reply Value Fixed : Type 0} (space : Space Op Reply Value Fix
   all_passed steps w p zero e = refl
   all_passed steps w p (suc n) e = let more = all_passed steps w p n e in rw e (omega (arith, more))
 
-list_same : (f : List Entry → List Entry) (lists : List (List Entry)) (t : ℕ) → t < length lists → list_at (change_at lists t f) t ≡ f (list_at lists t)
+pub list_same : (f : List Entry → List Entry) (lists : List (List Entry)) (t : ℕ) → t < length lists → list_at (change_at lists t f) t ≡ f (list_at lists t)
 list_same f [] t h = absurd (omega arith)
 list_same f (x ∷ xs) zero h = refl
 list_same f (x ∷ xs) (suc t) h = list_same f xs t (omega arith)
 
-list_other : (f : List Entry → List Entry) (lists : List (List Entry)) (by t : ℕ) → by ≢ t → list_at (change_at lists by f) t ≡ list_at lists t
+pub list_other : (f : List Entry → List Entry) (lists : List (List Entry)) (by t : ℕ) → by ≢ t → list_at (change_at lists by f) t ≡ list_at lists t
 list_other f [] by t h = refl
 list_other f (x ∷ xs) zero zero h = absurd (h refl)
 list_other f (x ∷ xs) zero (suc t) h = refl
@@ -84,7 +84,7 @@ list_none zero t = refl
 list_none (suc n) zero = refl
 list_none (suc n) (suc t) = list_none n t
 
-list_length : (f : List Entry → List Entry) (lists : List (List Entry)) (by : ℕ) → length (change_at lists by f) ≡ length lists
+pub list_length : (f : List Entry → List Entry) (lists : List (List Entry)) (by : ℕ) → length (change_at lists by f) ≡ length lists
 list_length f [] by = refl
 list_length f (x ∷ xs) zero = refl
 list_length f (x ∷ xs) (suc by) = ap suc (list_length f xs by)

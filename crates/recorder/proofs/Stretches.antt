@@ -13,8 +13,7 @@ use Rattle.event_core.specs.Run.{entries, entries_of_step, world_run}
 use Rattle.replay_laws.proofs.Orders.{world_joined}
 use Rattle.replay_laws.proofs.JoinedRuns.{entries_joined}
 use Rattle.recorder.specs.Picks.{is_taken, step_taken, picks_taken, picks_passed}
-use Rattle.recorder.specs.Recorded.{list_at, IsNoted, IsBatch, AreRecorded}
-use Rattle.recorder.proofs.Batches.{batch_recorded}
+use Rattle.recorder.specs.Recorded.{list_at, IsNoted, AreRecorded}
 use Rattle.recorder.proofs.Rest.{entries_step, world_step, none_taken, all_passed}
 use Rattle.schedules.specs.declared.schedule.Stretch.{Stretch}
 use Rattle.schedules.specs.Stretches.{picks_of, picks_in}
@@ -123,10 +122,6 @@ module _ {State Op Reply Value Fixed : Type 0} (space : Space Op Reply Value Fix
       → AreRecorded space code steps (replicate m p) w v one two a b → AreRecorded space code steps (replicate n p) v u two three b c → AreRecorded space code steps (replicate (m + n) p) w u one three a c
   stretch_joined p m n w v u one two three a b c r s =
       subst (λ ps. AreRecorded space code steps ps w u one three a c) (stretch_parts m n p) (recorded_joined (replicate m p) (replicate n p) w v u one two three a b c r s)
-
-  pub batch_joined : CodeLaws space code → (p : Pick) (m n : ℕ) (w v u : WorldAt State Value Fixed) (one two : List (List Entry)) (a b : ℕ)
-      → AreRecorded space code steps (replicate m p) w v one two a b → IsBatch space code steps p n v u → AreRecorded space code steps (replicate (m + n) p) w u one two a b
-  batch_joined rules p m n w v u one two a b r batch = stretch_joined p m n w v u one two two a b b r (batch_recorded space code rules steps p n v u two b batch)
 
   -- the stretches of a list, and one more
   pub one_more_stretch : (ss : List Stretch) (d : Stretch) (i : ℕ) (s : Stretch) (w v u : WorldAt State Value Fixed) (one two three : List (List Entry)) (a b c : ℕ) → i < length ss → s ≡ get_or ss i d

@@ -1,5 +1,5 @@
 -- What a recording notes of picks.
-use Rattle.std.specs.Prelude.{◌≡◌, ◌⊎◌, ◌+◌, ◌<◌, ◌≤◌, ◌==◌, ◌++◌, length, ℕ, cond, List, [], ◌∷◌, Option, Some, None, slice_get, slice_index_or}
+use Rattle.std.specs.Prelude.{◌≡◌, ◌≢◌, ◌⊎◌, ◌+◌, ◌<◌, ◌≤◌, ◌==◌, ◌++◌, length, ℕ, cond, List, [], ◌∷◌, Option, Some, None, slice_get, slice_index_or}
 use Rattle.rw_objects.specs.Code.{Code}
 use Rattle.rw_objects.specs.Space.{Space}
 use Rattle.rw_objects.specs.declared.entry.Entry.{Entry}
@@ -27,18 +27,12 @@ pub record IsNoted (lists news : List (List Entry)) (by : ℕ) (o : Option Stepp
   pub logs : (t : ℕ) → t < length lists → list_at news t ≡ list_at lists t ++ entries_added by t o
   pub len : length news ≡ length lists
 
+-- the lists of the other threads stay
+pub record OthersStay (t : ℕ) (lists news : List (List Entry)) : Type 0 where
+  pub same : (u : ℕ) → u ≢ t → list_at news u ≡ list_at lists u
+  pub len : length news ≡ length lists
+
 module _ {State Op Reply Value Fixed : Type 0} (space : Space Op Reply Value Fixed) (code : Code State Op Reply Fixed) (steps : ℕ) where
-  -- n times a pick: each time its thread goes on by a local step, and has then made no more than so many steps
-  pub record IsBatchOf (p : Pick) (n : ℕ) (w : WorldAt State Value Fixed) : Type 0 where
-    pub goes : p ≡ go_of p.thread
-    pub thread : ThreadAt State
-    pub exists : slice_get w.threads p.thread ≡ Some thread
-    pub within : code.steps thread.state + n ≤ steps
-
-  pub record IsBatch (p : Pick) (n : ℕ) (w v : WorldAt State Value Fixed) : Type 0 where
-    pub run : IsLocalRun space code p.thread n w v
-    pub taken : (n ≡ 0) ⊎ IsBatchOf p n w
-
   -- picks were tried in turn: those that are taken lead from one world to the other, their entries stand behind those of each
   -- thread, and the others were counted
   pub record AreRecorded (ps : List Pick) (w v : WorldAt State Value Fixed) (lists news : List (List Entry)) (before after : ℕ) : Type 0 where

@@ -2,11 +2,13 @@
 
 ghost use Rattle.std.specs.Prelude.{◌≡◌, ◌<◌, ◌∷◌, [], ◌++◌, length, replicate, IfOk, OnOk, OnErr};
 ghost use Rattle.event_core.specs.Threads.{change_at};
+ghost use Rattle.recorder.specs.Recorded.{list_at};
 
-use packed_entries::PackedEntries;
+use packed_entries::{EntriesWriter, PackedEntries};
 use rw_objects::Entry;
 use std::alloc::Global;
 use std::marker::Model;
+use std::mem::replace;
 use wasm_types::NoMemory;
 
 /// The entries of each thread. Contracts see the lists.
@@ -47,6 +49,24 @@ impl Logs {
         ensures err { OnErr result (self.new ≡ self.old) }
     {
         push_at(&mut self.lists, thread as usize, entry)
+    }
+
+    /// Takes a thread's entries out, to go on behind them. None are left there.
+    pub fn take_out(&mut self, thread: u32) -> EntriesWriter
+        requires { thread < length self.old }
+        ensures taken { result.entries ≡ list_at self.old thread }
+        ensures left { self.new ≡ change_at self.old thread (λ entries. []) }
+    {
+        let none = PackedEntries::new(*self.lists.allocator());
+        replace(&mut self.lists[thread as usize], none).into_writer()
+    }
+
+    /// Puts a thread's entries back.
+    pub fn put_back(&mut self, thread: u32, writer: EntriesWriter)
+        requires { thread < length self.old }
+        ensures { self.new ≡ change_at self.old thread (λ entries. writer.entries) }
+    {
+        self.lists[thread as usize] = writer.into_entries();
     }
 
     /// The lists.

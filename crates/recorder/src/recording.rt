@@ -1,11 +1,12 @@
 //! Recording by a schedule.
 
-ghost use Rattle.std.specs.Prelude.{◌≡◌, ◌+◌, ◌^◌, ◌<◌, ◌≤◌, true, false, IfOk, OnOk, length, map, cond, replicate, slice_get, option_map};
+ghost use Rattle.std.specs.Prelude.{◌≡◌, ℕ, ◌∷◌, [], ◌++◌, ◌+◌, ◌^◌, ◌<◌, ◌≤◌, true, false, IfOk, OnOk, length, map, cond, replicate, slice_get, option_map};
 ghost use Rattle.event_core.specs.World.{world_of, world_after};
 ghost use Rattle.event_core.specs.Run.{run_end, IsRun};
 ghost use Rattle.replay_laws.specs.RunLog.{run_log, end_of_thread};
 ghost use Rattle.recorder.specs.Picks.{is_taken, step_taken, picks_taken, picks_passed};
-ghost use Rattle.recorder.specs.Recorded.{IsNoted, IsBatch, AreRecorded};
+ghost use Rattle.recorder.specs.Recorded.{list_at, IsNoted, OthersStay, AreRecorded};
+ghost use Rattle.event_core.specs.ThreadRun.{IsThreadRun};
 ghost use Rattle.recorder.specs.ThreadLogAt.{log_of};
 
 use crate::logs::Logs;
@@ -89,14 +90,36 @@ pub(crate) fn thread_logs<M: Machine<S>, S: ObjectSpace>(
     Ok(logs)
 }
 
-/// Makes local steps by a pick that comes so many times, as many as come one behind the other and as the thread has left.
-/// Answers how many.
-fn local_steps<M: Machine<S>, S: ObjectSpace>(
+/// Makes steps of a thread, local ones and accesses, as many as come, but no more than `most`, and puts their entries behind
+/// those of the thread. Answers how many.
+fn run_thread<M: Machine<S>, S: ObjectSpace>(
     world: &mut World<M, S>,
+    logs: &mut Logs,
+    thread: u32,
+    most: u32,
+) -> Result<u32, NoMemory>
+    requires { thread < length logs.old }
+    ensures ran { IfOk result (λ made. IsThreadRun S.meaning M.code (λ entries entry. entries ++ entry ∷ []) thread made (world_of world.old) (world_of world.new) (list_at logs.old thread) (list_at logs.new thread)) }
+    ensures others { OnOk result (OthersStay thread logs.old logs.new) }
+    ensures few { IfOk result (λ made. made ≤ most) }
+{
+    let mut writer = logs.take_out(thread);
+    let (made, end) = world.run(thread, &mut writer, most);
+    logs.put_back(thread, writer);
+    end?;
+    Ok(made)
+}
+
+/// Makes steps by a pick that comes so many times, as many as come one behind the other and as the thread has left, and notes
+/// their entries. Answers how many. A step that comes alone is left to `try_pick`.
+fn run_steps<M: Machine<S>, S: ObjectSpace>(
+    world: &mut World<M, S>,
+    logs: &mut Logs,
     stretch: Stretch,
     steps: u32,
 ) -> Result<u32, NoMemory>
-    ensures batch { IfOk result (λ made. IsBatch S.meaning M.code steps stretch.pick made (world_of world.old) (world_of world.new)) }
+    requires { length logs.old ≡ length (world_of world.old).threads }
+    ensures recorded { IfOk result (λ made. (passed : ℕ) → AreRecorded S.meaning M.code steps (replicate made stretch.pick) (world_of world.old) (world_of world.new) logs.old logs.new passed passed) }
     ensures few { IfOk result (λ made. made ≤ stretch.times) }
 {
     let thread = stretch.pick.thread;
@@ -106,11 +129,10 @@ fn local_steps<M: Machine<S>, S: ObjectSpace>(
     let Some(made) = world.steps(thread) else {
         return Ok(0);
     };
-    if steps <= made {
+    if stretch.times == 1 || steps <= made {
         return Ok(0);
     }
-    let most = stretch.times.min(steps - made);
-    world.local_run(thread, most)
+    run_thread(world, logs, thread, stretch.times.min(steps - made))
 }
 
 /// Tries a pick that comes so many times: makes its step and notes it, or passes the pick over each time, since a pick that
@@ -151,7 +173,7 @@ fn record_stretch<M: Machine<S>, S: ObjectSpace>(
     let pick = stretch.pick;
     let mut times = stretch.times;
     while times > 0 {
-        let made = local_steps(world, Stretch { pick, times }, steps)?;
+        let made = run_steps(world, logs, Stretch { pick, times }, steps)?;
         times -= made;
         if times > 0 {
             let tried = try_stretch(world, logs, passed, Stretch { pick, times }, steps)?;

@@ -1,5 +1,5 @@
 -- A thread of a plan and its memory before the first step.
-use Rattle.std.proofs.Common.{◌≡◌, ℕ, ◌*◌, ◌<◌, ◌≤◌, inl, inr, true, false, ◌&&◌, Option, Some, None, refl, sym, ◌∙◌, ap, subst, slice_get, arith, List, [], ◌∷◌}
+use Rattle.std.proofs.Common.{◌≡◌, ℕ, ◌+◌, ◌*◌, ◌<◌, ◌≤◌, inl, inr, true, false, ◌&&◌, Option, Some, None, refl, sym, ◌∙◌, ap, subst, slice_get, arith, List, [], ◌∷◌}
 use Rattle.std.specs.Prelude.{option_map}
 use Rattle.std.proofs.lemmas.Bool.{le-leb, cases_lt}
 use Rattle.wasm_types.specs.declared.sizes.TheConstants.{PAGE_SIZE}
@@ -12,9 +12,10 @@ use Rattle.block_objects.specs.declared.limits.MemoryLimits.{MemoryLimits}
 use Rattle.block_objects.specs.Objects.{ObjectAt}
 use Rattle.waiter_queues.specs.Shared.{opening_values}
 use Rattle.block_objects.specs.SharedMemory.{shared_memory}
-use Rattle.event_core.specs.Alone.{alone_with, Goes, IsOver, IsSoundAlone}
+use Rattle.rw_objects.specs.Alone.{IsOver, IsSoundAlone}
+use Rattle.rw_objects.specs.Alone as alone
 use Rattle.event_core.specs.End.{outcome_of}
-use Rattle.event_core.proofs.Alone.{goes_steps}
+use Rattle.rw_objects.proofs.Alone.{goes_steps}
 use Rattle.thread_plan.specs.Plans.{PlanValue}
 use Rattle.thread_plan.specs.declared.planned_thread.PlannedThread.{PlannedThread}
 use Rattle.thread_step.specs.Opening.{instance_of, opening, opening_by, enter}
@@ -23,7 +24,7 @@ use Rattle.thread_code.specs.ThreadCode.{ThreadAt, thread_code, limits_of, sleep
 use Rattle.thread_code.proofs.Machine.{threads_are_machines}
 use Rattle.integer_machine.specs.First.{first_of, beginning}
 use Rattle.wreplay_bench.specs.declared.ended.Ended.{Ended}
-use Rattle.wreplay_bench.specs.Alone.{AloneAt, GoesTo, IsOpening, RunsTo}
+use Rattle.wreplay_bench.specs.Alone.{AloneAt, alone_with, no_entry, Goes, GoesTo, IsOpening, RunsTo}
 
 -- ---- the thread
 
@@ -88,28 +89,33 @@ suited m block t low b =
     let small : t.instance.extent.block ≤ 16 = omega (arith, low, ap (λ x. x.extent.block) b.instance) in
     ap (λ x. x && sleeps_within (t.instance.capacity * PAGE_SIZE) t.state) (le-leb _ _ small) ∙ b.awake (t.instance.capacity * PAGE_SIZE)
 
-pub opens_sound : (m : Module) (plan : PlanValue) (block : ℕ) (a : AloneAt) → block ≤ 12 → IsOpening m plan block a → IsSoundAlone thread_code a
+pub opens_sound : (m : Module) (plan : PlanValue) (block : ℕ) (a : AloneAt) → block ≤ 12 → IsOpening m plan block a → IsSoundAlone thread_code a.thread a.memory
 opens_sound m plan block a low o =
     let b = begun m plan block a.thread o.thread in
     record {
       fixed = sym (ap (λ x. x.fixed) o.memory);
       is_suited = suited m block a.thread low b;
+      others = 0;
+      few = omega arith;
       versions = λ x. omega (arith, ap (λ y. (y.counts x).version) o.memory);
       reads = λ x. omega (arith, ap (λ y. (y.counts x).reads) o.memory);
     }
 
 -- ---- the run
 
-pub runs_to : (m : Module) (plan : PlanValue) (block : ℕ) (first last : AloneAt) (ended : Ended) → IsOpening m plan block first → GoesTo first last → IsOver shared_memory thread_code last → ended.steps ≡ last.thread.steps
+counted : (a b : AloneAt) (made : ℕ) → Goes made a b → b.thread.steps ≡ a.thread.steps + made
+counted a b made g = goes_steps shared_memory thread_code no_entry threads_are_machines made (alone.alone_with a.thread a.memory tt 0) (alone.alone_with b.thread b.memory tt g.0) g.1
+
+pub runs_to : (m : Module) (plan : PlanValue) (block : ℕ) (first last : AloneAt) (ended : Ended) → IsOpening m plan block first → GoesTo first last → IsOver thread_code last.thread → ended.steps ≡ last.thread.steps
     → ended.outcome ≡ outcome_of (thread_code.next last.thread) → RunsTo m plan block ended
 runs_to m plan block first last ended o g over steps outcome =
     let none : first.thread.steps ≡ 0 = (begun m plan block first.thread o.thread).steps in
-    let made : g.0 ≡ ended.steps = omega (arith, none, steps, goes_steps shared_memory thread_code threads_are_machines g.0 first last g.1) in
-    record { first = first; last = last; opens = o; goes = subst (λ n. Goes shared_memory thread_code n first last) made g.1; is_over = over; outcome = outcome }
+    let made : g.0 ≡ ended.steps = omega (arith, none, steps, counted first last g.0 g.1) in
+    record { first = first; last = last; opens = o; goes = subst (λ n. Goes n first last) made g.1; is_over = over; outcome = outcome }
 
 -- as many steps as there are, or as a thread may make
-pub over_behind : (a b : AloneAt) (made most : ℕ) → 1000000000 ≤ most → Goes shared_memory thread_code made a b → (made < most → IsOver shared_memory thread_code b) → IsOver shared_memory thread_code b
+pub over_behind : (a b : AloneAt) (made most : ℕ) → 1000000000 ≤ most → Goes made a b → (made < most → IsOver thread_code b.thread) → IsOver thread_code b.thread
 over_behind a b made most many g all = elim (cases_lt made most) [
   | inl h ↦ all h
-  | inr h ↦ λ _. omega (arith, goes_steps shared_memory thread_code threads_are_machines made a b g, h, many)
+  | inr h ↦ λ _. omega (arith, counted a b made g, h, many)
 ]

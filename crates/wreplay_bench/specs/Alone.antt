@@ -1,5 +1,7 @@
 -- Thread 0 of a plan, which runs over its memory with no other thread.
 use Rattle.std.specs.Prelude.{◌≡◌, ℕ, Some}
+use Rattle.rw_objects.specs.Alone as alone
+use Rattle.rw_objects.specs.declared.entry.Entry.{Entry}
 use Rattle.wasm_types.specs.declared.key.Profile.TheVariants.{Two}
 use Rattle.wasm_types.specs.declared.modules.Module.{Module}
 use Rattle.rw_objects.specs.Counts.{no_counts}
@@ -8,7 +10,6 @@ use Rattle.block_objects.specs.declared.limits.MemoryLimits.{MemoryLimits}
 use Rattle.block_objects.specs.Objects.{ObjectAt}
 use Rattle.block_objects.specs.SharedMemory.{shared_memory}
 use Rattle.waiter_queues.specs.Shared.{opening_values}
-use Rattle.event_core.specs.Alone as alone
 use Rattle.event_core.specs.End.{outcome_of}
 use Rattle.thread_plan.specs.Plans.{PlanValue}
 use Rattle.thread_code.specs.ThreadCode.{ThreadAt, thread_code, limits_of}
@@ -17,15 +18,26 @@ use Rattle.wreplay_bench.specs.declared.alone.Alone.{Alone}
 use Rattle.wreplay_bench.specs.declared.ended.Ended.{Ended}
 
 -- a thread, and the values and the counts of the objects of its memory
-abbrev pub AloneAt : Type 0
-AloneAt = alone.AloneAt ThreadAt ObjectAt MemoryLimits
+pub record AloneAt : Type 0 where
+  pub thread : ThreadAt
+  pub memory : Memory ObjectAt MemoryLimits
+
+abbrev pub alone_with : ThreadAt → Memory ObjectAt MemoryLimits → AloneAt
+alone_with thread memory = record { thread = thread; memory = memory }
 
 abbrev pub alone_of : Alone → AloneAt
-alone_of a = alone.alone_with a.thread.thread (memory_of a.memory)
+alone_of a = alone_with a.thread.thread (memory_of a.memory)
 
--- some number of steps leads from one state to another
+-- nothing is kept of an entry
+abbrev pub no_entry : Unit {0} → Entry → Unit {0}
+no_entry seen entry = seen
+
+-- so many steps lead from one state to another
+abbrev pub Goes : ℕ → AloneAt → AloneAt → Type 0
+Goes made a b = (events : ℕ) × alone.Goes shared_memory thread_code no_entry made (alone.alone_with a.thread a.memory tt 0) (alone.alone_with b.thread b.memory tt events)
+
 abbrev pub GoesTo : AloneAt → AloneAt → Type 0
-GoesTo a b = (made : ℕ) × alone.Goes shared_memory thread_code made a b
+GoesTo a b = (made : ℕ) × Goes made a b
 
 -- the memory with which a thread begins: the segments of its module are written, and no object was touched
 abbrev pub opening_memory : ThreadAt → Memory ObjectAt MemoryLimits
@@ -41,6 +53,6 @@ pub record RunsTo (m : Module) (plan : PlanValue) (block : ℕ) (ended : Ended) 
   pub first : AloneAt
   pub last : AloneAt
   pub opens : IsOpening m plan block first
-  pub goes : alone.Goes shared_memory thread_code ended.steps first last
-  pub is_over : alone.IsOver shared_memory thread_code last
+  pub goes : Goes ended.steps first last
+  pub is_over : alone.IsOver thread_code last.thread
   pub outcome : ended.outcome ≡ outcome_of (thread_code.next last.thread)

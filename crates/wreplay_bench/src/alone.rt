@@ -4,8 +4,7 @@ ghost use Rattle.std.specs.Prelude.{◌≡◌, ◌≤◌, true, IfOk, OnOk};
 ghost use Rattle.rw_objects.specs.Counts.{no_counts};
 ghost use Rattle.rw_objects.specs.Memory.{memory_of, memory_with};
 ghost use Rattle.waiter_queues.specs.Shared.{opening_values};
-ghost use Rattle.block_objects.specs.SharedMemory.{shared_memory};
-ghost use Rattle.event_core.specs.Alone.{IsOver, IsSoundAlone};
+ghost use Rattle.rw_objects.specs.Alone.{IsOver, IsSoundAlone};
 ghost use Rattle.event_core.specs.End.{outcome_of};
 ghost use Rattle.thread_plan.specs.Plans.{IsPlanOf};
 ghost use Rattle.wasm_instance.specs.Segments.{segments_fit};
@@ -19,7 +18,7 @@ use crate::fault::Fault;
 use block_objects::MemoryLimits;
 use event_core::outcome_of;
 use integer_machine::{ThreadState, memory_limits};
-use rw_objects::{Machine, Versioned};
+use rw_objects::{Machine, NoLog, Versioned};
 use std::alloc::Global;
 use thread_plan::Plan;
 use validator::Valid;
@@ -59,7 +58,7 @@ impl<'a> Alone<'a> {
     ) -> Result<Alone<'a>, Fault>
         requires { IsPlanOf valid.now plan.now }
         ensures opening { IfOk result (λ alone. IsOpening valid.now plan.now block (alone_of alone)) }
-        ensures sound { IfOk result (λ alone. IsSoundAlone thread_code (alone_of alone)) }
+        ensures sound { IfOk result (λ alone. IsSoundAlone thread_code (alone_of alone).thread (alone_of alone).memory) }
     {
         // A fact for the prover: blocks have at most 4,096 bytes.
         let _small = block.power();
@@ -76,14 +75,15 @@ impl<'a> Alone<'a> {
     /// Runs the thread until no step comes, or it made as many as a thread may make. Where memory is wanted it stops in
     /// between, and may be run on from there.
     pub fn run(&mut self) -> Result<Ended, NoMemory>
-        requires { IsSoundAlone thread_code (alone_of self.old) }
-        ensures sound { IsSoundAlone thread_code (alone_of self.new) }
+        requires { IsSoundAlone thread_code (alone_of self.old).thread (alone_of self.old).memory }
+        ensures sound { IsSoundAlone thread_code (alone_of self.new).thread (alone_of self.new).memory }
         ensures goes { GoesTo (alone_of self.old) (alone_of self.new) }
-        ensures over { OnOk result (IsOver shared_memory thread_code (alone_of self.new)) }
+        ensures over { OnOk result (IsOver thread_code (alone_of self.new).thread) }
         ensures steps { IfOk result (λ ended. ended.steps ≡ self.new.thread.thread.steps) }
         ensures outcome { IfOk result (λ ended. ended.outcome ≡ outcome_of (thread_code.next self.new.thread.thread)) }
     {
-        self.thread.run_alone(&mut self.memory, u32::MAX)?;
+        let (_, end) = self.thread.run(&mut self.memory, &mut NoLog, u32::MAX);
+        end?;
         Ok(Ended {
             steps: self.thread.steps(),
             outcome: outcome_of(self.thread.next()),

@@ -2,7 +2,7 @@ use Rattle.std.proofs.Common.{◌≡◌, ◌+◌, ◌-◌, replicate, subst, ari
 use Rattle.std.proofs.lemmas.List.{length-replicate}
 use Rattle.event_core.specs.World.{world_of}
 use Rattle.recorder.specs.Recorded.{AreRecorded}
-use Rattle.recorder.proofs.Stretches.{none_recorded, batch_joined, stretch_joined, still_threads, few_counted}
+use Rattle.recorder.proofs.Stretches.{none_recorded, stretch_joined, still_threads, few_counted}
 use Rattle.recorder.proofs.recording.record_stretch.Goals as goal
 
 pub loop-times-init : goal.loop-times-init
@@ -17,8 +17,8 @@ pub try_stretch-requires-clause-threads : goal.try_stretch-requires-clause-threa
 try_stretch-requires-clause-threads g c =
     let space = g.S.ObjectSpace.meaning in
     let code = g.M.Machine.code in
-    let batch = batch_joined space code c.args.steps g.met.M.Machine.laws c.args.stretch.pick (c.args.stretch.times - c.loop-times.times) c.in_ok-made.made (world_of c.args.world.now) (world_of c.loop-times.world) (world_of c.local_steps.new.world) c.args.logs.now c.loop-times.logs c.args.passed.now c.loop-times.passed c.loop-times.invariant.recorded c.in_ok-made.ensures.batch in
-    still_threads space code c.args.steps _ _ (world_of c.local_steps.new.world) _ _ _ _ batch c.requires.threads
+    let batch = stretch_joined space code c.args.steps c.args.stretch.pick (c.args.stretch.times - c.loop-times.times) c.in_ok-made.made (world_of c.args.world.now) (world_of c.loop-times.world) (world_of c.run_steps.new.world) c.args.logs.now c.loop-times.logs c.run_steps.new.logs c.args.passed.now c.loop-times.passed c.loop-times.passed c.loop-times.invariant.recorded (c.in_ok-made.ensures.recorded c.loop-times.passed) in
+    still_threads space code c.args.steps _ _ (world_of c.run_steps.new.world) _ _ _ _ batch c.requires.threads
 
 pub try_stretch-requires-clause-room : goal.try_stretch-requires-clause-room
 try_stretch-requires-clause-room g c =
@@ -35,7 +35,7 @@ loop-times-preserved-then-times-gt0 g c =
     let code = g.M.Machine.code in
     let start = world_of c.args.world.now in
     let v = world_of c.loop-times.world in
-    let w = world_of c.local_steps.new.world in
+    let w = world_of c.run_steps.new.world in
     let u = world_of c.try_stretch.new.world in
     let p = c.args.stretch.pick in
     let before = c.args.stretch.times - c.loop-times.times in
@@ -43,10 +43,10 @@ loop-times-preserved-then-times-gt0 g c =
     let few = c.in_ok-made.ensures.few in
     let tried = c.in_ok-tried.ensures.few in
     let more : c.args.stretch.times - (c.loop-times.times - c.in_ok-made.made - c.in_ok-tried.tried) ≡ before + c.in_ok-made.made + c.in_ok-tried.tried = omega (arith, left, few, tried) in
-    let batch = batch_joined space code c.args.steps g.met.M.Machine.laws p before c.in_ok-made.made start v w c.args.logs.now c.loop-times.logs c.args.passed.now c.loop-times.passed c.loop-times.invariant.recorded c.in_ok-made.ensures.batch in
+    let batch = stretch_joined space code c.args.steps p before c.in_ok-made.made start v w c.args.logs.now c.loop-times.logs c.run_steps.new.logs c.args.passed.now c.loop-times.passed c.loop-times.passed c.loop-times.invariant.recorded (c.in_ok-made.ensures.recorded c.loop-times.passed) in
     record {
       left = omega (arith, left);
-      recorded = rw more (stretch_joined space code c.args.steps p (before + c.in_ok-made.made) c.in_ok-tried.tried start w u c.args.logs.now c.loop-times.logs c.try_stretch.new.logs c.args.passed.now c.loop-times.passed c.try_stretch.new.passed batch c.in_ok-tried.ensures.recorded);
+      recorded = rw more (stretch_joined space code c.args.steps p (before + c.in_ok-made.made) c.in_ok-tried.tried start w u c.args.logs.now c.run_steps.new.logs c.try_stretch.new.logs c.args.passed.now c.loop-times.passed c.try_stretch.new.passed batch c.in_ok-tried.ensures.recorded);
     }
 
 pub loop-times-preserved : goal.loop-times-preserved
@@ -57,7 +57,7 @@ loop-times-preserved g c =
     let more : c.args.stretch.times - (c.loop-times.times - c.in_ok-made.made) ≡ before + c.in_ok-made.made = omega (arith, left, few) in
     record {
       left = omega (arith, left);
-      recorded = rw more (batch_joined g.S.ObjectSpace.meaning g.M.Machine.code c.args.steps g.met.M.Machine.laws c.args.stretch.pick before c.in_ok-made.made (world_of c.args.world.now) (world_of c.loop-times.world) (world_of c.local_steps.new.world) c.args.logs.now c.loop-times.logs c.args.passed.now c.loop-times.passed c.loop-times.invariant.recorded c.in_ok-made.ensures.batch);
+      recorded = rw more (stretch_joined g.S.ObjectSpace.meaning g.M.Machine.code c.args.steps c.args.stretch.pick before c.in_ok-made.made (world_of c.args.world.now) (world_of c.loop-times.world) (world_of c.run_steps.new.world) c.args.logs.now c.loop-times.logs c.run_steps.new.logs c.args.passed.now c.loop-times.passed c.loop-times.passed c.loop-times.invariant.recorded (c.in_ok-made.ensures.recorded c.loop-times.passed));
     }
 
 pub returns : goal.returns

@@ -1,5 +1,5 @@
 use Rattle.rw_objects.specs.Memory.{memory_of}
-use Rattle.event_core.specs.Alone.{alone_with}
+use Rattle.wreplay_bench.specs.Alone.{alone_with}
 use Rattle.wreplay_bench.proofs.Opening.{opens, opens_sound}
 use Rattle.wreplay_bench.proofs.alone.Alone.new.Goals as goal
 
