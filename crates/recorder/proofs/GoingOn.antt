@@ -1,5 +1,5 @@
 -- One step more of the threads that can go on.
-use Rattle.std.proofs.Common.{◌≡◌, ℕ, zero, suc, ◌+◌, ◌<◌, ◌≤◌, ◌&&◌, ◌||◌, Bool, true, false, cond, List, [], ◌∷◌, ◌++◌, length, Option, Some, None, slice_get, refl, sym, ap, ◌∙◌, subst, arith, inl, inr, append_assoc, nat_lt}
+use Rattle.std.proofs.Common.{◌≡◌, ℕ, ◌+◌, ◌<◌, ◌&&◌, ◌||◌, Bool, true, false, cond, List, [], ◌∷◌, ◌++◌, length, Option, Some, None, slice_get, refl, sym, ap, ◌∙◌, subst, arith, inl, inr, append_assoc, nat_lt}
 use Rattle.std.proofs.lemmas.List.{append-nil}
 use Rattle.std.proofs.lemmas.Bool.{ltb-true}
 use Rattle.std.proofs.lemmas.Bool.Decides.{eqb_tells}
@@ -16,7 +16,7 @@ use Rattle.event_core.specs.declared.pick.Input.TheVariants.{Go, TimeOut}
 use Rattle.event_core.specs.declared.step.PickStep.{PickStep}
 use Rattle.event_core.specs.declared.step.PickStep.TheVariants as step
 use Rattle.event_core.specs.declared.step.StepFault.{StepFault}
-use Rattle.event_core.specs.Threads.{ThreadAt, change_at, thread_after_local, thread_after_reply}
+use Rattle.event_core.specs.Threads.{ThreadAt, thread_after_local, thread_after_reply}
 use Rattle.event_core.specs.declared.step.StepFault.TheVariants as fault
 use Rattle.event_core.specs.PickStep.{step_of_next, is_enabled}
 use Rattle.event_core.specs.World.{WorldAt, step_of_thread, step_of_pick, world_after, world_after_step, has_steps_left}

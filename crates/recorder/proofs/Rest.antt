@@ -1,5 +1,5 @@
 -- What is left of a recording.
-use Rattle.std.proofs.Common.{slice_set, get_or, ◌≡◌, ◌≢◌, ℕ, zero, suc, ◌+◌, ◌<◌, ◌==◌, ◌&&◌, Bool, true, false, cond, List, [], ◌∷◌, ◌++◌, length, Option, Some, None, slice_get, replicate, sym, ap, ◌∙◌, refl, arith, inl, inr}
+use Rattle.std.proofs.Common.{slice_set, get_or, ◌≡◌, ◌≢◌, ℕ, zero, suc, ◌<◌, ◌==◌, ◌&&◌, Bool, true, false, cond, List, [], ◌∷◌, ◌++◌, length, Some, replicate, sym, ap, ◌∙◌, refl, arith, inl, inr}
 use Rattle.std.specs.Prelude.{Result, Ok, Err, OnOk, OnErr}
 use Rattle.std.proofs.lemmas.List.{append-nil}
 use Rattle.std.proofs.lemmas.Bool.Decides.{eqb_tells}
@@ -9,14 +9,11 @@ use Rattle.rw_objects.specs.declared.entry.Entry.{Entry}
 use Rattle.event_core.specs.declared.pick.Pick.{Pick}
 use Rattle.event_core.specs.declared.step.PickStep.{PickStep}
 use Rattle.event_core.specs.declared.step.PickStep.TheVariants as step
-use Rattle.event_core.specs.declared.step.Stepped.{Stepped}
 use Rattle.event_core.specs.declared.step.Stepped.TheVariants as stepped
 use Rattle.event_core.specs.Threads.{change_at}
 use Rattle.event_core.specs.World.{WorldAt, step_of_pick, world_after, answer_of_step}
 use Rattle.recorder.specs.Picks.{is_taken, picks_taken, picks_passed}
 use Rattle.event_core.specs.Run.{entries, entries_of_step, world_run, IsRun}
-use Rattle.event_core.specs.PickStep.{is_enabled}
-use Rattle.event_core.specs.World.{has_steps_left}
 use Rattle.recorder.specs.Picks.{step_taken, if_ok}
 use Rattle.recorder.specs.Recorded.{list_at, entries_added, IsNoted}
 

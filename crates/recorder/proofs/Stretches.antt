@@ -1,15 +1,15 @@
 -- Picks that are recorded one behind the other.
-use Rattle.std.proofs.Common.{◌≡◌, ℕ, zero, suc, ◌+◌, ◌<◌, ◌≤◌, Bool, true, false, cond, List, [], ◌∷◌, ◌++◌, length, take, get_or, replicate, Some, None, refl, sym, ap, ◌∙◌, subst, arith, append_assoc}
+use Rattle.std.proofs.Common.{◌≡◌, ℕ, zero, suc, ◌+◌, ◌<◌, ◌≤◌, Bool, true, false, cond, List, [], ◌∷◌, ◌++◌, length, take, get_or, replicate, refl, sym, ap, ◌∙◌, subst, arith, append_assoc}
 use Rattle.std.proofs.Math.Seq.{take-suc}
 use Rattle.std.proofs.lemmas.List.{append-nil, take_all}
 use Rattle.std.proofs.lemmas.Grind.{flat_map-append}
 use Rattle.event_core.proofs.Places.{length_run}
 use Rattle.rw_objects.specs.declared.entry.Entry.{Entry}
-use Rattle.rw_objects.specs.Code.{Code, CodeLaws}
+use Rattle.rw_objects.specs.Code.{Code}
 use Rattle.rw_objects.specs.Space.{Space}
 use Rattle.event_core.specs.declared.pick.Pick.{Pick}
-use Rattle.event_core.specs.World.{WorldAt, step_of_pick, world_after}
-use Rattle.event_core.specs.Run.{entries, entries_of_step, world_run}
+use Rattle.event_core.specs.World.{WorldAt, world_after}
+use Rattle.event_core.specs.Run.{entries, world_run}
 use Rattle.replay_laws.proofs.Orders.{world_joined}
 use Rattle.replay_laws.proofs.JoinedRuns.{entries_joined}
 use Rattle.recorder.specs.Picks.{is_taken, step_taken, picks_taken, picks_passed}

@@ -1,5 +1,5 @@
 -- A pick whose step is made.
-use Rattle.std.proofs.Common.{◌≡◌, ℕ, ◌&&◌, true, false, cond, Some, None, slice_get, refl, sym, ap, ◌∙◌}
+use Rattle.std.proofs.Common.{◌≡◌, ℕ, ◌&&◌, true, cond, None, slice_get, ap, ◌∙◌}
 use Rattle.rw_objects.specs.Code.{Code}
 use Rattle.rw_objects.specs.Space.{Space}
 use Rattle.event_core.specs.declared.pick.Pick.{Pick}

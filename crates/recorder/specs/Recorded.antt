@@ -1,14 +1,12 @@
 -- What a recording notes of picks.
-use Rattle.std.specs.Prelude.{◌≡◌, ◌≢◌, ◌⊎◌, ◌+◌, ◌<◌, ◌≤◌, ◌==◌, ◌++◌, length, ℕ, cond, List, [], ◌∷◌, Option, Some, None, slice_get, slice_index_or}
+use Rattle.std.specs.Prelude.{◌≡◌, ◌≢◌, ◌+◌, ◌<◌, ◌==◌, ◌++◌, length, ℕ, cond, List, [], ◌∷◌, Option, Some, None, slice_index_or}
 use Rattle.rw_objects.specs.Code.{Code}
 use Rattle.rw_objects.specs.Space.{Space}
 use Rattle.rw_objects.specs.declared.entry.Entry.{Entry}
 use Rattle.event_core.specs.declared.pick.Pick.{Pick}
 use Rattle.event_core.specs.declared.step.Stepped.{Stepped}
 use Rattle.event_core.specs.declared.step.Stepped.TheVariants as stepped
-use Rattle.event_core.specs.LocalRun.{go_of, IsLocalRun}
 use Rattle.event_core.specs.Run.{entries, world_run}
-use Rattle.event_core.specs.Threads.{ThreadAt}
 use Rattle.event_core.specs.World.{WorldAt}
 use Rattle.recorder.specs.Picks.{picks_taken, picks_passed}
 

@@ -122,6 +122,9 @@ fn run_steps<M: Machine<S>, S: ObjectSpace>(
     ensures recorded { IfOk result (λ made. (passed : ℕ) → AreRecorded S.meaning M.code steps (replicate made stretch.pick) (world_of world.old) (world_of world.new) logs.old logs.new passed passed) }
     ensures few { IfOk result (λ made. made ≤ stretch.times) }
 {
+    if stretch.times == 1 {
+        return Ok(0);
+    }
     let thread = stretch.pick.thread;
     let Input::Go = stretch.pick.input else {
         return Ok(0);
@@ -129,10 +132,11 @@ fn run_steps<M: Machine<S>, S: ObjectSpace>(
     let Some(made) = world.steps(thread) else {
         return Ok(0);
     };
-    if stretch.times == 1 || steps <= made {
+    if steps <= made {
         return Ok(0);
     }
-    run_thread(world, logs, thread, stretch.times.min(steps - made))
+    let most = stretch.times.min(steps - made);
+    run_thread(world, logs, thread, most)
 }
 
 /// Tries a pick that comes so many times: makes its step and notes it, or passes the pick over each time, since a pick that

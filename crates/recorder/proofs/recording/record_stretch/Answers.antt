@@ -13,6 +13,9 @@ loop-times-init g c =
       recorded = rw none (none_recorded g.S.ObjectSpace.meaning g.M.Machine.code c.args.steps (world_of c.args.world.now) c.args.logs.now c.args.passed.now);
     }
 
+pub run_steps-requires : goal.run_steps-requires
+run_steps-requires g c = still_threads g.S.ObjectSpace.meaning g.M.Machine.code c.args.steps _ _ (world_of c.loop-times.world) _ _ _ _ c.loop-times.invariant.recorded c.requires.threads
+
 pub try_stretch-requires-clause-threads : goal.try_stretch-requires-clause-threads
 try_stretch-requires-clause-threads g c =
     let space = g.S.ObjectSpace.meaning in

@@ -1,4 +1,3 @@
-use Rattle.std.proofs.Common.{◌≡◌}
 use Rattle.event_core.specs.World.{world_of}
 use Rattle.recorder.specs.Rounds.{GoesBy}
 use Rattle.recorder.proofs.rounds.finish.Given as goal

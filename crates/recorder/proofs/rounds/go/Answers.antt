@@ -1,4 +1,4 @@
-use Rattle.std.proofs.Common.{◌≡◌, ◌∙◌, ap, refl, sym, cond}
+use Rattle.std.proofs.Common.{◌∙◌, ap, refl, sym, cond}
 use Rattle.event_core.specs.declared.pick.Input.TheVariants.{Go}
 use Rattle.event_core.specs.World.{world_of, world_after}
 use Rattle.replay_laws.specs.Turns.{pick_of}

@@ -1,6 +1,6 @@
-use Rattle.std.proofs.Common.{◌≡◌, ◌∙◌, length, map, ap, sym, subst}
+use Rattle.std.proofs.Common.{◌∙◌, length, map, ap, subst}
 use Rattle.event_core.specs.World.{world_of}
-use Rattle.recorder.specs.Rounds.{GoesBy, IsDone}
+use Rattle.recorder.specs.Rounds.{GoesBy}
 use Rattle.recorder.proofs.rounds.record_rest.Goals as goal
 
 pub thread_logs-requires : goal.thread_logs-requires

@@ -1,6 +1,6 @@
-use Rattle.std.proofs.Common.{◌≡◌, length, refl, sym, ◌∙◌, ap, arith}
+use Rattle.std.proofs.Common.{refl, sym, ◌∙◌, arith}
 use Rattle.event_core.specs.World.{world_of}
-use Rattle.recorder.proofs.GoingOn.{goes_nowhere, goes_on, none_more, none_goes}
+use Rattle.recorder.proofs.GoingOn.{goes_nowhere, goes_on, none_more}
 use Rattle.recorder.proofs.rounds.round.Goals as goal
 
 pub loop-thread-init : goal.loop-thread-init
