@@ -6,3 +6,4 @@ pub mod Sound
 pub mod Trying
 pub mod Alone
 pub mod Standing
+pub mod BlockMoves
