@@ -1,8 +1,10 @@
 //! Instructions, and the group that the table of their function has at each of them.
 
 use crate::validation_rows::{DROP, END};
-use instruction_groups::{Group, WordOp};
-use wasm_types::{BinaryOp, Comparison, IndexOp, Instr, Numeric, Plain, ValType, Value};
+use instruction_groups::{Group, OneWordOp, WordOp};
+use wasm_types::{
+    BinaryOp, Comparison, IndexOp, Instr, Narrow, Numeric, Plain, UnaryOp, ValType, Value,
+};
 
 /// The local 0, and the local 3.
 const FIRST: Instr = Instr::Index(IndexOp::LocalGet, 0);
@@ -12,6 +14,9 @@ const THIRD: Instr = Instr::Index(IndexOp::LocalGet, 3);
 const SET: Instr = Instr::Index(IndexOp::LocalSet, 4);
 
 const TEE: Instr = Instr::Index(IndexOp::LocalTee, 4);
+
+/// A local whose number takes two bytes.
+const MANY: Instr = Instr::Index(IndexOp::LocalGet, 300);
 
 const ADD: Instr = Instr::Numeric(Numeric::Binary(ValType::I32, BinaryOp::Add));
 
@@ -27,6 +32,22 @@ const DIVIDE: Instr = Instr::Numeric(Numeric::Binary(ValType::I32, BinaryOp::Div
 
 const XOR_64: Instr = Instr::Numeric(Numeric::Binary(ValType::I64, BinaryOp::Xor));
 
+const ADD_64: Instr = Instr::Numeric(Numeric::Binary(ValType::I64, BinaryOp::Add));
+
+const SHIFT: Instr = Instr::Numeric(Numeric::Binary(ValType::I32, BinaryOp::ShiftRightUnsigned));
+
+const SHIFT_64: Instr = Instr::Numeric(Numeric::Binary(ValType::I64, BinaryOp::ShiftRightSigned));
+
+const IS_ZERO: Instr = Instr::Numeric(Numeric::IsZero(ValType::I32));
+
+const LEADING: Instr = Instr::Numeric(Numeric::Unary(ValType::I32, UnaryOp::LeadingZeros));
+
+const SIGN: Instr = Instr::Numeric(Numeric::ExtendLow(Narrow::I32Of8));
+
+const WRAP: Instr = Instr::Numeric(Numeric::Wrap);
+
+const SELECT: Instr = Instr::Plain(Plain::Select);
+
 const EQUAL: Instr = Instr::Numeric(Numeric::Compare(ValType::I32, Comparison::Equal));
 
 const AT_LEAST: Instr = Instr::Numeric(Numeric::Compare(
@@ -37,8 +58,8 @@ const AT_LEAST: Instr = Instr::Numeric(Numeric::Compare(
 /// A constant of all bits.
 const HIGHEST: u64 = 0xffff_ffff_ffff_ffff;
 
-/// Each group is as long as the instructions let it be. The locals 0, 3 and 4 are i32, local 1 is an i64.
-pub(crate) static GROUPED: [(Instr, Group); 46] = [
+/// Each group is as long as the instructions let it be. The locals 0, 3 and 4 are i32, the locals 1 and 300 are i64.
+pub(crate) static GROUPED: [(Instr, Group); 74] = [
     // Two locals, and what is given to a local, to a local and on top, and on top.
     (FIRST, Group::LocalsSet(WordOp::Add32, 0, 3, 4)),
     (THIRD, Group::LocalSet(WordOp::Add32, 3, 4)),
@@ -48,11 +69,11 @@ pub(crate) static GROUPED: [(Instr, Group); 46] = [
     (THIRD, Group::LocalTee(WordOp::Sub32, 3, 4)),
     (SUB, Group::TwoTee(WordOp::Sub32, 4)),
     (TEE, Group::Tee(4)),
-    (DROP, Group::Plain),
+    (DROP, Group::Discard),
     (FIRST, Group::Locals(WordOp::Mul32, 0, 3)),
     (THIRD, Group::Local(WordOp::Mul32, 3)),
     (MUL, Group::Two(WordOp::Mul32)),
-    (DROP, Group::Plain),
+    (DROP, Group::Discard),
     // A local and a constant.
     (FIRST, Group::LocalFixedSet(WordOp::And32, 0, 4, 5)),
     (
@@ -68,7 +89,7 @@ pub(crate) static GROUPED: [(Instr, Group); 46] = [
     ),
     (OR, Group::TwoTee(WordOp::Or32, 4)),
     (TEE, Group::Tee(4)),
-    (DROP, Group::Plain),
+    (DROP, Group::Discard),
     (
         Instr::Index(IndexOp::LocalGet, 1),
         Group::LocalFixed(WordOp::Xor64, 1, HIGHEST),
@@ -78,27 +99,72 @@ pub(crate) static GROUPED: [(Instr, Group); 46] = [
         Group::Fixed(WordOp::Xor64, HIGHEST),
     ),
     (XOR_64, Group::Two(WordOp::Xor64)),
-    (DROP, Group::Plain),
+    (DROP, Group::Discard),
     // A group behind an operand that stays.
     (FIRST, Group::Get(0)),
     (THIRD, Group::LocalFixed(WordOp::GeU32, 3, 1)),
     (Instr::Const(Value::I32(1)), Group::Fixed(WordOp::GeU32, 1)),
     (AT_LEAST, Group::Two(WordOp::GeU32)),
-    (DROP, Group::Plain),
-    (DROP, Group::Plain),
-    (Instr::Const(Value::I32(1)), Group::Plain),
+    (DROP, Group::Discard),
+    (DROP, Group::Discard),
+    (
+        Instr::Const(Value::I32(1)),
+        Group::Constant(ValType::I32, 1),
+    ),
     (Instr::Const(Value::I32(2)), Group::Fixed(WordOp::Eq32, 2)),
     (EQUAL, Group::Two(WordOp::Eq32)),
-    (DROP, Group::Plain),
-    // What can trap, and what has one operand, is in no group.
+    (DROP, Group::Discard),
+    // Two locals of 64 bits, one of which has a high number.
+    (
+        Instr::Index(IndexOp::LocalGet, 1),
+        Group::LocalsSet(WordOp::Add64, 1, 300, 300),
+    ),
+    (MANY, Group::LocalSet(WordOp::Add64, 300, 300)),
+    (ADD_64, Group::TwoSet(WordOp::Add64, 300)),
+    (Instr::Index(IndexOp::LocalSet, 300), Group::Set(300)),
+    // Shifts.
+    (FIRST, Group::Locals(WordOp::ShrU32, 0, 3)),
+    (THIRD, Group::Local(WordOp::ShrU32, 3)),
+    (SHIFT, Group::Two(WordOp::ShrU32)),
+    (DROP, Group::Discard),
+    (MANY, Group::LocalFixed(WordOp::ShrS64, 300, 3)),
+    (Instr::Const(Value::I64(3)), Group::Fixed(WordOp::ShrS64, 3)),
+    (SHIFT_64, Group::Two(WordOp::ShrS64)),
+    (DROP, Group::Discard),
+    // Constants by themselves.
+    (
+        Instr::Const(Value::I64(HIGHEST)),
+        Group::Constant(ValType::I64, HIGHEST),
+    ),
+    (DROP, Group::Discard),
+    (
+        Instr::Const(Value::I32(0)),
+        Group::Constant(ValType::I32, 0),
+    ),
+    (DROP, Group::Discard),
+    // An operation on a local, and what is given to a local, to a local and on top, and on top.
+    (FIRST, Group::OneLocalSet(OneWordOp::IsZero32, 0, 4)),
+    (IS_ZERO, Group::OneSet(OneWordOp::IsZero32, 4)),
+    (SET, Group::Set(4)),
+    (FIRST, Group::OneLocalTee(OneWordOp::LeadingZeros32, 0, 4)),
+    (LEADING, Group::OneTee(OneWordOp::LeadingZeros32, 4)),
+    (TEE, Group::Tee(4)),
+    (SIGN, Group::One(OneWordOp::Extend8To32)),
+    (DROP, Group::Discard),
+    (MANY, Group::OneLocal(OneWordOp::Wrap, 300)),
+    (WRAP, Group::One(OneWordOp::Wrap)),
+    (DROP, Group::Discard),
+    // A choice.
+    (FIRST, Group::Get(0)),
+    (THIRD, Group::Get(3)),
+    (FIRST, Group::Get(0)),
+    (SELECT, Group::Select),
+    (DROP, Group::Discard),
+    // What can trap is in no group.
     (FIRST, Group::Get(0)),
     (THIRD, Group::Get(3)),
     (DIVIDE, Group::Plain),
-    (DROP, Group::Plain),
-    (FIRST, Group::Get(0)),
-    (Instr::Numeric(Numeric::IsZero(ValType::I32)), Group::Plain),
-    (DROP, Group::Plain),
-    (Instr::Plain(Plain::Nop), Group::Plain),
+    (DROP, Group::Discard),
     (Instr::Plain(Plain::Nop), Group::Plain),
     (END, Group::Plain),
 ];

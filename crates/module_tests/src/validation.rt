@@ -18,6 +18,15 @@ const MODULE: &str = "\
     0a140112\
     04017e007f027f017e41000e03090102000b";
 
+/// The same with 300 locals of i64 at its end.
+const MANY_LOCALS: &str = "\
+    0061736d01000000010601\
+    60027f7e00\
+    03020100040401700000050401030101\
+    060b027e0042070b7f0141070b07050101770000\
+    0a150113\
+    04017e007f027fac027e41000e03090102000b";
+
 /// A function and a shared memory, exported under one name.
 const TWO_EXPORTS: &str = "\
     0061736d01000000010401600000030201000504010301010709020177000001770200\
@@ -153,7 +162,7 @@ fn has_groups(alloc: Global) -> Result<bool, ValidFault> {
     for (instr, _) in &GROUPED {
         code.push(*instr)?;
     }
-    let valid = validate(alloc, with_code(alloc, MODULE, &code)?)?;
+    let valid = validate(alloc, with_code(alloc, MANY_LOCALS, &code)?)?;
     let Some(groups) = valid.groups(0) else {
         return Ok(false);
     };
