@@ -1,6 +1,6 @@
 -- A thread of a plan and its memory before the first step.
 use Rattle.std.proofs.Common.{◌≡◌, ℕ, ◌+◌, ◌*◌, ◌<◌, ◌≤◌, inl, inr, true, false, ◌&&◌, Option, Some, None, refl, sym, ◌∙◌, ap, subst, slice_get, arith, List, [], ◌∷◌}
-use Rattle.std.specs.Prelude.{option_map}
+use Rattle.std.specs.Prelude.{option_map, Result, Ok, OnOk}
 use Rattle.std.proofs.lemmas.Bool.{le-leb, cases_lt}
 use Rattle.wasm_types.specs.declared.sizes.TheConstants.{PAGE_SIZE}
 use Rattle.wasm_types.specs.declared.value.Value.{Value}
@@ -119,3 +119,7 @@ over_behind a b made most many g all = elim (cases_lt made most) [
   | inl h ↦ all h
   | inr h ↦ λ _. omega (arith, counted a b made g, h, many)
 ]
+
+-- what holds where a run came to its end
+pub of_ok : {X E : Type 0} {P : Type 0} (r : Result X E) (x : X) → r ≡ Ok x → OnOk r P → P
+of_ok {P = P} r x is h = subst (λ y. OnOk y P) is h
