@@ -57,13 +57,13 @@ fn stop_of(replay: &OfScripts<'_>, stopped: Option<Stopped>) -> Stop {
     }
 }
 
-/// Whether these objects have other versions than before.
+/// Whether these objects, of which each second counts, have other versions than before.
 fn is_written(objects: ObjectRange, before: [Count; 3], now: [Count; 3]) -> bool {
     for object in 0..3u32 {
         let at = object as usize;
         let is_among = object >= objects.from
             && object < objects.until
-            && (objects.every == Every::Object || (object - objects.from) % 2 == 0);
+            && (object - objects.from) % 2 == 0;
         if is_among && before[at].version != now[at].version {
             return true;
         }
@@ -301,6 +301,82 @@ fn runs_stop_as_turns_do(rt: HostRuntime) -> Result<(), Fail> {
             let otherwise = stop_otherwise(rt.alloc(), &scripts, claims, order)?;
             assert_eq!(rt; otherwise, None);
         }
+    }
+    Ok(())
+}
+
+/// A log of threads that rest, the breaks of a run, where it stops, and how many steps each thread has then made.
+#[derive(Clone, Copy)]
+struct Row {
+    claims: Claims,
+    breaks: &'static [Break],
+    stopped: Stopped,
+    steps: [Option<u32>; 3],
+}
+
+/// Runs with no order: a whole log to its end, one of which a thread diverges, and a whole one to a break of each kind.
+fn rows() -> [Row; 5] {
+    let [whole, _, diverging] = claims();
+    let fault = ReplayFault::Diverged {
+        thread: 1,
+        place: 0,
+    };
+    [
+        Row {
+            claims: whole,
+            breaks: &[],
+            stopped: Stopped::Finished,
+            steps: [Some(202); 3],
+        },
+        Row {
+            claims: diverging,
+            breaks: &[],
+            stopped: Stopped::Fault(fault),
+            steps: [Some(101), Some(100), Some(100)],
+        },
+        Row {
+            claims: whole,
+            breaks: &[Break::Step {
+                thread: 2,
+                steps: 151,
+            }],
+            stopped: Stopped::Break(0),
+            steps: [Some(151), Some(151), Some(151)],
+        },
+        Row {
+            claims: whole,
+            breaks: &[Break::Place {
+                thread: 1,
+                place: 1,
+            }],
+            stopped: Stopped::Break(0),
+            steps: [Some(101), Some(101), Some(100)],
+        },
+        Row {
+            claims: whole,
+            breaks: &[Break::Write(ObjectRange {
+                from: 1,
+                until: 3,
+                every: Every::Second,
+            })],
+            stopped: Stopped::Break(0),
+            steps: [Some(102), Some(101), Some(101)],
+        },
+    ]
+}
+
+/// Whether a run stopped as a row says.
+fn is_there(stop: Stop, row: Row) -> bool {
+    stop.stopped == Some(row.stopped) && stop.steps == row.steps
+}
+
+#[test]
+fn runs_of_threads_that_rest_stop_there(rt: HostRuntime) -> Result<(), Fail> {
+    let [first, second, third] = scripts(rt.alloc())?;
+    let scripts = [&first[..], &second[..], &third[..]];
+    for row in rows() {
+        let [stop, _] = stops_of_runs(rt.alloc(), &scripts, row.claims, &[], row.breaks)?;
+        assert!(rt; is_there(stop, row), "{stop:?}");
     }
     Ok(())
 }
