@@ -5,7 +5,7 @@ ghost use Rattle.packed_entries.specs.EntriesIn.{entries_in, ArePacked};
 
 use crate::packed::PackedEntries;
 use log_pieces::{MOST_ENTRY_BYTES, Packed};
-use rw_objects::{Entry, EntryLog};
+use rw_objects::{Entry, EntryLog, ObjectSpace, Versioned};
 use std::alloc::Global;
 use std::marker::Model;
 use wasm_types::NoMemory;
@@ -47,14 +47,14 @@ impl EntriesWriter {
 }
 
 impl EntryLog for EntriesWriter {
-    ghost use Rattle.std.specs.Prelude.{◌≤◌, ◌++◌, ◌∷◌, []};
+    ghost use Rattle.std.specs.Prelude.{◌≤◌, ◌++◌, ◌∷◌, [], Some};
     ghost use Rattle.log_pieces.specs.declared.writing.TheConstants.{MOST_ENTRY_BYTES};
 
     type Seen = PackedEntries;
 
     ghost seen = { λ w. w.entries };
 
-    ghost add = { λ entries entry. entries ++ entry ∷ [] };
+    ghost add = { λ entries entry. Some (entries ++ entry ∷ []) };
 
     ghost has_room = { λ w. MOST_ENTRY_BYTES ≤ w.room };
 
@@ -62,6 +62,11 @@ impl EntryLog for EntriesWriter {
     fn room(&mut self) -> Result<(), NoMemory> {
         self.bytes.reserve(MOST_ENTRY_BYTES)?;
         Ok(())
+    }
+
+    #[inline(always)]
+    fn takes<S: ObjectSpace>(&mut self, memory: &Versioned<S>, op: &S::Op) -> bool {
+        true
     }
 
     #[inline(always)]

@@ -1,6 +1,6 @@
 //! Recording by a schedule.
 
-ghost use Rattle.std.specs.Prelude.{◌≡◌, ℕ, ◌∷◌, [], ◌++◌, ◌+◌, ◌^◌, ◌<◌, ◌≤◌, true, false, IfOk, OnOk, length, map, cond, replicate, slice_get, option_map};
+ghost use Rattle.std.specs.Prelude.{◌≡◌, ℕ, ◌∷◌, [], ◌++◌, Some, ◌+◌, ◌^◌, ◌<◌, ◌≤◌, true, false, IfOk, OnOk, length, map, cond, replicate, slice_get, option_map};
 ghost use Rattle.event_core.specs.World.{world_of, world_after};
 ghost use Rattle.event_core.specs.Run.{run_end, IsRun};
 ghost use Rattle.replay_laws.specs.RunLog.{run_log, end_of_thread};
@@ -99,7 +99,7 @@ fn run_thread<M: Machine<S>, S: ObjectSpace>(
     most: u32,
 ) -> Result<u32, NoMemory>
     requires { thread < length logs.old }
-    ensures ran { IfOk result (λ made. IsThreadRun S.meaning M.code (λ entries entry. entries ++ entry ∷ []) thread made (world_of world.old) (world_of world.new) (list_at logs.old thread) (list_at logs.new thread)) }
+    ensures ran { IfOk result (λ made. IsThreadRun S.meaning M.code (λ entries entry. Some (entries ++ entry ∷ [])) thread made (world_of world.old) (world_of world.new) (list_at logs.old thread) (list_at logs.new thread)) }
     ensures others { OnOk result (OthersStay thread logs.old logs.new) }
     ensures few { IfOk result (λ made. made ≤ most) }
 {

@@ -28,7 +28,7 @@ use Rattle.replay_laws.specs.Gates.{is_open}
 use Rattle.replay_laws.specs.Turns.{pick_of, input_for, can_give, same_end, turn_by_step, turn_by_entry, turn_by_next, turn_by_end, turn_by_thread, turn_of, world_after_turn}
 use Rattle.replay_gate.specs.Local.{is_local, steps_left_of, HasStepsLeft}
 use Rattle.replay_gate.specs.Leads.{Leads}
-use Rattle.replay_gate.proofs.Going.{some_same}
+use Rattle.std.proofs.lemmas.Option.{same_Some}
 use Rattle.replay_gate.proofs.Refusing.{turn_merely}
 
 pub local_is : (x : Turn) → is_local x ≡ true → x ≡ turn.Local
@@ -157,7 +157,7 @@ module _ {State Op Reply Value Fixed : Type 0} (space : Space Op Reply Value Fix
   is_turn left h =
       let l = is_left (log.end t) (slice_get w.threads t) refl refl left in
       let k = thread_local space code w.memory (slice_get w.threads t) Go h in
-      let same : k.0 ≡ l.thread = some_same _ _ (sym k.1 ∙ l.exists) in
+      let same : k.0 ≡ l.thread = same_Some _ _ (sym k.1 ∙ l.exists) in
       let n : code.next l.thread.state ≡ next.Local = subst (λ (x : ThreadAt State). code.next x.state ≡ next.Local) same k.2.next in
       sym (ap is_local (turns_locally (record { thread = l.thread; exists = l.exists; end = l.end; is_known = l.is_known; below = l.below; next = n })))
 

@@ -13,7 +13,8 @@ use Rattle.replay_laws.specs.Log.{Log}
 use Rattle.replay_laws.specs.Turns.{turn_of}
 use Rattle.replay_gate.specs.Leads.{Leads}
 use Rattle.replay_gate.specs.LocalRounds.{Rests, GoesOnTo, RoundsOf}
-use Rattle.replay_gate.proofs.Going.{some_same, leads_on, local_leads}
+use Rattle.replay_gate.proofs.Going.{leads_on, local_leads}
+use Rattle.std.proofs.lemmas.Option.{same_Some}
 
 pub drop_more : {A : Type 0} (xs : List A) (n : ℕ) (x : A) (r : List A) → drop n xs ≡ x ∷ r → (slice_get xs n ≡ Some x) × (r ≡ drop (suc n) xs)
 drop_more [] zero x r h = absurd (cc)
@@ -51,7 +52,7 @@ module _ {State Op Reply Value Fixed : Type 0} (space : Space Op Reply Value Fix
       let run : IsLocalRun space code n k w v =
       subst (λ m. IsLocalRun space code n k w (record { threads = v.threads; memory = m })) (sym memory)
       (gone space code n k w v.threads e.0 here
-      (record { state = s; goes = λ t is. subst (λ (u : ThreadAt State). GoesLocally code k u.state s) (some_same e.0 t (sym here ∙ is)) g.goes; leads = threads })) in
+      (record { state = s; goes = λ t is. subst (λ (u : ThreadAt State). GoesLocally code k u.state s) (same_Some e.0 t (sym here ∙ is)) g.goes; leads = threads })) in
       record {
         memory = memory ∙ p.memory;
         len = ap length threads ∙ length_change (thread_in s) w.threads n ∙ p.len;
@@ -63,7 +64,7 @@ module _ {State Op Reply Value Fixed : Type 0} (space : Space Op Reply Value Fix
                   let q : n ≡ t = omega (arith, l, more) in
                   let th_is : slice_get first.threads n ≡ Some th = ap (slice_get first.threads) q ∙ is in
                   let after_is : slice_get (change_at w.threads n (thread_in s)) n ≡ Some after = ap (slice_get (change_at w.threads n (thread_in s))) q ∙ got in
-                  let same : after ≡ thread_in s th = some_same after (thread_in s th) (sym after_is ∙ get_same (thread_in s) w.threads n th (p.before n (let i : n ≤ n = omega arith in i) ∙ th_is)) in
+                  let same : after ≡ thread_in s th = same_Some after (thread_in s th) (sym after_is ∙ get_same (thread_in s) w.threads n th (p.before n (let i : n ≤ n = omega arith in i) ∙ th_is)) in
                   subst (λ i. RoundsOf space code log k first i th after) q (inl (s, goes th th_is, same))
             ];
         before = λ t l. ap (λ ts. slice_get ts t) threads ∙ get_other (thread_in s) w.threads n t (λ q. omega (arith, l, q)) ∙ p.before t (omega (arith, l));
@@ -81,7 +82,7 @@ module _ {State Op Reply Value Fixed : Type 0} (space : Space Op Reply Value Fix
           | inr more ↦
               let q : n ≡ t = omega (arith, l, more) in
               let th_is : slice_get first.threads n ≡ Some th = ap (slice_get first.threads) q ∙ is in
-              let same : after ≡ th = some_same after th (sym at ∙ p.before t more ∙ is) in
+              let same : after ≡ th = same_Some after th (sym at ∙ p.before t more ∙ is) in
               subst (λ i. RoundsOf space code log k first i th after) q (inr (rests th th_is, same))
         ];
     before = λ t l. p.before t (omega (arith, l));

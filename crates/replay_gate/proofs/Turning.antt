@@ -17,7 +17,8 @@ use Rattle.replay_laws.specs.Log.{Log}
 use Rattle.replay_laws.specs.RunLog.{end_of_thread}
 use Rattle.replay_laws.specs.Turns.{turn_by_next, turn_by_end, turn_by_thread, turn_of, same_end}
 use Rattle.replay_gate.specs.Leads.{IsAtEnd}
-use Rattle.replay_gate.proofs.Going.{made_of, some_same}
+use Rattle.replay_gate.proofs.Going.{made_of}
+use Rattle.std.proofs.lemmas.Option.{same_Some}
 
 known_same : (a b : End) → Some (Known a) ≡ Some (Known b) → a ≡ b
 known_same a b h = cc
@@ -37,8 +38,8 @@ module _ {State Op Reply Value Fixed : Type 0} (space : Space Op Reply Value Fix
       let th = made_of (λ x. code.steps x.state) (slice_get w.threads t) steps (sym a) in
       let tp = made_of (λ x. x.places) (slice_get w.threads t) places (sym b) in
       let tn = made_of (λ x. code.next x.state) (slice_get w.threads t) next (sym d) in
-      let p : th.0.places ≡ places = ap (λ x. x.places) (some_same _ _ (sym th.1 ∙ tp.1)) ∙ tp.2 in
-      let n : code.next th.0.state ≡ next = ap (λ x. code.next x.state) (some_same _ _ (sym th.1 ∙ tn.1)) ∙ tn.2 in
+      let p : th.0.places ≡ places = ap (λ x. x.places) (same_Some _ _ (sym th.1 ∙ tp.1)) ∙ tp.2 in
+      let n : code.next th.0.state ≡ next = ap (λ x. code.next x.state) (same_Some _ _ (sym th.1 ∙ tn.1)) ∙ tn.2 in
       let below : code.steps th.0.state < e.steps = subst (λ k. k < e.steps) (sym th.2) less in
       sym (
       by_end th.0 e th.1 ends
@@ -64,7 +65,7 @@ module _ {State Op Reply Value Fixed : Type 0} (space : Space Op Reply Value Fix
       let th = made_of (λ x. code.steps x.state) (slice_get w.threads t) steps (sym a) in
       let tp = made_of (λ x. x.places) (slice_get w.threads t) places (sym b) in
       let to = made_of (λ x. outcome_of (code.next x.state)) (slice_get w.threads t) outcome (sym d) in
-      let end = stands steps places outcome th.0 tp.0 to.0 th.2 tp.2 to.2 (some_same _ _ (sym th.1 ∙ tp.1)) (some_same _ _ (sym th.1 ∙ to.1)) in
+      let end = stands steps places outcome th.0 tp.0 to.0 th.2 tp.2 to.2 (same_Some _ _ (sym th.1 ∙ tp.1)) (same_Some _ _ (sym th.1 ∙ to.1)) in
       let is : e ≡ stand steps places outcome = known_same _ _ (sym ends ∙ at th.0 th.1) ∙ end in
       true_or_false _ ((end_decides e (stand steps places outcome)).1 is) other
 
@@ -76,7 +77,7 @@ module _ {State Op Reply Value Fixed : Type 0} (space : Space Op Reply Value Fix
       let th = made_of (λ x. code.steps x.state) (slice_get w.threads t) steps (sym a) in
       let tp = made_of (λ x. x.places) (slice_get w.threads t) places (sym b) in
       let to = made_of (λ x. outcome_of (code.next x.state)) (slice_get w.threads t) outcome (sym d) in
-      let end : end_of_thread code th.0 ≡ stand steps places outcome = stands steps places outcome th.0 tp.0 to.0 th.2 tp.2 to.2 (some_same _ _ (sym th.1 ∙ tp.1)) (some_same _ _ (sym th.1 ∙ to.1)) in
+      let end : end_of_thread code th.0 ≡ stand steps places outcome = stands steps places outcome th.0 tp.0 to.0 th.2 tp.2 to.2 (same_Some _ _ (sym th.1 ∙ tp.1)) (same_Some _ _ (sym th.1 ∙ to.1)) in
       let past' : e.steps ≤ code.steps th.0.state = subst (λ k. e.steps ≤ k) (sym th.2) past in
       sym (
       by_end th.0 e th.1 ends

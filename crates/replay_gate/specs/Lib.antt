@@ -1,3 +1,4 @@
+pub mod Following
 pub mod Gate
 pub mod GateTurns
 pub mod Leads

@@ -6,7 +6,7 @@ ghost use Rattle.join_laws.specs.declared.flat.Flat.TheVariants.{Known};
 ghost use Rattle.replay_laws.specs.Gates.{IsFinished};
 ghost use Rattle.replay_gate.specs.Leads.{Leads, IsAtEnd};
 
-use crate::event::pass_event;
+use crate::following::Following;
 use crate::read_log::ReadLog;
 use event_core::World;
 use join_laws::Flat;
@@ -15,31 +15,34 @@ use rw_objects::{Machine, ObjectSpace};
 use std::alloc::Global;
 use wasm_types::{MOST_STEPS, NoMemory};
 
-/// Makes the local steps that come next for a thread, as far as its logged end, and the event behind them, where the log
-/// lets it pass. Answers whether it made a step.
+/// Makes the steps that come next for a thread as far as its logged end, local ones and the accesses that are logged,
+/// and the event behind them, where the log lets it pass. Answers whether it made a step.
 fn advance<M: Machine<S>, S: ObjectSpace, L: ReadLog>(
     alloc: Global,
     world: &mut World<M, S>,
-    log: &L,
-    reader: &mut L::Reader,
+    following: &mut Following<'_, L>,
     thread: u32,
     end: End,
 ) -> Result<bool, NoMemory>
-    requires reads { L.reads log.now reader.old }
-    requires ends { (L.log log.now).end thread ≡ Some (Known end) }
-    ensures reads { L.reads log.now reader.new }
-    ensures ok { OnOk result (Leads S.meaning M.code (L.log log.now) (world_of world.old) (world_of world.new)) }
-    ensures err { OnErr result (Leads S.meaning M.code (L.log log.now) (world_of world.old) (world_of world.new)) }
+    requires { (L.log following.old.log).end thread ≡ Some (Known end) }
+    ensures log { following.new.log ≡ following.old.log }
+    ensures ok { OnOk result (Leads S.meaning M.code (L.log following.old.log) (world_of world.old) (world_of world.new)) }
+    ensures err { OnErr result (Leads S.meaning M.code (L.log following.old.log) (world_of world.old) (world_of world.new)) }
 {
     let Some(steps) = world.steps(thread) else {
+        return Ok(false);
+    };
+    let Some(place) = world.places(thread) else {
         return Ok(false);
     };
     if steps >= end.steps {
         return Ok(false);
     }
-    match world.local_run(thread, end.steps - steps) {
+    following.go_to(thread, place, end.places);
+    let (ran, went) = world.run(thread, following, end.steps - steps);
+    match went {
         Err(error) => Err(error),
-        Ok(ran) => match pass_event(alloc, world, log, reader, thread, end) {
+        Ok(()) => match following.pass_event(alloc, world, thread, end) {
             Ok(passed) => Ok(passed || ran > 0),
             Err(error) => Err(error),
         },
@@ -50,20 +53,18 @@ fn advance<M: Machine<S>, S: ObjectSpace, L: ReadLog>(
 fn run_thread<M: Machine<S>, S: ObjectSpace, L: ReadLog>(
     alloc: Global,
     world: &mut World<M, S>,
-    log: &L,
-    reader: &mut L::Reader,
+    following: &mut Following<'_, L>,
     thread: u32,
 ) -> Result<bool, NoMemory>
-    requires { L.reads log.now reader.old }
-    ensures reads { L.reads log.now reader.new }
-    ensures ok { OnOk result (Leads S.meaning M.code (L.log log.now) (world_of world.old) (world_of world.new)) }
-    ensures err { OnErr result (Leads S.meaning M.code (L.log log.now) (world_of world.old) (world_of world.new)) }
+    ensures log { following.new.log ≡ following.old.log }
+    ensures ok { OnOk result (Leads S.meaning M.code (L.log following.old.log) (world_of world.old) (world_of world.new)) }
+    ensures err { OnErr result (Leads S.meaning M.code (L.log following.old.log) (world_of world.old) (world_of world.new)) }
 {
-    let Some(Flat::Known(end)) = log.end(thread) else {
+    let Some(Flat::Known(end)) = following.end(thread) else {
         return Ok(false);
     };
     for times in 0..MOST_STEPS {
-        match advance(alloc, world, log, reader, thread, end) {
+        match advance(alloc, world, following, thread, end) {
             Ok(true) => {}
             Ok(false) => return Ok(times > 0),
             Err(error) => return Err(error),
@@ -76,17 +77,15 @@ fn run_thread<M: Machine<S>, S: ObjectSpace, L: ReadLog>(
 fn round<M: Machine<S>, S: ObjectSpace, L: ReadLog>(
     alloc: Global,
     world: &mut World<M, S>,
-    log: &L,
-    reader: &mut L::Reader,
+    following: &mut Following<'_, L>,
 ) -> Result<bool, NoMemory>
-    requires { L.reads log.now reader.old }
-    ensures reads { L.reads log.now reader.new }
-    ensures ok { OnOk result (Leads S.meaning M.code (L.log log.now) (world_of world.old) (world_of world.new)) }
-    ensures err { OnErr result (Leads S.meaning M.code (L.log log.now) (world_of world.old) (world_of world.new)) }
+    ensures log { following.new.log ≡ following.old.log }
+    ensures ok { OnOk result (Leads S.meaning M.code (L.log following.old.log) (world_of world.old) (world_of world.new)) }
+    ensures err { OnErr result (Leads S.meaning M.code (L.log following.old.log) (world_of world.old) (world_of world.new)) }
 {
     let mut made = false;
     for thread in 0..16u32 {
-        match run_thread(alloc, world, log, reader, thread) {
+        match run_thread(alloc, world, following, thread) {
             Ok(one) => made = made || one,
             Err(error) => return Err(error),
         }
@@ -152,9 +151,9 @@ pub fn run_freely<M: Machine<S>, S: ObjectSpace, L: ReadLog>(
     ensures err { OnErr result (Leads S.meaning M.code (L.log log.now) (world_of world.old) (world_of world.new)) }
     ensures finished { IfOk result (λ all. all ≡ true → IsFinished M.code (L.log log.now) (world_of world.new)) }
 {
-    let mut reader = log.reader();
+    let mut following = Following::new(log);
     for _ in 0..u64::MAX {
-        match round(alloc, world, log, &mut reader) {
+        match round(alloc, world, &mut following) {
             Ok(true) => {}
             Ok(false) => return Ok(is_finished(world, log)),
             Err(error) => return Err(error),

@@ -1,6 +1,6 @@
 //! Spaces of objects.
 
-ghost use Rattle.std.specs.Prelude.{◌≡◌, ℕ, true, length, IfOk};
+ghost use Rattle.std.specs.Prelude.{◌≡◌, ℕ, true, length, IfOk, IsTrue, ◌↔◌};
 ghost use Rattle.rw_objects.specs.Space.{Space, Fits, RisesFrom, AllBelow, is_ready, reply_of, values_after, SpaceLaws};
 ghost use Rattle.rw_objects.specs.Counts.{count_at, counts_after, CanCountAll, all_found};
 
@@ -58,6 +58,15 @@ pub trait ObjectSpace {
         ensures reply { result ≡ reply_of meaning (fixed self.old) (values self.old) op.now }
         ensures values { values self.new ≡ values_after meaning (fixed self.old) (values self.old) op.now }
         ensures fixed { fixed self.new ≡ fixed self.old };
+
+    /// Whether the event of an operation would log this entry. It takes no memory. A space may have a shorter way for
+    /// the operations that are made most.
+    fn logs(versions: &Versions, op: &Self::Op, entry: &Entry) -> bool
+        ensures { IsTrue result ↔ ((meaning.kind op.now ≡ entry.now.kind) × (all_found (meaning.touches op.now) (count_at versions.now) ≡ entry.now.found)) }
+    {
+        let touches = Self::touches(versions.allocator(), op);
+        Self::kind(op) == entry.kind && versions.finds(touches.as_slice(), entry.found.as_slice())
+    }
 
     /// One event: makes a ready operation, counts its touches, and answers its reply and its entry. It takes no memory.
     /// A space may have a shorter way for the operations that are made most.

@@ -1,6 +1,6 @@
 //! A space with its versions.
 
-ghost use Rattle.std.specs.Prelude.{◌≡◌, length, true, IfOk};
+ghost use Rattle.std.specs.Prelude.{◌≡◌, length, true, IfOk, IsTrue, ◌↔◌};
 ghost use Rattle.rw_objects.specs.Space.{Fits, is_ready, reply_of};
 ghost use Rattle.rw_objects.specs.Counts.{no_counts, CanCountAll};
 
@@ -32,6 +32,14 @@ impl<S: ObjectSpace + Drop> Versioned<S> {
 
 impl<S: ObjectSpace> Versioned<S> {
     ghost use Rattle.rw_objects.specs.Memory.{memory_of, memory_after, entry_of};
+
+    /// Whether the event of an operation would log this entry. It takes no memory.
+    #[inline(always)]
+    pub fn logs(&self, op: &S::Op, entry: &Entry) -> bool
+        ensures { IsTrue result ↔ (entry_of S.meaning (memory_of self.now) op.now ≡ entry.now) }
+    {
+        S::logs(&self.versions, op, entry)
+    }
 
     /// One event: makes a ready operation, counts its touches, and answers its reply and its entry. It takes no memory.
     #[inline(always)]

@@ -1,6 +1,6 @@
 //! The versions and read totals of a space's objects.
 
-ghost use Rattle.std.specs.Prelude.{◌≡◌, ◌<◌, [], ◌∷◌, length, slice_set, IfOk, replicate};
+ghost use Rattle.std.specs.Prelude.{◌≡◌, ◌<◌, [], ◌∷◌, length, slice_set, IfOk, IsTrue, ◌↔◌, replicate};
 ghost use Rattle.rw_objects.specs.Counts.{no_count, count_at, count_after, found_by, CanCount, CanCountAll, all_found, counts_after};
 ghost use Rattle.rw_objects.specs.Space.{RisesFrom, AllBelow};
 
@@ -54,6 +54,38 @@ impl Versions {
             None => Count {
                 version: 0,
                 reads: 0,
+            },
+        }
+    }
+
+    /// What a touch would find.
+    #[inline(always)]
+    fn find(&self, touch: Touch) -> Found
+        ensures { result ≡ found_by touch (count_at self.now touch.object) }
+    {
+        let Count { version, reads } = self.at(touch.object);
+        match touch.mode {
+            Mode::Read => Found::Read {
+                object: touch.object,
+                version,
+            },
+            Mode::Write => Found::Write {
+                object: touch.object,
+                version,
+                reads,
+            },
+        }
+    }
+
+    /// Whether touches would find this.
+    pub fn finds(&self, touches: &[Touch], found: &[Found]) -> bool
+        ensures { IsTrue result ↔ (all_found touches.now (count_at self.now) ≡ found.now) }
+    {
+        match touches {
+            [] => found.is_empty(),
+            [touch, touches @ ..] => match found {
+                [] => false,
+                [first, found @ ..] => self.find(*touch) == *first && self.finds(touches, found),
             },
         }
     }

@@ -1,6 +1,6 @@
 //! A shared memory with its waiter queues.
 
-ghost use Rattle.std.specs.Prelude.{◌≡◌, ◌+◌, ◌*◌, ◌%◌, ◌<◌, ◌≤◌, ◌==◌, ◌&&◌, cond, true, [], ◌∷◌, length, slice_set, IfOk, Some};
+ghost use Rattle.std.specs.Prelude.{◌≡◌, ◌+◌, ◌*◌, ◌%◌, ◌<◌, ◌≤◌, ◌==◌, ◌&&◌, cond, true, [], ◌∷◌, length, slice_set, IfOk, IfSome, Some};
 ghost use Rattle.std.specs.List.{All};
 ghost use Rattle.std.specs.Int.{byte_len};
 ghost use Rattle.block_objects.specs.Objects.{block_of, blocks_in};
@@ -9,8 +9,9 @@ ghost use Rattle.rw_objects.specs.declared.entry.Kind.TheVariants as kinds;
 ghost use Rattle.rw_objects.specs.Space.{Fits, RisesFrom, AllBelow, is_ready, reply_of, values_after};
 ghost use Rattle.rw_objects.specs.Counts.{count_at, counts_after, CanCountAll, all_found};
 ghost use Rattle.wasm_types.specs.declared.operation.Reply.TheVariants as replies;
-ghost use Rattle.block_objects.specs.Touches.{touch_of, op_touches, op_kind};
+ghost use Rattle.block_objects.specs.Touches.{touch_of, access_touches, op_touches, op_kind};
 ghost use Rattle.wasm_types.specs.Accesses.{access_width, load_width, type_width};
+ghost use Rattle.wasm_types.specs.Widths.{width_of};
 ghost use Rattle.block_objects.specs.Access.{is_within, number_at, loaded};
 ghost use Rattle.block_objects.specs.Queues.{after_wait, after_notify, after_resume, after_time_out};
 ghost use Rattle.block_objects.specs.Effects.{i32_reply, wait_reply, notify_reply};
@@ -25,8 +26,8 @@ use block_objects::{Blocks, MemoryLimits, ObjectValue, block_number, ends_within
 use rw_objects::{Entry, Kind, Mode, ObjectSpace, Touch, Touches, Versions};
 use std::alloc::Global;
 use wasm_types::{
-    Access, Action, Block, Data, Load, MOST_PAGES, NoMemory, Op, PAGE_SIZE, Reply, Trap, ValType,
-    Value,
+    Access, Action, Block, Data, Extent, Load, MOST_PAGES, NoMemory, Op, PAGE_SIZE, Reply, Trap,
+    ValType, Value, Width,
 };
 
 /// A shared memory as a space of objects: object 0 is its length in pages, object `1 + 2b` is block `b`, and object
@@ -256,6 +257,36 @@ impl SharedSpace {
     }
 }
 
+/// The touch of an access that lies in one block and within the initial length: it touches nothing else.
+#[inline(always)]
+fn lone_access(extent: &Extent, mode: Mode, address: u32, width: Width) -> Option<Touch>
+    ensures { IfSome result (λ touch. access_touches extent.now mode address (byte_len (width_of width)) ≡ touch ∷ []) }
+{
+    match lone_block(extent, address, width.bytes()) {
+        Some(object) => Some(Touch { object, mode }),
+        None => None,
+    }
+}
+
+/// The same of an operation, where it is a load or a store.
+#[inline(always)]
+fn lone_touch(op: &Op) -> Option<Touch>
+    ensures touches { IfSome result (λ touch. op_touches op.now ≡ touch ∷ []) }
+    ensures kind { IfSome result (λ touch. op_kind op.now ≡ kinds.Access) }
+{
+    match op.action {
+        Action::Load { load, address } => {
+            lone_access(&op.extent, Mode::Read, address, load.width())
+        }
+        Action::Store {
+            access,
+            address,
+            ..
+        } => lone_access(&op.extent, Mode::Write, address, access.width()),
+        _ => None,
+    }
+}
+
 impl ObjectSpace for SharedSpace {
     type Op = Op;
 
@@ -332,6 +363,17 @@ impl ObjectSpace for SharedSpace {
             Action::Resume { thread, address } => self.resume(limits.block, thread, address),
             Action::TimeOut { thread, address } => self.time_out(limits.block, thread, address),
         }
+    }
+
+    /// Of a load or a store that lies in one block and within the initial length no list of touches is made.
+    #[inline(always)]
+    fn logs(versions: &Versions, op: &Op, entry: &Entry) -> bool {
+        if let Some(touch) = lone_touch(op) {
+            return entry.kind == Kind::Access && versions.finds(&[touch], entry.found.as_slice());
+        }
+        let touches = block_objects::touches(versions.allocator(), op);
+        block_objects::kind(op) == entry.kind
+            && versions.finds(touches.as_slice(), entry.found.as_slice())
     }
 
     /// A load or a store that lies in one block and within the initial length goes a short way: a test of its bounds, one

@@ -12,7 +12,7 @@ use Rattle.block_objects.specs.declared.limits.MemoryLimits.{MemoryLimits}
 use Rattle.block_objects.specs.Objects.{ObjectAt}
 use Rattle.waiter_queues.specs.Shared.{opening_values}
 use Rattle.block_objects.specs.SharedMemory.{shared_memory}
-use Rattle.rw_objects.specs.Alone.{IsOver, IsSoundAlone}
+use Rattle.rw_objects.specs.Alone.{IsSoundAlone}
 use Rattle.rw_objects.specs.Alone as alone
 use Rattle.event_core.specs.End.{outcome_of}
 use Rattle.rw_objects.proofs.Alone.{goes_steps}
@@ -24,7 +24,7 @@ use Rattle.thread_code.specs.ThreadCode.{ThreadAt, thread_code, limits_of, sleep
 use Rattle.thread_code.proofs.Machine.{threads_are_machines}
 use Rattle.integer_machine.specs.First.{first_of, beginning}
 use Rattle.wreplay_bench.specs.declared.ended.Ended.{Ended}
-use Rattle.wreplay_bench.specs.Alone.{AloneAt, alone_with, no_entry, Goes, GoesTo, IsOpening, RunsTo}
+use Rattle.wreplay_bench.specs.Alone.{AloneAt, alone_with, no_entry, Goes, GoesTo, IsOpening, IsOver, RunsTo}
 
 -- ---- the thread
 
@@ -106,7 +106,7 @@ opens_sound m plan block a low o =
 counted : (a b : AloneAt) (made : ℕ) → Goes made a b → b.thread.steps ≡ a.thread.steps + made
 counted a b made g = goes_steps shared_memory thread_code no_entry threads_are_machines made (alone.alone_with a.thread a.memory tt 0) (alone.alone_with b.thread b.memory tt g.0) g.1
 
-pub runs_to : (m : Module) (plan : PlanValue) (block : ℕ) (first last : AloneAt) (ended : Ended) → IsOpening m plan block first → GoesTo first last → IsOver thread_code last.thread → ended.steps ≡ last.thread.steps
+pub runs_to : (m : Module) (plan : PlanValue) (block : ℕ) (first last : AloneAt) (ended : Ended) → IsOpening m plan block first → GoesTo first last → IsOver last → ended.steps ≡ last.thread.steps
     → ended.outcome ≡ outcome_of (thread_code.next last.thread) → RunsTo m plan block ended
 runs_to m plan block first last ended o g over steps outcome =
     let none : first.thread.steps ≡ 0 = (begun m plan block first.thread o.thread).steps in
@@ -114,10 +114,10 @@ runs_to m plan block first last ended o g over steps outcome =
     record { first = first; last = last; opens = o; goes = subst (λ n. Goes n first last) made g.1; is_over = over; outcome = outcome }
 
 -- as many steps as there are, or as a thread may make
-pub over_behind : (a b : AloneAt) (made most : ℕ) → 1000000000 ≤ most → Goes made a b → (made < most → IsOver thread_code b.thread) → IsOver thread_code b.thread
+pub over_behind : (a b : AloneAt) (made most : ℕ) → 1000000000 ≤ most → Goes made a b → (made < most → IsOver b) → IsOver b
 over_behind a b made most many g all = elim (cases_lt made most) [
   | inl h ↦ all h
-  | inr h ↦ λ _. omega (arith, counted a b made g, h, many)
+  | inr h ↦ inr (omega (arith, counted a b made g, h, many))
 ]
 
 -- what holds where a run came to its end

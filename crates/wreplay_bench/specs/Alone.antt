@@ -1,5 +1,5 @@
 -- Thread 0 of a plan, which runs over its memory with no other thread.
-use Rattle.std.specs.Prelude.{◌≡◌, ℕ, Some}
+use Rattle.std.specs.Prelude.{◌≡◌, ℕ, Option, Some}
 use Rattle.rw_objects.specs.Alone as alone
 use Rattle.rw_objects.specs.declared.entry.Entry.{Entry}
 use Rattle.wasm_types.specs.declared.key.Profile.TheVariants.{Two}
@@ -29,12 +29,16 @@ abbrev pub alone_of : Alone → AloneAt
 alone_of a = alone_with a.thread.thread (memory_of a.memory)
 
 -- nothing is kept of an entry
-abbrev pub no_entry : Unit {0} → Entry → Unit {0}
-no_entry seen entry = seen
+abbrev pub no_entry : Unit {0} → Entry → Option (Unit {0})
+no_entry seen entry = Some seen
 
 -- so many steps lead from one state to another
 abbrev pub Goes : ℕ → AloneAt → AloneAt → Type 0
 Goes made a b = (events : ℕ) × alone.Goes shared_memory thread_code no_entry made (alone.alone_with a.thread a.memory tt 0) (alone.alone_with b.thread b.memory tt events)
+
+-- no step comes, or as many were made as a thread may make
+abbrev pub IsOver : AloneAt → Type 0
+IsOver a = alone.IsOver shared_memory thread_code no_entry a.thread a.memory tt
 
 abbrev pub GoesTo : AloneAt → AloneAt → Type 0
 GoesTo a b = (made : ℕ) × Goes made a b
@@ -54,5 +58,5 @@ pub record RunsTo (m : Module) (plan : PlanValue) (block : ℕ) (ended : Ended) 
   pub last : AloneAt
   pub opens : IsOpening m plan block first
   pub goes : Goes ended.steps first last
-  pub is_over : alone.IsOver thread_code last.thread
+  pub is_over : IsOver last
   pub outcome : ended.outcome ≡ outcome_of (thread_code.next last.thread)

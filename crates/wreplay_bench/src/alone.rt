@@ -4,14 +4,14 @@ ghost use Rattle.std.specs.Prelude.{◌≡◌, ◌≤◌, true, IfOk, OnOk};
 ghost use Rattle.rw_objects.specs.Counts.{no_counts};
 ghost use Rattle.rw_objects.specs.Memory.{memory_of, memory_with};
 ghost use Rattle.waiter_queues.specs.Shared.{opening_values};
-ghost use Rattle.rw_objects.specs.Alone.{IsOver, IsSoundAlone};
+ghost use Rattle.rw_objects.specs.Alone.{IsSoundAlone};
 ghost use Rattle.event_core.specs.End.{outcome_of};
 ghost use Rattle.thread_plan.specs.Plans.{IsPlanOf};
 ghost use Rattle.wasm_instance.specs.Segments.{segments_fit};
 ghost use Rattle.wasm_instance.specs.Memories.{first_memory};
 ghost use Rattle.wasm_instance.specs.Memories.{initial_by};
 ghost use Rattle.thread_code.specs.ThreadCode.{thread_code};
-ghost use Rattle.wreplay_bench.specs.Alone.{GoesTo, IsOpening, alone_of};
+ghost use Rattle.wreplay_bench.specs.Alone.{GoesTo, IsOpening, IsOver, alone_of};
 
 use crate::ended::Ended;
 use crate::fault::Fault;
@@ -78,7 +78,7 @@ impl<'a> Alone<'a> {
         requires { IsSoundAlone thread_code (alone_of self.old).thread (alone_of self.old).memory }
         ensures sound { IsSoundAlone thread_code (alone_of self.new).thread (alone_of self.new).memory }
         ensures goes { GoesTo (alone_of self.old) (alone_of self.new) }
-        ensures over { OnOk result (IsOver thread_code (alone_of self.new).thread) }
+        ensures over { OnOk result (IsOver (alone_of self.new)) }
         ensures steps { IfOk result (λ ended. ended.steps ≡ self.new.thread.thread.steps) }
         ensures outcome { IfOk result (λ ended. ended.outcome ≡ outcome_of (thread_code.next self.new.thread.thread)) }
     {

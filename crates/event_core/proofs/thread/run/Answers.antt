@@ -1,6 +1,6 @@
 use Rattle.std.proofs.Common.{◌≤◌, refl, arith}
-use Rattle.std.specs.Prelude.{Result, Ok, Err, OnOk}
-use Rattle.rw_objects.specs.Alone.{IsOver}
+use Rattle.std.proofs.lemmas.Result.{on_ok_weaker, on_err_weaker}
+use Rattle.rw_objects.specs.Alone.{Comes, IsOver}
 use Rattle.rw_objects.specs.Memory.{memory_of}
 use Rattle.rw_objects.proofs.Alone.{goes_events, goes_steps}
 use Rattle.event_core.specs.Threads.{thread_of, threads_of}
@@ -35,10 +35,12 @@ returns-clause-limit g c =
     let h = c.requires.sound.each c.args.at (thread_of g.M.Machine.state c.index_mut-thread.result.now) is in
     thread_set g.M.Machine.state (λ s. g.M.Machine.code.steps s ≤ 1000000000) c.args.threads.now.items c.args.at _ c.requires.within (c.run-end.ensures.limit h.steps)
 
-on_ok : {X E : Type 0} {P Q : Type 0} (r : Result X E) → (P → Q) → OnOk r P → OnOk r Q
-on_ok (Ok x) f h = f h
-on_ok (Err e) f h = tt
-
 pub returns-clause-all : goal.returns-clause-all
 returns-clause-all g c =
-    on_ok c.run-end.result.1 (λ h less. thread_set g.M.Machine.state (IsOver g.M.Machine.code) c.args.threads.now.items c.args.at _ c.requires.within (h less)) c.run-end.ensures.all
+    on_ok_weaker c.run-end.result.1
+    (λ h less. thread_set g.M.Machine.state (λ s. IsOver g.S.ObjectSpace.meaning g.M.Machine.code g.L.EntryLog.add s (memory_of c.run-end.new.memory) (g.L.EntryLog.seen c.run-end.new.log)) c.args.threads.now.items c.args.at _ c.requires.within (h less)) c.run-end.ensures.all
+
+pub returns-clause-comes : goal.returns-clause-comes
+returns-clause-comes g c =
+    on_err_weaker c.run-end.result.1
+    (λ h. thread_set g.M.Machine.state (λ s. Comes g.S.ObjectSpace.meaning g.M.Machine.code g.L.EntryLog.add s (memory_of c.run-end.new.memory) (g.L.EntryLog.seen c.run-end.new.log)) c.args.threads.now.items c.args.at _ c.requires.within h) c.run-end.ensures.comes

@@ -1,4 +1,4 @@
-use Rattle.std.proofs.Common.{◌≡◌, ◌+◌, ◌≤◌, ◌∷◌, [], ◌++◌, slice_get, sym, ap, ◌∙◌, subst, arith, replicate}
+use Rattle.std.proofs.Common.{◌≡◌, ◌+◌, ◌≤◌, ◌∷◌, [], ◌++◌, Some, slice_get, sym, ap, ◌∙◌, subst, arith, replicate}
 use Rattle.std.specs.Prelude.{Result, Ok, Err, IfOk, OnOk}
 use Rattle.event_core.specs.LocalRun.{go_of}
 use Rattle.event_core.specs.ThreadRun.{IsThreadRun}
@@ -23,7 +23,7 @@ returns-clause-recorded g c =
     let news = c.run_thread.new.logs in
     let m = made_of (λ t. code.steps t.state) (slice_get w.threads pick.thread) c.in-Some.made (sym c.steps.ensures ∙ c.in-Some.is) in
     let goes : pick ≡ go_of pick.thread = ap (λ i. record { thread = pick.thread; input = i }) c.in-Go.is in
-    all_of (λ n. IsThreadRun space code (λ xs e. xs ++ e ∷ []) pick.thread n w v (list_at lists pick.thread) (list_at news pick.thread)) (λ n. n ≤ c.min-most.result)
+    all_of (λ n. IsThreadRun space code (λ xs e. Some (xs ++ e ∷ [])) pick.thread n w v (list_at lists pick.thread) (list_at news pick.thread)) (λ n. n ≤ c.min-most.result)
     (λ n. (passed : _) → AreRecorded space code c.args.steps (replicate n pick) w v lists news passed passed) (OthersStay pick.thread lists news) c.run_thread.result
     (λ n run few others passed.
     let within : code.steps m.0.state + n ≤ c.args.steps = let is = m.2 in let less = c.if-steps-made.false in let least = c.min-most.ensures in omega (arith, few, is, less, least) in

@@ -1,4 +1,4 @@
-use Rattle.std.proofs.Common.{◌++◌, ◌∷◌, [], ap, ◌∙◌, arith}
+use Rattle.std.proofs.Common.{◌++◌, ◌∷◌, [], Some, ap, sym, ◌∙◌, arith}
 use Rattle.packed_entries.specs.EntriesIn.{WriterAt}
 use Rattle.packed_entries.proofs.Packing.{few_entries, pushed}
 use Rattle.packed_entries.proofs.writer.EntriesWriterEntryLog.push.Goals as goal
@@ -11,5 +11,5 @@ invariant_of-self c = (pushed c.self.inside.count c.self.inside.bytes.items c.pu
 
 pub returns : goal.returns
 returns c =
-    (pushed c.self.inside.count c.self.inside.bytes.items c.put.new.out.items c.args.entry.now c.self.invariant c.in-Ok.ensures.put c.in-Ok.ensures.fits).read
-    ∙ ap (λ (w : WriterAt). w.entries ++ c.args.entry.now ∷ []) c.self.view_is
+    ap Some (sym ((pushed c.self.inside.count c.self.inside.bytes.items c.put.new.out.items c.args.entry.now c.self.invariant c.in-Ok.ensures.put c.in-Ok.ensures.fits).read
+    ∙ ap (λ (w : WriterAt). w.entries ++ c.args.entry.now ∷ []) c.self.view_is))
