@@ -1,18 +1,16 @@
--- Why a move between blocks is not made.
-use Rattle.std.proofs.Common.{◌≡◌, ℕ, Option, Some, None, refl, subst, sym}
-use Rattle.std.specs.Prelude.{IfNone, IfSome}
+-- Moves by an entry, and why one between blocks is not made.
+use Rattle.std.proofs.Common.{◌≡◌, ℕ, Option, Some, None, refl, ap, subst, sym, ◌∙◌}
+use Rattle.std.specs.Prelude.{IfNone}
 use Rattle.wasm_types.specs.declared.value.ValType.{ValType}
-use Rattle.wasm_types.specs.declared.instruction.BlockKind.{BlockKind}
 use Rattle.wasm_types.specs.declared.instruction.Instr.{Instr}
-use Rattle.wasm_types.specs.declared.instruction.Instr.TheVariants as instr
-use Rattle.wasm_types.specs.declared.instruction.Plain.{Plain}
-use Rattle.wasm_types.specs.declared.instruction.Plain.TheVariants as plain
-use Rattle.wasm_types.specs.declared.instruction.IndexOp.{IndexOp}
-use Rattle.wasm_types.specs.declared.instruction.IndexOp.TheVariants as index
+use Rattle.wasm_types.specs.declared.modules.Module.{Module}
+use Rattle.instruction_groups.specs.declared.group.Group.{Group}
+use Rattle.instruction_groups.specs.declared.group.Group.TheVariants as group
+use Rattle.instruction_groups.specs.Groups.{single_of}
 use Rattle.thread_words.specs.declared.stacks.Stacks.{Stacks}
-use Rattle.std.specs.Global.{Vec}
-use Rattle.thread_words.specs.Apart.{there}
-use Rattle.integer_machine.specs.BlockMoves.{StaysHere}
+use Rattle.thread_words.specs.Moves.{CanStepIn, StepsIn}
+use Rattle.integer_machine.specs.BlockMoves.{CanMoveBy, MovesBy, StaysHere}
+use Rattle.integer_machine.specs.Rooms.{IsNoAccess}
 
 pub both : (o : Option ℕ) (A B : Type 0) → IfNone o A → IfNone o B → IfNone o (A × B)
 both None A B a b = (a, b)
@@ -22,33 +20,34 @@ pub always : (o : Option ℕ) (A : Type 0) → A → IfNone o A
 always None A a = a
 always (Some x) A a = tt
 
-pub by_itself : {A : Type 0} (o : Option ℕ) → A → IfSome o (λ x. A)
-by_itself None a = tt
-by_itself (Some x) a = a
+-- ---- by which entry it is
 
-pub stays_by : (o : Option ℕ) (i j : Instr) (s : Stacks) → i ≡ j → IfNone o (StaysHere j s) → IfNone o (StaysHere i s)
-stays_by o i j s e h = subst (λ y. IfNone o (StaysHere y s)) (sym e) h
+pub can_by_entry : (m : Module) (g h : Group) (i : Instr) (s : Stacks) → CanMoveBy m s g → g ≡ h → single_of h ≡ Some i → IsNoAccess i → CanStepIn m i s
+can_by_entry m g h i s can e named n = can i (ap single_of e ∙ named) n
 
--- at another place, with other words
-pub stays_there : (o : Option ℕ) (op : Plain) (s : Stacks) (place : ℕ) (words : Vec ℕ) → IfNone o (StaysHere (instr.Plain op) s) → IfNone o (StaysHere (instr.Plain op) (there s place words))
-stays_there (Some x) op s place words h = tt
-stays_there None plain.End s place words h = h
-stays_there None plain.Else s place words h = h
-stays_there None _ s place words h = tt
+pub moves_by_entry : (m : Module) (g h : Group) (i : Instr) (old new : Stacks) → g ≡ h → single_of h ≡ Some i → IsNoAccess i → StepsIn m i old new → MovesBy m old g new
+moves_by_entry m g h i old new e named n k = record { instruction = i; named = ap single_of e ∙ named; no_access = n; steps = k }
 
--- an instruction that is no move
-pub other_plain : (op : Plain) (s : Stacks) → (op ≡ plain.End → ⊥) → (op ≡ plain.Else → ⊥) → StaysHere (instr.Plain op) s
-other_plain plain.End s h k = absurd (h refl)
-other_plain plain.Else s h k = absurd (k refl)
-other_plain _ s h k = tt
+pub stays_by : (o : Option ℕ) (g h : Group) (s : Stacks) → g ≡ h → IfNone o (StaysHere h s) → IfNone o (StaysHere g s)
+stays_by o g h s e k = subst (λ y. IfNone o (StaysHere y s)) (sym e) k
 
-pub other_index : (op : IndexOp) (n : ℕ) (s : Stacks) → (op ≡ index.Branch → ⊥) → (op ≡ index.BranchIf → ⊥) → StaysHere (instr.Index op n) s
-other_index index.Branch n s h k = absurd (h refl)
-other_index index.BranchIf n s h k = absurd (k refl)
-other_index _ n s h k = tt
+-- ---- an entry that is no move between blocks
 
-pub other_instr : (i : Instr) (s : Stacks) → ((kind : BlockKind) (t : Option ValType) → i ≡ instr.Block kind t → ⊥) → ((op : Plain) → i ≡ instr.Plain op → ⊥) → ((op : IndexOp) (n : ℕ) → i ≡ instr.Index op n → ⊥) → StaysHere i s
-other_instr (instr.Block kind t) s h k l = absurd (h kind t refl)
-other_instr (instr.Plain op) s h k l = absurd (k op refl)
-other_instr (instr.Index op n) s h k l = absurd (l op n refl)
-other_instr _ s h k l = tt
+pub record IsOther (g : Group) : Type 0 where
+  pub no_block : (t : Option ValType) → g ≡ group.Block t → ⊥
+  pub no_loop : (t : Option ValType) → g ≡ group.Loop t → ⊥
+  pub no_if : (t : Option ValType) → g ≡ group.If t → ⊥
+  pub no_else : g ≡ group.Else → ⊥
+  pub no_end : g ≡ group.End → ⊥
+  pub no_branch : (depth : ℕ) → g ≡ group.Branch depth → ⊥
+  pub no_branch_if : (depth : ℕ) → g ≡ group.BranchIf depth → ⊥
+
+pub other_entry : (g : Group) (s : Stacks) → IsOther g → StaysHere g s
+other_entry (group.Block t) s k = absurd (k.no_block t refl)
+other_entry (group.Loop t) s k = absurd (k.no_loop t refl)
+other_entry (group.If t) s k = absurd (k.no_if t refl)
+other_entry group.Else s k = absurd (k.no_else refl)
+other_entry group.End s k = absurd (k.no_end refl)
+other_entry (group.Branch depth) s k = absurd (k.no_branch depth refl)
+other_entry (group.BranchIf depth) s k = absurd (k.no_branch_if depth refl)
+other_entry _ s k = tt

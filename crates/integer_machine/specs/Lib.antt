@@ -7,3 +7,5 @@ pub mod Trying
 pub mod Alone
 pub mod Standing
 pub mod BlockMoves
+pub mod CallMoves
+pub mod Entries

@@ -2,6 +2,9 @@
 #![tactic(auto)]
 
 mod block_moves;
+mod call_moves;
+mod entries;
+mod group_run;
 mod groups;
 mod instance;
 mod laws;

@@ -3,7 +3,8 @@
 use crate::validation_rows::{DROP, END};
 use instruction_groups::{Group, OneWordOp, WordOp};
 use wasm_types::{
-    BinaryOp, Comparison, IndexOp, Instr, Narrow, Numeric, Plain, UnaryOp, ValType, Value,
+    Access, BinaryOp, BlockKind, Comparison, Extension, IndexOp, Instr, Load, MemArg, MemoryOp,
+    Narrow, Numeric, Plain, UnaryOp, ValType, Value,
 };
 
 /// The local 0, and the local 3.
@@ -55,11 +56,46 @@ const AT_LEAST: Instr = Instr::Numeric(Numeric::Compare(
     Comparison::GreaterEqualUnsigned,
 ));
 
+/// The offset of the accesses.
+const AT: MemArg = MemArg {
+    align: 0,
+    offset: 9,
+};
+
+const BYTE: Instr = Instr::Memory(
+    MemoryOp::Load(Load::Narrow(Narrow::I32Of8, Extension::Unsigned)),
+    AT,
+);
+
+const SIGNED_BYTE: Instr = Instr::Memory(
+    MemoryOp::Load(Load::Narrow(Narrow::I32Of8, Extension::Signed)),
+    AT,
+);
+
+const HALF: Instr = Instr::Memory(
+    MemoryOp::Load(Load::Narrow(Narrow::I32Of16, Extension::Unsigned)),
+    AT,
+);
+
+const SIGNED_HALF: Instr = Instr::Memory(
+    MemoryOp::Load(Load::Narrow(Narrow::I32Of16, Extension::Signed)),
+    AT,
+);
+
+const STORE: Instr = Instr::Memory(MemoryOp::Store(Access::Whole(ValType::I32)), AT);
+
+const STORE_BYTE: Instr = Instr::Memory(MemoryOp::Store(Access::Narrow(Narrow::I32Of8)), AT);
+
+const STORE_HALF: Instr = Instr::Memory(MemoryOp::Store(Access::Narrow(Narrow::I32Of16)), AT);
+
+const STORE_64: Instr = Instr::Memory(MemoryOp::Store(Access::Whole(ValType::I64)), AT);
+
 /// A constant of all bits.
 const HIGHEST: u64 = 0xffff_ffff_ffff_ffff;
 
-/// Each group is as long as the instructions let it be. The locals 0, 3 and 4 are i32, the locals 1 and 300 are i64.
-pub(crate) static GROUPED: [(Instr, Group); 74] = [
+/// Each group is as long as the instructions let it be, and an instruction that is no part has an entry of its own. The
+/// locals 0, 3 and 4 are i32, the locals 1 and 300 are i64.
+pub(crate) static GROUPED: [(Instr, Group); 111] = [
     // Two locals, and what is given to a local, to a local and on top, and on top.
     (FIRST, Group::LocalsSet(WordOp::Add32, 0, 3, 4)),
     (THIRD, Group::LocalSet(WordOp::Add32, 3, 4)),
@@ -166,5 +202,50 @@ pub(crate) static GROUPED: [(Instr, Group); 74] = [
     (DIVIDE, Group::Plain),
     (DROP, Group::Discard),
     (Instr::Plain(Plain::Nop), Group::Plain),
-    (END, Group::Plain),
+    // Blocks, branches, calls and returns.
+    (Instr::Block(BlockKind::Block, None), Group::Block(None)),
+    (FIRST, Group::Get(0)),
+    (Instr::Index(IndexOp::BranchIf, 0), Group::BranchIf(0)),
+    (Instr::Index(IndexOp::Branch, 0), Group::Branch(0)),
+    (END, Group::End),
+    (Instr::Block(BlockKind::Loop, None), Group::Loop(None)),
+    (END, Group::End),
+    (FIRST, Group::Get(0)),
+    (Instr::Block(BlockKind::If, None), Group::If(None)),
+    (Instr::Plain(Plain::Else), Group::Else),
+    (END, Group::End),
+    (FIRST, Group::Get(0)),
+    (Instr::Index(IndexOp::LocalGet, 1), Group::Get(1)),
+    (Instr::Index(IndexOp::Call, 0), Group::Call(0)),
+    // Loads and stores, of the kinds that have entries.
+    (FIRST, Group::Get(0)),
+    (
+        Instr::Memory(MemoryOp::Load(Load::Whole(ValType::I32)), AT),
+        Group::LoadI32(AT),
+    ),
+    (BYTE, Group::LoadByte(AT)),
+    (SIGNED_BYTE, Group::LoadSignedByte(AT)),
+    (HALF, Group::LoadHalf(AT)),
+    (SIGNED_HALF, Group::Plain),
+    (DROP, Group::Discard),
+    (FIRST, Group::Get(0)),
+    (
+        Instr::Memory(MemoryOp::Load(Load::Whole(ValType::I64)), AT),
+        Group::LoadI64(AT),
+    ),
+    (DROP, Group::Discard),
+    (FIRST, Group::Get(0)),
+    (THIRD, Group::Get(3)),
+    (STORE, Group::StoreI32(AT)),
+    (FIRST, Group::Get(0)),
+    (THIRD, Group::Get(3)),
+    (STORE_BYTE, Group::StoreByte(AT)),
+    (FIRST, Group::Get(0)),
+    (THIRD, Group::Get(3)),
+    (STORE_HALF, Group::StoreHalf(AT)),
+    (FIRST, Group::Get(0)),
+    (MANY, Group::Get(300)),
+    (STORE_64, Group::StoreI64(AT)),
+    (Instr::Plain(Plain::Return), Group::Return),
+    (END, Group::End),
 ];

@@ -32,3 +32,14 @@ module _ {State Op Reply Value Fixed : Type 0} (space : Space Op Reply Value Fix
 
   pub free_still : (breaks : List Break) (free : List ℕ) (k : ℕ) (w v : WorldAt State Value Fixed) → k ≡ 0 → RoundsLead space code log k w v → AreFree code log w breaks free → AreFree code log v breaks free
   free_still breaks free k w v e lead f = none_on breaks free w v (subst (λ n. RoundsLead space code log n w v) e lead) f
+
+  none_stay : (w v : WorldAt State Value Fixed) → RoundsLead space code log 0 w v → v ≡ w
+  none_stay w v lead =
+      elim lead [
+        | inl z ↦ z.1
+        | inr r ↦ ap (λ ts. let x : WorldAt State Value Fixed = record { threads = ts; memory = v.memory } in x) (same_threads w v r) ∙ ap (λ m. let x : WorldAt State Value Fixed = record { threads = w.threads; memory = m } in x) r.memory
+      ]
+
+  -- no rounds leave the world
+  pub stays_still : (k : ℕ) (w v : WorldAt State Value Fixed) → k ≡ 0 → RoundsLead space code log k w v → v ≡ w
+  stays_still k w v e lead = none_stay w v (subst (λ n. RoundsLead space code log n w v) e lead)

@@ -9,3 +9,6 @@ pub mod RoundsOn
 pub mod OneStop
 pub mod FreeSteps
 pub mod FreeRounds
+pub mod KnownTurns
+pub mod FreeEvents
+pub mod GoingAlone

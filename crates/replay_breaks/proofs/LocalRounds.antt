@@ -64,13 +64,13 @@ some_same a b h = cc
 
 -- ---- turns that make no step
 
-rests_still : (x : Turn) → Rests x → makes_step x ≡ false
+pub rests_still : (x : Turn) → Rests x → makes_step x ≡ false
 rests_still turn.Done h = refl
 rests_still turn.Local h = absurd h
 rests_still (turn.Event i) h = absurd h
 rests_still (turn.Refused r) h = refl
 
-rests_goes_on : (x : Turn) → Rests x → GoesOn x
+pub rests_goes_on : (x : Turn) → Rests x → GoesOn x
 rests_goes_on turn.Done h = tt
 rests_goes_on turn.Local h = absurd h
 rests_goes_on (turn.Event i) h = absurd h
@@ -80,7 +80,7 @@ rests_goes_on (turn.Refused Shut) h = tt
 rests_goes_on (turn.Refused Diverged) h = absurd h
 
 module _ {State Op Reply Value Fixed : Type 0} (space : Space Op Reply Value Fixed) (code : Code State Op Reply Fixed) where
-  rests_leave : (w : WorldAt State Value Fixed) (t : ℕ) (x : Turn) → Rests x → world_after_turn space code w t x ≡ w
+  pub rests_leave : (w : WorldAt State Value Fixed) (t : ℕ) (x : Turn) → Rests x → world_after_turn space code w t x ≡ w
   rests_leave w t turn.Done h = refl
   rests_leave w t turn.Local h = absurd h
   rests_leave w t (turn.Event i) h = absurd h
@@ -115,7 +115,7 @@ module _ {State Op Reply Value Fixed : Type 0} (space : Space Op Reply Value Fix
     by_thread None = refl
     by_thread (Some th) = same_end_turn th (log.end t)
 
-    same_turn : turn_of space code log u t ≡ turn_of space code log w t
+    pub same_turn : turn_of space code log u t ≡ turn_of space code log w t
     same_turn = by_thread (slice_get u.threads t) ∙ ap (turn_by_thread space code log w t) thread
 
   -- ---- local steps, one after the other

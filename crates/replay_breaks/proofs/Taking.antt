@@ -18,12 +18,10 @@ use Rattle.replay_gate.specs.Turned.{answer_of_turn, TurnRefused}
 use Rattle.replay_breaks.specs.declared.breaks.Break.{Break}
 use Rattle.replay_breaks.specs.declared.marks.Marks.{Marks}
 use Rattle.replay_breaks.specs.declared.running.Taken.TheVariants as taken
-use Rattle.replay_breaks.specs.Marks.{AreMarks}
 use Rattle.replay_breaks.specs.Tests.{holds_by, IsFirst, HoldsNone}
 use Rattle.replay_breaks.specs.Breaks.{Hits, NoneHits, FirstHits}
-use Rattle.replay_breaks.specs.Free.{GoesFreely}
 use Rattle.replay_breaks.specs.Stops.{GoesOn, is_passed_over, is_done, taken_of, TurnTakes, Diverges}
-use Rattle.replay_breaks.proofs.Testing.{passes_holds, fails_holds}
+use Rattle.replay_breaks.proofs.Testing.{MarksTell, passes_holds, fails_holds}
 
 -- ---- answers
 
@@ -116,15 +114,7 @@ module _ {State Op Reply Value Fixed : Type 0} (space : Space Op Reply Value Fix
     world = same ∙ ap (world_after_turn space code w t) (sym is);
   }
 
-  pub freely_takes : (breaks : List Break) (v : WorldAt State Value Fixed) → GoesFreely space code log breaks t w true v → TurnTakes space code log w t breaks v taken.Step
-  freely_takes breaks v goes = record {
-    taken = ap taken_of (sym goes.0);
-    on = subst GoesOn (sym goes.0) tt;
-    none = goes.1;
-    world = goes.2 ∙ ap (world_after_turn space code w t) (sym goes.0);
-  }
-
-  module _ (d : Turned) (marks : Marks) (v : WorldAt State Value Fixed) (m : AreMarks space code w t marks) (is : answer_of_turn (turn_of space code log w t) ≡ Some d)
+  module _ (d : Turned) (marks : Marks) (v : WorldAt State Value Fixed) (m : MarksTell space code w t (turn_of space code log w t) marks) (is : answer_of_turn (turn_of space code log w t) ≡ Some d)
       (after : v ≡ world_after_turn space code w t (turn_of space code log w t)) where
     hits : (b : Break) → makes_step (turn_of space code log w t) ≡ true → holds_by code b t d marks v ≡ true → Hits space code log w t b
     hits b s h = record { step = s; holds = subst (λ u. Rattle.replay_breaks.specs.Breaks.Holds space code w u t (turn_of space code log w t) b) after (passes_holds space code w t (turn_of space code log w t) d marks v m is b h) }

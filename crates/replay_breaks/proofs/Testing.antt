@@ -1,5 +1,5 @@
 -- The test of a break, and what it tells.
-use Rattle.std.proofs.Common.{◌≡◌, ℕ, ◌==◌, ◌&&◌, true, false, cond, List, [], ◌∷◌, map, Option, Some, None, slice_get, option_map, refl, sym, ap, ◌∙◌, subst, inl, inr}
+use Rattle.std.proofs.Common.{◌≡◌, ◌⊎◌, ℕ, ◌==◌, ◌&&◌, true, false, cond, List, [], ◌∷◌, map, Option, Some, None, slice_get, option_map, refl, sym, ap, ◌∙◌, subst, inl, inr}
 use Rattle.std.specs.Prelude.{◌||◌}
 use Rattle.std.proofs.lemmas.Bool.{eqb-true, eqb-false, eq-eqb, ne_eqb, and_parts, and_from, or_cases, or_parts, not-true, not_from_false, both_ways, cases_eq}
 use Rattle.rw_objects.specs.declared.count.Count.{Count}
@@ -7,7 +7,6 @@ use Rattle.rw_objects.specs.declared.touch.Touch.{Touch}
 use Rattle.rw_objects.specs.Space.{Space, mode_at}
 use Rattle.rw_objects.specs.Counts.{count_after_if}
 use Rattle.rw_objects.specs.Code.{Code}
-use Rattle.event_core.specs.declared.pick.Input.{Input}
 use Rattle.event_core.specs.declared.pick.Input.TheVariants.{Go, TimeOut}
 use Rattle.event_core.specs.declared.step.PickStep.{PickStep}
 use Rattle.event_core.specs.declared.step.PickStep.TheVariants as step
@@ -94,25 +93,41 @@ module _ {State Op Reply Value Fixed : Type 0} (space : Space Op Reply Value Fix
       let none = untouched objects w.memory.counts v.memory.counts (space.touches op) x.object h x.among x.changed in
       x.changed (ap (λ (u : WorldAt State Value Fixed). (u.memory.counts x.object).version) is ∙ ap (λ o. (count_after_if o (w.memory.counts x.object)).version) none)
 
-  by_input : (objects : ObjectRange) (i : Input) (marks : Marks) (v : WorldAt State Value Fixed) → AreMarks space code w t marks → v ≡ world_after space code w (pick_of t i)
+  -- the marks tell what the turn writes: they are those of the step by which the thread goes on, and of its time-out, where the
+  -- turn is not that step
+  pub record MarksTell (x : Turn) (marks : Marks) : Type 0 where
+    pub goes : marks.goes ≡ marks_of_step space w.memory.counts (step_of_pick space code w (pick_of t Go))
+    pub out : (marks.times_out ≡ marks_of_step space w.memory.counts (step_of_pick space code w (pick_of t TimeOut))) ⊎ ((marks.times_out ≡ []) × (x ≡ turn.Event Go))
+
+  pub all_tell : (x : Turn) (marks : Marks) → AreMarks space code w t marks → MarksTell x marks
+  all_tell x marks m = record { goes = m.goes; out = inl m.times_out }
+
+  by_going : (objects : ObjectRange) (x : Turn) (marks : Marks) (v : WorldAt State Value Fixed) → MarksTell x marks → v ≡ world_after space code w (pick_of t Go)
       → (is_any_rewritten objects v.memory.counts marks.goes || is_any_rewritten objects v.memory.counts marks.times_out) ≡ false → IsWritten w v objects → ⊥
-  by_input objects Go marks v m is h =
+  by_going objects x marks v m is h =
       let p = or_parts (is_any_rewritten objects v.memory.counts marks.goes) _ h in
       not_by_step objects (step_of_pick space code w (pick_of t Go)) v is (subst (λ ms. is_any_rewritten objects v.memory.counts ms ≡ false) m.goes p.0)
-  by_input objects TimeOut marks v m is h =
-      let p = or_parts (is_any_rewritten objects v.memory.counts marks.goes) _ h in
-      not_by_step objects (step_of_pick space code w (pick_of t TimeOut)) v is (subst (λ ms. is_any_rewritten objects v.memory.counts ms ≡ false) m.times_out p.1)
 
-  not_by_turn : (objects : ObjectRange) (x : Turn) (marks : Marks) (v : WorldAt State Value Fixed) → AreMarks space code w t marks → v ≡ world_after_turn space code w t x
+  by_time_out : (objects : ObjectRange) (marks : Marks) (v : WorldAt State Value Fixed) → MarksTell (turn.Event TimeOut) marks → v ≡ world_after space code w (pick_of t TimeOut)
+      → (is_any_rewritten objects v.memory.counts marks.goes || is_any_rewritten objects v.memory.counts marks.times_out) ≡ false → IsWritten w v objects → ⊥
+  by_time_out objects marks v m is h y =
+      let p = or_parts (is_any_rewritten objects v.memory.counts marks.goes) _ h in
+      elim m.out [
+        | inl e ↦ not_by_step objects (step_of_pick space code w (pick_of t TimeOut)) v is (subst (λ ms. is_any_rewritten objects v.memory.counts ms ≡ false) e p.1) y
+        | inr n ↦ let q = n.1 in cc
+      ]
+
+  not_by_turn : (objects : ObjectRange) (x : Turn) (marks : Marks) (v : WorldAt State Value Fixed) → MarksTell x marks → v ≡ world_after_turn space code w t x
       → (is_any_rewritten objects v.memory.counts marks.goes || is_any_rewritten objects v.memory.counts marks.times_out) ≡ false → IsWritten w v objects → ⊥
   not_by_turn objects turn.Done marks v m is h y = y.changed (ap (λ (u : WorldAt State Value Fixed). (u.memory.counts y.object).version) is)
-  not_by_turn objects turn.Local marks v m is h y = by_input objects Go marks v m is h y
-  not_by_turn objects (turn.Event input) marks v m is h y = by_input objects input marks v m is h y
+  not_by_turn objects turn.Local marks v m is h y = by_going objects turn.Local marks v m is h y
+  not_by_turn objects (turn.Event Go) marks v m is h y = by_going objects (turn.Event Go) marks v m is h y
+  not_by_turn objects (turn.Event TimeOut) marks v m is h y = by_time_out objects marks v m is h y
   not_by_turn objects (turn.Refused r) marks v m is h y = y.changed (ap (λ (u : WorldAt State Value Fixed). (u.memory.counts y.object).version) is)
 
   -- ---- any break
 
-  pub passes_holds : (x : Turn) (d : Turned) (marks : Marks) (v : WorldAt State Value Fixed) → AreMarks space code w t marks → answer_of_turn x ≡ Some d
+  pub passes_holds : (x : Turn) (d : Turned) (marks : Marks) (v : WorldAt State Value Fixed) → MarksTell x marks → answer_of_turn x ≡ Some d
       → (b : Break) → holds_by code b t d marks v ≡ true → Holds space code w v t x b
   passes_holds x d marks v m is (break.Place thread place) h =
       let p = and_parts ((t == thread) && is_answer d) _ h in
@@ -126,10 +141,14 @@ module _ {State Op Reply Value Fixed : Type 0} (space : Space Op Reply Value Fix
   passes_holds x d marks v m is (break.Write objects) h =
       elim (or_cases (is_any_rewritten objects v.memory.counts marks.goes) _ h) [
         | inl p ↦ by_step objects (step_of_pick space code w (pick_of t Go)) v (subst (λ ms. is_any_rewritten objects v.memory.counts ms ≡ true) m.goes p)
-        | inr p ↦ by_step objects (step_of_pick space code w (pick_of t TimeOut)) v (subst (λ ms. is_any_rewritten objects v.memory.counts ms ≡ true) m.times_out p)
+        | inr p ↦
+            elim m.out [
+              | inl e ↦ by_step objects (step_of_pick space code w (pick_of t TimeOut)) v (subst (λ ms. is_any_rewritten objects v.memory.counts ms ≡ true) e p)
+              | inr n ↦ let none = ap (is_any_rewritten objects v.memory.counts) n.0 in absurd cc
+            ]
       ]
 
-  pub fails_holds : (x : Turn) (d : Turned) (marks : Marks) (v : WorldAt State Value Fixed) → AreMarks space code w t marks → answer_of_turn x ≡ Some d → v ≡ world_after_turn space code w t x
+  pub fails_holds : (x : Turn) (d : Turned) (marks : Marks) (v : WorldAt State Value Fixed) → MarksTell x marks → answer_of_turn x ≡ Some d → v ≡ world_after_turn space code w t x
       → (b : Break) → holds_by code b t d marks v ≡ false → Holds space code w v t x b → ⊥
   fails_holds x d marks v m is after (break.Place thread place) h y =
       both_ways _ h (and_from ((t == thread) && is_answer d) _ (and_from (t == thread) _ (eq-eqb t thread y.same) (same_answer x d is ∙ y.event)) (to_number (λ th. th.places) (slice_get v.threads t) place y.at y.exists y.places))

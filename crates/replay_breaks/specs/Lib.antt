@@ -6,3 +6,5 @@ pub mod Rounds
 pub mod Clear
 pub mod OneStop
 pub mod Free
+pub mod Known
+pub mod Going

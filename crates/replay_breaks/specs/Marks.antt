@@ -3,6 +3,8 @@ use Rattle.std.specs.Prelude.{◌≡◌, ℕ, Bool, false, ◌==◌, ◌&&◌, �
 use Rattle.rw_objects.specs.Space.{Space}
 use Rattle.rw_objects.specs.Code.{Code}
 use Rattle.rw_objects.specs.declared.count.Count.{Count}
+use Rattle.rw_objects.specs.declared.touch.Found.{Found}
+use Rattle.rw_objects.specs.declared.touch.Found.TheVariants as found
 use Rattle.rw_objects.specs.declared.touch.Touch.{Touch}
 use Rattle.event_core.specs.declared.pick.Input.TheVariants.{Go, TimeOut}
 use Rattle.event_core.specs.declared.step.PickStep.{PickStep}
@@ -16,6 +18,11 @@ use Rattle.replay_breaks.specs.declared.marks.Marks.{Marks}
 
 abbrev pub mark_of : (ℕ → Count) → Touch → Mark
 mark_of counts t = record { object = t.object; version = (counts t.object).version }
+
+-- what an entry found, as a mark
+abbrev pub mark_of_found : Found → Mark
+mark_of_found (found.Read o v) = record { object = o; version = v }
+mark_of_found (found.Write o v r) = record { object = o; version = v }
 
 -- an object of the range, at another version than was marked
 abbrev pub is_rewritten : ObjectRange → (ℕ → Count) → Mark → Bool

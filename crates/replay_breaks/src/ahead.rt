@@ -1,12 +1,14 @@
 //! Rounds of local steps, made many at a time where no break can hold behind them.
 
-ghost use Rattle.std.specs.Prelude.{◌≡◌, ◌≤◌};
+ghost use Rattle.std.specs.Prelude.{◌≡◌, ◌≤◌, length};
 ghost use Rattle.event_core.specs.World.{world_of};
 ghost use Rattle.replay_gate.specs.LocalRounds.{RoundsLead};
 ghost use Rattle.replay_breaks.specs.Clear.{IsClear, AreClear};
 ghost use Rattle.replay_breaks.specs.Free.{AreFree};
+ghost use Rattle.replay_breaks.specs.Known.{IsLone, AreKnown, GoesAhead};
 
 use crate::breaks::Break;
+use crate::known::{Known, lone};
 use event_core::World;
 use replay_gate::{OpenWorld, ReadLog, Replay};
 use rw_objects::{Machine, ObjectSpace};
@@ -20,9 +22,9 @@ const MOST: u32 = 1_048_576;
 /// The most rounds that are made turn by turn between two tries.
 const LONGEST: u32 = 4096;
 
-/// How many rounds of local steps are tried at once, and how many rounds are first made turn by turn. Where all that were
-/// tried could be made, twice as many are next; where hardly any could, none are tried for a while, and for twice as long
-/// each time, so that threads that make many events are seldom copied. Only speed depends on it.
+/// How many rounds of local steps are tried at once, and how many rounds are first made turn by turn. Where all that
+/// were tried could be made, twice as many are next; where hardly any could, none are tried for a while, and for
+/// twice as long each time, so that threads that make many events are seldom copied. Only speed depends on it.
 #[derive(Clone, Copy, Debug, PartialEq, Eq)]
 pub(crate) struct Pace {
     tries: u32,
@@ -41,12 +43,12 @@ impl Pace {
     }
 
     /// How many rounds are tried now.
-    pub(crate) fn tries(self) -> u32 {
+    fn tries(self) -> u32 {
         if self.pause > 0 { 0 } else { self.tries }
     }
 
     /// The pace behind so many rounds that were made at once.
-    pub(crate) fn behind(self, made: u32) -> Pace {
+    fn behind(self, made: u32) -> Pace {
         if self.pause > 0 {
             let pause = self.pause - 1;
             Pace { pause, ..self }
@@ -108,26 +110,87 @@ fn clear_of_all<M: Machine<S>, S: ObjectSpace>(
     clear
 }
 
-/// Makes rounds of local steps, up to so many, where no break holds behind them. Answers how many. Where there are some, no
-/// step is known to be free behind them.
-pub(crate) fn go_ahead<M: Machine<S> + Drop, S: ObjectSpace, L: ReadLog, O: OpenWorld<M, S>>(
+/// Makes rounds of local steps, up to so many, where no break holds behind them. Answers how many. Where there are
+/// some, no step is known to be free behind them, and nothing of any thread.
+fn go_together<M: Machine<S> + Drop, S: ObjectSpace, L: ReadLog, O: OpenWorld<M, S>>(
     alloc: Global,
     replay: &mut Replay<M, S, L, O>,
     breaks: &[Break],
     most: u32,
     free: &mut [u32; 16],
+    all: &mut [Known; 16],
 ) -> u32
-    requires { AreFree M.code (L.log replay.old.log) (world_of replay.old.world) breaks.now free.old }
+    requires free { AreFree M.code (L.log replay.old.log) (world_of replay.old.world) breaks.now free.old }
+    requires known { AreKnown S.meaning M.code (L.log replay.old.log) (world_of replay.old.world) all.old }
     ensures log { replay.new.log ≡ replay.old.log }
     ensures opens { replay.new.opens ≡ replay.old.opens }
     ensures rounds { RoundsLead S.meaning M.code (L.log replay.old.log) result (world_of replay.old.world) (world_of replay.new.world) }
     ensures clear { AreClear M.code (world_of replay.old.world) result breaks.now }
     ensures free { AreFree M.code (L.log replay.old.log) (world_of replay.new.world) breaks.now free.new }
+    ensures known { AreKnown S.meaning M.code (L.log replay.old.log) (world_of replay.new.world) all.new }
 {
+    if most == 0 {
+        return 0;
+    }
     let clear = clear_of_all(breaks, replay.world(), most);
     let made = replay.local_rounds(alloc, clear);
     if made > 0 {
         *free = [0; 16];
+        *all = [Known::Nothing; 16];
     }
     made
+}
+
+/// Makes rounds in which one thread makes a local step and all others rest, as many as come before a break may hold.
+fn go_alone<M: Machine<S>, S: ObjectSpace, L: ReadLog, O: OpenWorld<M, S>>(
+    replay: &mut Replay<M, S, L, O>,
+    breaks: &[Break],
+    thread: u32,
+    free: &mut [u32; 16],
+    all: &[Known; 16],
+)
+    requires free { AreFree M.code (L.log replay.old.log) (world_of replay.old.world) breaks.now free.old }
+    requires known { AreKnown S.meaning M.code (L.log replay.old.log) (world_of replay.old.world) all.now }
+    requires lone { IsLone all.now (length (world_of replay.old.world).threads) thread }
+    ensures log { replay.new.log ≡ replay.old.log }
+    ensures opens { replay.new.opens ≡ replay.old.opens }
+    ensures ahead { GoesAhead S.meaning M.code (L.log replay.old.log) (world_of replay.old.world) (world_of replay.new.world) breaks.now }
+    ensures free { AreFree M.code (L.log replay.old.log) (world_of replay.new.world) breaks.now free.new }
+    ensures known { AreKnown S.meaning M.code (L.log replay.old.log) (world_of replay.new.world) all.now }
+{
+    let at = thread as usize;
+    let left = free[at];
+    if left > 0 {
+        let clear = clear_of_all(breaks, replay.world(), left);
+        let made = replay.local_steps(thread, clear);
+        free[at] = left - made;
+    }
+}
+
+/// Makes rounds of local steps where no break holds behind them: as many as come of one thread, where all others are
+/// known to rest; else of all threads, as the pace says. Answers the pace behind them.
+#[inline(never)]
+pub(crate) fn go_ahead<M: Machine<S> + Drop, S: ObjectSpace, L: ReadLog, O: OpenWorld<M, S>>(
+    alloc: Global,
+    replay: &mut Replay<M, S, L, O>,
+    breaks: &[Break],
+    pace: Pace,
+    free: &mut [u32; 16],
+    all: &mut [Known; 16],
+) -> Pace
+    requires free { AreFree M.code (L.log replay.old.log) (world_of replay.old.world) breaks.now free.old }
+    requires known { AreKnown S.meaning M.code (L.log replay.old.log) (world_of replay.old.world) all.old }
+    ensures log { replay.new.log ≡ replay.old.log }
+    ensures opens { replay.new.opens ≡ replay.old.opens }
+    ensures ahead { GoesAhead S.meaning M.code (L.log replay.old.log) (world_of replay.old.world) (world_of replay.new.world) breaks.now }
+    ensures free { AreFree M.code (L.log replay.old.log) (world_of replay.new.world) breaks.now free.new }
+    ensures known { AreKnown S.meaning M.code (L.log replay.old.log) (world_of replay.new.world) all.new }
+{
+    match lone(all, replay.world().count() as u32) {
+        Some(thread) => {
+            go_alone(replay, breaks, thread, free, all);
+            pace
+        }
+        None => pace.behind(go_together(alloc, replay, breaks, pace.tries(), free, all)),
+    }
 }

@@ -5,7 +5,7 @@ ghost use Rattle.event_core.specs.World.{world_of};
 ghost use Rattle.replay_breaks.specs.Free.{IsFreeOf, IsFree, AreFree, GoesFreely};
 
 use crate::breaks::Break;
-use replay_gate::{OpenWorld, ReadLog, Replay};
+use replay_gate::{OpenWorld, ReadLog, Ready, Replay};
 use rw_objects::{Machine, ObjectSpace};
 use wasm_types::NoMemory;
 
@@ -44,32 +44,41 @@ pub(crate) fn free_steps<M: Machine<S>, S: ObjectSpace, L: ReadLog, O: OpenWorld
     free
 }
 
-/// Makes a local step of a thread where one is free, and answers whether it did. Behind it one step fewer is free.
+/// Makes the step by which a thread goes on, where one is free and the log lets it pass. Behind it one step fewer is
+/// free.
+#[inline(always)]
 pub(crate) fn goes_freely<M: Machine<S>, S: ObjectSpace, L: ReadLog, O: OpenWorld<M, S>>(
     replay: &mut Replay<M, S, L, O>,
+    reader: &mut L::Reader,
     thread: u32,
     breaks: &[Break],
     free: &mut [u32; 16],
-) -> Result<bool, NoMemory>
+) -> Result<Ready, NoMemory>
+    requires reads { L.reads replay.old.log reader.old }
     requires few { thread < 16 }
     requires free { AreFree M.code (L.log replay.old.log) (world_of replay.old.world) breaks.now free.old }
+    ensures reads { L.reads replay.new.log reader.new }
     ensures log { replay.new.log ≡ replay.old.log }
     ensures opens { replay.new.opens ≡ replay.old.opens }
-    ensures goes { IfOk result (λ goes. GoesFreely S.meaning M.code (L.log replay.old.log) breaks.now thread (world_of replay.old.world) goes (world_of replay.new.world)) }
-    ensures free { IfOk result (λ goes. AreFree M.code (L.log replay.old.log) (world_of replay.new.world) breaks.now free.new) }
+    ensures goes { IfOk result (λ ready. GoesFreely S.meaning M.code (L.log replay.old.log) breaks.now thread (world_of replay.old.world) ready (L.holds reader.new thread) (world_of replay.new.world)) }
+    ensures free { IfOk result (λ ready. AreFree M.code (L.log replay.old.log) (world_of replay.new.world) breaks.now free.new) }
     ensures err { OnErr result (world_of replay.new.world ≡ world_of replay.old.world) }
 {
     let at = thread as usize;
     let left = free[at];
     if left == 0 {
-        return Ok(false);
+        return Ok(Ready::Not);
     }
-    match replay.local_turn(thread) {
+    match replay.ready_turn(reader, thread) {
         Err(error) => Err(error),
-        Ok(false) => Ok(false),
-        Ok(true) => {
+        Ok(Ready::Not) => Ok(Ready::Not),
+        Ok(Ready::Local) => {
             free[at] = left - 1;
-            Ok(true)
+            Ok(Ready::Local)
+        }
+        Ok(Ready::Event) => {
+            free[at] = left - 1;
+            Ok(Ready::Event)
         }
     }
 }

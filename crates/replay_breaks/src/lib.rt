@@ -4,6 +4,7 @@
 mod ahead;
 mod breaks;
 mod free;
+mod known;
 mod laws;
 mod marks;
 mod running;

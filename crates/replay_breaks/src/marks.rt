@@ -1,13 +1,16 @@
 //! What the next event of a thread may write.
 
-ghost use Rattle.std.specs.Prelude.{◌≡◌, ◌||◌};
+ghost use Rattle.std.specs.Prelude.{◌≡◌, ◌≤◌, ◌||◌, [], length, map, Some, option_copied};
+ghost use Rattle.rw_objects.specs.declared.entry.Entry.{Entry};
+ghost use Rattle.join_laws.specs.declared.flat.Flat.TheVariants.{Known};
 ghost use Rattle.rw_objects.specs.Counts.{count_at};
 ghost use Rattle.event_core.specs.World.{world_of, step_of_pick};
-ghost use Rattle.replay_breaks.specs.Marks.{marks_of_step, is_any_rewritten, AreMarks};
+ghost use Rattle.replay_breaks.specs.Marks.{mark_of_found, marks_of_step, is_any_rewritten, AreMarks};
 
 use crate::breaks::ObjectRange;
 use event_core::{Input, Pick, PickStep, World};
-use rw_objects::{Few, Machine, Next, ObjectSpace, Versions};
+use join_laws::Flat;
+use rw_objects::{Entry, Few, Found, Machine, Next, ObjectSpace, Versions};
 use std::alloc::Global;
 
 /// An object, and its version.
@@ -22,6 +25,21 @@ pub struct Mark {
 pub struct Marks {
     pub goes: Few<Mark>,
     pub times_out: Few<Mark>,
+}
+
+/// The object that was found, and its version.
+#[inline(always)]
+fn mark_of_found(found: Found) -> Mark
+    ensures { result ≡ mark_of_found found }
+{
+    match found {
+        Found::Read { object, version } => Mark { object, version },
+        Found::Write {
+            object,
+            version,
+            reads: _,
+        } => Mark { object, version },
+    }
 }
 
 /// The objects that a pick touches, with their versions.
@@ -73,6 +91,31 @@ pub(crate) fn marks_of<M: Machine<S>, S: ObjectSpace>(
             input: Input::TimeOut,
         },
     );
+    Marks { goes, times_out }
+}
+
+/// The objects that were found, with their versions.
+fn marks_of_found(alloc: Global, all: &[Found]) -> Few<Mark>
+    requires { length all.now ≤ 3 }
+    ensures { result ≡ map mark_of_found all.now }
+{
+    let mut marks = Few::new(alloc);
+    for found in all {
+        marks.push(mark_of_found(*found));
+    }
+    marks
+}
+
+/// The objects of an entry, with the versions that it found; none of a time-out, and none of an item that is no entry.
+pub(crate) fn marks_of_item(alloc: Global, item: Option<&Flat<Entry>>) -> Marks
+    ensures goes { (e : Entry) → option_copied item.entry ≡ Some (Known e) → result.goes ≡ map mark_of_found e.found }
+    ensures times_out { result.times_out ≡ [] }
+{
+    let goes = match item {
+        Some(Flat::Known(entry)) => marks_of_found(alloc, entry.found.as_slice()),
+        _ => Few::new(alloc),
+    };
+    let times_out = Few::new(alloc);
     Marks { goes, times_out }
 }
 

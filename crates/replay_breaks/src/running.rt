@@ -1,17 +1,21 @@
 //! Replay up to a break.
 
-ghost use Rattle.std.specs.Prelude.{◌≡◌, ◌<◌, ◌||◌, None, IfSome, IfOk, IfErr};
+ghost use Rattle.std.specs.Prelude.{◌≡◌, ◌<◌, ◌||◌, None, Some, IfSome, IfOk, IfErr, slice_get};
 ghost use Rattle.event_core.specs.World.{world_of};
 ghost use Rattle.replay_breaks.specs.Tests.{holds_by, IsFirst, HoldsNone};
 ghost use Rattle.replay_breaks.specs.Free.{AreFree};
+ghost use Rattle.replay_breaks.specs.Going.{GoesOnBy};
+ghost use Rattle.replay_breaks.specs.Known.{AreKnown};
+ghost use Rattle.replay_breaks.specs.declared.known.Known.TheVariants as known;
 ghost use Rattle.replay_breaks.specs.Stops.{is_step, is_held, is_passed_over, is_done, TurnTakes, TurnStopsAt, StopsAt, StopsRight, StopsFree};
 
 use crate::ahead::{Pace, go_ahead};
 use crate::breaks::{Break, Stopped};
 use crate::free::{free_steps, goes_freely};
-use crate::marks::{Marks, marks_of};
+use crate::known::{Known, all_known_later, known_turn};
+use crate::marks::{Marks, marks_of, marks_of_item};
 use event_core::World;
-use replay_gate::{OpenWorld, ReadLog, Replay, ReplayFault, Turned};
+use replay_gate::{OpenWorld, ReadLog, Ready, Replay, ReplayFault, Turned};
 use rw_objects::{Machine, ObjectSpace};
 use std::alloc::Global;
 
@@ -147,8 +151,88 @@ fn take_turn<M: Machine<S>, S: ObjectSpace, L: ReadLog, O: OpenWorld<M, S>>(
     }
 }
 
-/// A turn of a thread, and the test of the breaks behind its step. Where a step of it is free, it asks the thread alone
-/// whether it is local, and then makes it: no break holds behind it. There is no thread past the sixteenth.
+/// Makes the step by which a thread goes on, where one is free and the log lets it pass, and tests the breaks behind
+/// it. Behind a free local step none holds.
+#[inline(always)]
+fn go_on<M: Machine<S>, S: ObjectSpace, L: ReadLog, O: OpenWorld<M, S>>(
+    alloc: Global,
+    replay: &mut Replay<M, S, L, O>,
+    reader: &mut L::Reader,
+    thread: u32,
+    breaks: &[Break],
+    free: &mut [u32; 16],
+) -> Result<Ready, Stopped>
+    requires reads { L.reads replay.old.log reader.old }
+    requires few { thread < 16 }
+    requires free { AreFree M.code (L.log replay.old.log) (world_of replay.old.world) breaks.now free.old }
+    ensures reads { L.reads replay.new.log reader.new }
+    ensures log { replay.new.log ≡ replay.old.log }
+    ensures opens { replay.new.opens ≡ replay.old.opens }
+    ensures goes { IfOk result (λ ready. GoesOnBy S.meaning M.code (L.log replay.old.log) breaks.now thread (world_of replay.old.world) ready (world_of replay.new.world)) }
+    ensures free { IfOk result (λ ready. AreFree M.code (L.log replay.old.log) (world_of replay.new.world) breaks.now free.new) }
+    ensures stops { IfErr result (TurnStopsAt S.meaning M.code (L.log replay.old.log) (world_of replay.old.world) thread breaks.now (world_of replay.new.world)) }
+{
+    match goes_freely(replay, reader, thread, breaks, free) {
+        Err(_) => Err(Stopped::Fault(ReplayFault::NoMemory)),
+        Ok(Ready::Local) => Ok(Ready::Local),
+        Ok(Ready::Not) => Ok(Ready::Not),
+        Ok(Ready::Event) => {
+            let marks = marks_of_item(alloc, L::held(reader, thread));
+            match first_that_holds(breaks, thread, Turned::Event, &marks, replay.world()) {
+                Some(index) => Err(Stopped::Break(index)),
+                None => Ok(Ready::Event),
+            }
+        }
+    }
+}
+
+/// A turn of a thread of which nothing is known, and the test of the breaks behind its step. It notes how many steps
+/// of the thread are free, or that it rests.
+#[inline(never)]
+fn turn_slowly<M: Machine<S>, S: ObjectSpace, L: ReadLog, O: OpenWorld<M, S>>(
+    alloc: Global,
+    replay: &mut Replay<M, S, L, O>,
+    reader: &mut L::Reader,
+    thread: u32,
+    breaks: &[Break],
+    free: &mut [u32; 16],
+    all: &mut [Known; 16],
+) -> Result<Taken, Stopped>
+    requires reads { L.reads replay.old.log reader.old }
+    requires few { thread < 16 }
+    requires free { AreFree M.code (L.log replay.old.log) (world_of replay.old.world) breaks.now free.old }
+    requires known { AreKnown S.meaning M.code (L.log replay.old.log) (world_of replay.old.world) all.old }
+    requires nothing { slice_get all.old thread ≡ Some known.Nothing }
+    ensures reads { L.reads replay.new.log reader.new }
+    ensures log { replay.new.log ≡ replay.old.log }
+    ensures opens { replay.new.opens ≡ replay.old.opens }
+    ensures takes { IfOk result (TurnTakes S.meaning M.code (L.log replay.old.log) (world_of replay.old.world) thread breaks.now (world_of replay.new.world)) }
+    ensures free { IfOk result (λ taken. AreFree M.code (L.log replay.old.log) (world_of replay.new.world) breaks.now free.new) }
+    ensures known { IfOk result (λ taken. AreKnown S.meaning M.code (L.log replay.old.log) (world_of replay.new.world) all.new) }
+    ensures stops { IfErr result (TurnStopsAt S.meaning M.code (L.log replay.old.log) (world_of replay.old.world) thread breaks.now (world_of replay.new.world)) }
+{
+    let at = thread as usize;
+    match take_turn(alloc, replay, reader, thread, breaks) {
+        Err(stopped) => Err(stopped),
+        Ok(Taken::Step) => {
+            free[at] = free_steps(replay, thread, breaks);
+            all_known_later(all);
+            Ok(Taken::Step)
+        }
+        Ok(Taken::Done) => {
+            all[at] = Known::Rests(Taken::Done);
+            Ok(Taken::Done)
+        }
+        Ok(Taken::Held) => {
+            all[at] = Known::Rests(Taken::Held);
+            Ok(Taken::Held)
+        }
+    }
+}
+
+/// A turn of a thread, and the test of the breaks behind its step. Where the thread is known to rest it is not asked
+/// again before another thread went on, and then its gate alone. There is no thread past the sixteenth.
+#[inline(always)]
 fn turn_on<M: Machine<S>, S: ObjectSpace, L: ReadLog, O: OpenWorld<M, S>>(
     alloc: Global,
     replay: &mut Replay<M, S, L, O>,
@@ -156,28 +240,32 @@ fn turn_on<M: Machine<S>, S: ObjectSpace, L: ReadLog, O: OpenWorld<M, S>>(
     thread: u32,
     breaks: &[Break],
     free: &mut [u32; 16],
+    all: &mut [Known; 16],
 ) -> Result<Taken, Stopped>
     requires reads { L.reads replay.old.log reader.old }
     requires free { AreFree M.code (L.log replay.old.log) (world_of replay.old.world) breaks.now free.old }
+    requires known { AreKnown S.meaning M.code (L.log replay.old.log) (world_of replay.old.world) all.old }
     ensures reads { L.reads replay.new.log reader.new }
     ensures log { replay.new.log ≡ replay.old.log }
     ensures opens { replay.new.opens ≡ replay.old.opens }
     ensures takes { IfOk result (TurnTakes S.meaning M.code (L.log replay.old.log) (world_of replay.old.world) thread breaks.now (world_of replay.new.world)) }
     ensures free { IfOk result (λ taken. AreFree M.code (L.log replay.old.log) (world_of replay.new.world) breaks.now free.new) }
+    ensures known { IfOk result (λ taken. AreKnown S.meaning M.code (L.log replay.old.log) (world_of replay.new.world) all.new) }
     ensures stops { IfErr result (TurnStopsAt S.meaning M.code (L.log replay.old.log) (world_of replay.old.world) thread breaks.now (world_of replay.new.world)) }
 {
     if thread >= 16 {
         return Ok(Taken::Done);
     }
-    match goes_freely(replay, thread, breaks, free) {
-        Err(_) => Err(Stopped::Fault(ReplayFault::NoMemory)),
-        Ok(true) => Ok(Taken::Step),
-        Ok(false) => match take_turn(alloc, replay, reader, thread, breaks) {
+    match known_turn(replay, reader, thread, all) {
+        Some(taken) => Ok(taken),
+        None => match go_on(alloc, replay, reader, thread, breaks, free) {
             Err(stopped) => Err(stopped),
-            Ok(taken) => {
-                free[thread as usize] = free_steps(replay, thread, breaks);
-                Ok(taken)
+            Ok(Ready::Local) => Ok(Taken::Step),
+            Ok(Ready::Event) => {
+                all_known_later(all);
+                Ok(Taken::Step)
             }
+            Ok(Ready::Not) => turn_slowly(alloc, replay, reader, thread, breaks, free, all),
         },
     }
 }
@@ -196,8 +284,9 @@ fn run_by<M: Machine<S> + Drop, S: ObjectSpace, L: ReadLog, O: OpenWorld<M, S>>(
     ensures stops { StopsAt S.meaning M.code (L.log replay.old.log) (world_of replay.old.world) order.now breaks.now (world_of replay.new.world) result }
 {
     let mut free = [0u32; 16];
+    let mut all = [Known::Nothing; 16];
     for thread in order {
-        match turn_on(alloc, replay, reader, *thread, breaks, &mut free) {
+        match turn_on(alloc, replay, reader, *thread, breaks, &mut free, &mut all) {
             Ok(_) => {}
             Err(stopped) => return stopped,
         }
@@ -209,7 +298,7 @@ fn run_by<M: Machine<S> + Drop, S: ObjectSpace, L: ReadLog, O: OpenWorld<M, S>>(
     let mut pace = Pace::new();
     while made || next < count {
         if next < count {
-            match turn_on(alloc, replay, reader, next, breaks, &mut free) {
+            match turn_on(alloc, replay, reader, next, breaks, &mut free, &mut all) {
                 Ok(taken) => {
                     made = either(made, taken.is_step());
                     held = either(held, taken.is_held());
@@ -218,7 +307,7 @@ fn run_by<M: Machine<S> + Drop, S: ObjectSpace, L: ReadLog, O: OpenWorld<M, S>>(
             }
             next += 1;
         } else {
-            pace = pace.behind(go_ahead(alloc, replay, breaks, pace.tries(), &mut free));
+            pace = go_ahead(alloc, replay, breaks, pace, &mut free, &mut all);
             next = 0;
             made = false;
             held = false;
@@ -234,10 +323,11 @@ fn run_by<M: Machine<S> + Drop, S: ObjectSpace, L: ReadLog, O: OpenWorld<M, S>>(
 /// Takes turns of a replay up to a break: a turn for each thread of the order, then rounds of threads 0, 1, .., until
 /// a break holds behind a turn that made a step, no thread has a step any more, or a turn is refused for divergence
 /// or want of memory. Rounds of local steps, behind which no break can hold, are made many at a time; elsewhere a
-/// local step is free where its thread has steps left to its logged end and no break at its steps comes with it. One
-/// reader goes forward through the log. Threads that are done, that the log does not let pass, or of which it does
-/// not know are passed over. The replay can go on from there. On a log below that of a run no thread diverges; on the
-/// whole log of a run it is never stuck.
+/// step is free where its thread has steps left to its logged end and no break at its steps comes with it. A thread
+/// that rests is asked again only behind steps of others, and then its gate alone. One reader goes forward through
+/// the log. Threads that are done, that the log does not let pass, or of which it does not know are passed over. The
+/// replay can go on from there. On a log below that of a run no thread diverges; on the whole log of a run it is
+/// never stuck.
 pub fn run_to<M: Machine<S> + Drop, S: ObjectSpace, L: ReadLog, O: OpenWorld<M, S>>(
     alloc: Global,
     replay: &mut Replay<M, S, L, O>,

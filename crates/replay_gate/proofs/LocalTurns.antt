@@ -139,7 +139,7 @@ module _ {State Op Reply Value Fixed : Type 0} (space : Space Op Reply Value Fix
 
   -- ---- steps are left
 
-  record IsLeft : Type 0 where
+  pub record IsLeft : Type 0 where
     pub thread : ThreadAt State
     pub exists : slice_get w.threads t ≡ Some thread
     pub end : End
@@ -151,6 +151,9 @@ module _ {State Op Reply Value Fixed : Type 0} (space : Space Op Reply Value Fix
   is_left (Some flat.Clash) x ends is h = absurd (omega (arith, h))
   is_left (Some (flat.Known e)) None ends is h = absurd (omega (arith, h))
   is_left (Some (flat.Known e)) (Some th) ends is h = record { thread = th; exists = is; end = e; is_known = ends; below = omega (arith, h) }
+
+  pub left_of : HasStepsLeft code log w t → IsLeft
+  left_of left = is_left (log.end t) (slice_get w.threads t) refl refl left
 
   -- a local step is then the turn
   pub is_turn : HasStepsLeft code log w t → step_of_pick space code w (pick_of t Go) ≡ step.Local → true ≡ is_local (turn_of space code log w t)

@@ -111,7 +111,7 @@ met : (m : Mode) (o : ℕ) (counts : ℕ → Count) → is_met (found_as m o (co
 met Read o counts = (Decides-eqb (counts o).version (counts o).version).1 refl
 met Write o counts = both ((counts o).version == (counts o).version) ((counts o).reads == (counts o).reads) ((Decides-eqb (counts o).version (counts o).version).1 refl) ((Decides-eqb (counts o).reads (counts o).reads).1 refl)
 
-found_open : (ts : List Touch) (counts : ℕ → Count) → is_open (all_found ts counts) counts ≡ true
+pub found_open : (ts : List Touch) (counts : ℕ → Count) → is_open (all_found ts counts) counts ≡ true
 found_open [] counts = refl
 found_open (t ∷ ts) counts = both (is_met (found_as t.mode t.object (counts t.object)) counts) (is_open (all_found ts counts) counts) (met t.mode t.object counts) (found_open ts counts)
 
@@ -119,7 +119,7 @@ of_touch : (m : Mode) (o : ℕ) (c : Count) → is_of (record { object = o; mode
 of_touch Read o c = both (o == o) true ((Decides-eqb o o).1 refl) refl
 of_touch Write o c = both (o == o) true ((Decides-eqb o o).1 refl) refl
 
-found_of : (ts : List Touch) (counts : ℕ → Count) → are_of ts (all_found ts counts) ≡ true
+pub found_of : (ts : List Touch) (counts : ℕ → Count) → are_of ts (all_found ts counts) ≡ true
 found_of [] counts = refl
 found_of (t ∷ ts) counts = both (is_of t (found_as t.mode t.object (counts t.object))) (are_of ts (all_found ts counts)) (of_touch t.mode t.object (counts t.object)) (found_of ts counts)
 
@@ -129,7 +129,7 @@ own_entry t e = ap (λ b. cond b (e ∷ []) []) ((Decides-eqb t t).1 refl)
 -- ---- runs
 
 module _ {State Op Reply Value Fixed : Type 0} (space : Space Op Reply Value Fixed) (code : Code State Op Reply Fixed) where
-  takes : (m : Memory Value Fixed) (op : Op) (n : Next Op) → step_of_next space m n Go ≡ step.Event op → TakesReply n
+  pub takes : (m : Memory Value Fixed) (op : Op) (n : Next Op) → step_of_next space m n Go ≡ step.Event op → TakesReply n
   takes m op next.Local h = absurd cc
   takes m op (next.Ask p) h = tt
   takes m op (next.Asleep resume out) h = tt

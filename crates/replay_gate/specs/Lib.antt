@@ -10,3 +10,5 @@ pub mod LocalRounds
 pub mod Finished
 pub mod Local
 pub mod Needs
+pub mod Ready
+pub mod Alone

@@ -1,19 +1,24 @@
 //! A replay that is made turn by turn.
 
-ghost use Rattle.std.specs.Prelude.{◌≡◌, ◌⊎◌, cond, slice_get, Some, IfOk, IfErr, OnOk, OnErr};
-ghost use Rattle.event_core.specs.World.{world_of};
+ghost use Rattle.std.specs.Prelude.{◌≡◌, ◌⊎◌, ◌≤◌, true, cond, slice_get, Some, IfOk, IfErr, OnOk, OnErr};
+ghost use Rattle.event_core.specs.World.{WorldAt, world_of};
 ghost use Rattle.replay_laws.specs.Turns.{turn_of, world_after_turn};
 ghost use Rattle.event_core.specs.Opening.{IsOpeningWorld};
 ghost use Rattle.replay_laws.specs.declared.turn.Turn.TheVariants as turn;
+ghost use Rattle.replay_gate.specs.Alone.{GoesAlone};
 ghost use Rattle.replay_gate.specs.Leads.{Leads};
 ghost use Rattle.replay_gate.specs.Local.{is_local, steps_left_of, HasStepsLeft};
+ghost use Rattle.replay_gate.specs.LocalRounds.{Rests};
+ghost use Rattle.replay_gate.specs.Ready.{IsReady};
 ghost use Rattle.replay_gate.specs.Shows.{ShowsRecorded};
 ghost use Rattle.replay_gate.specs.Turned.{answer_of_turn, TurnRefused, IsRightRefusal, IsFreeRefusal};
 ghost use Rattle.replay_gate.specs.declared.answers.ReplayFault.TheVariants as ReplayFault;
 
+use crate::alone::run_local;
 use crate::answers::{ReplayFault, Turned};
 use crate::looking::make_local_rounds;
 use crate::read_log::ReadLog;
+use crate::ready::{Ready, rests_still, take_ready};
 use crate::replaying::OpenWorld;
 use crate::turn::{steps_left, take_local, take_turn};
 use event_core::World;
@@ -55,8 +60,8 @@ impl<M: Machine<S> + Drop, S: ObjectSpace, L: ReadLog, O: OpenWorld<M, S>> Repla
     ghost use Rattle.std.specs.Prelude.{◌≤◌};
     ghost use Rattle.replay_gate.specs.LocalRounds.{RoundsLead};
 
-    /// Makes rounds of turns of all threads, up to `most`, in which each thread makes a local step or none, and answers how
-    /// many. There may be fewer than come; none are made where memory is wanted.
+    /// Makes rounds of turns of all threads, up to `most`, in which each thread makes a local step or none, and
+    /// answers how many. There may be fewer than come; none are made where memory is wanted.
     pub fn local_rounds(&mut self, alloc: Global, most: u32) -> u32
         ensures log { self.new.log ≡ self.old.log }
         ensures opens { self.new.opens ≡ self.old.opens }
@@ -105,8 +110,9 @@ impl<M: Machine<S>, S: ObjectSpace, L: ReadLog, O: OpenWorld<M, S>> Replay<M, S,
         take_turn(alloc, &mut self.world, &self.log, reader, thread)
     }
 
-    /// A turn of a thread: its next step, where the log lets it pass. A refusal leaves the replay as it was. On a log below
-    /// that of a run nothing clashes and no thread diverges; on the whole log of a run it is refused by a shut gate alone.
+    /// A turn of a thread: its next step, where the log lets it pass. A refusal leaves the replay as it was. On a log
+    /// below that of a run nothing clashes and no thread diverges; on the whole log of a run it is refused by a shut
+    /// gate alone.
     pub fn turn(&mut self, alloc: Global, thread: u32) -> Result<Turned, ReplayFault>
         ensures log { self.new.log ≡ self.old.log }
         ensures opens { self.new.opens ≡ self.old.opens }
@@ -128,8 +134,8 @@ impl<M: Machine<S>, S: ObjectSpace, L: ReadLog, O: OpenWorld<M, S>> Replay<M, S,
         steps_left(&self.world, &self.log, thread)
     }
 
-    /// A turn of a thread that has steps left to its logged end, where that is a local step; else nothing is done. It answers
-    /// whether the step was made, and looks at the thread alone.
+    /// A turn of a thread that has steps left to its logged end, where that is a local step; else nothing is done. It
+    /// answers whether the step was made, and looks at the thread alone.
     pub fn local_turn(&mut self, thread: u32) -> Result<bool, NoMemory>
         requires { HasStepsLeft M.code (L.log self.old.log) (world_of self.old.world) thread }
         ensures log { self.new.log ≡ self.old.log }
@@ -139,5 +145,44 @@ impl<M: Machine<S>, S: ObjectSpace, L: ReadLog, O: OpenWorld<M, S>> Replay<M, S,
         ensures unchanged { OnErr result (world_of self.new.world ≡ (world_of self.old.world)) }
     {
         take_local(&mut self.world, &self.log, thread)
+    }
+
+    /// A turn of a thread that has steps left to its logged end, where by it the thread goes on: by a local step, or
+    /// by an event that the log lets pass, whose entry the reader then holds. Else nothing is done.
+    #[inline(always)]
+    pub fn ready_turn(&mut self, reader: &mut L::Reader, thread: u32) -> Result<Ready, NoMemory>
+        requires reads { L.reads self.old.log reader.old }
+        requires left { HasStepsLeft M.code (L.log self.old.log) (world_of self.old.world) thread }
+        ensures reads { L.reads self.new.log reader.new }
+        ensures log { self.new.log ≡ self.old.log }
+        ensures opens { self.new.opens ≡ self.old.opens }
+        ensures ready { IfOk result (λ ready. IsReady S.meaning M.code (L.log self.old.log) (world_of self.old.world) thread ready (L.holds reader.new thread) (world_of self.new.world)) }
+        ensures unchanged { OnErr result (world_of self.new.world ≡ (world_of self.old.world)) }
+    {
+        take_ready(&mut self.world, &self.log, reader, thread)
+    }
+
+    /// Whether a thread whose turn made no step before rests still: its turn is then what it was in each world in
+    /// which the thread stood as now and rested. It looks at the gate of the thread's next event alone.
+    #[inline(never)]
+    pub fn rests_still(&self, reader: &mut L::Reader, thread: u32) -> bool
+        requires reads { L.reads self.now.log reader.old }
+        ensures reads { L.reads self.now.log reader.new }
+        ensures rests { result ≡ true → (w : WorldAt M.State S.Value S.Fixed) → slice_get w.threads thread ≡ slice_get (world_of self.now.world).threads thread → Rests (turn_of S.meaning M.code (L.log self.now.log) w thread)
+            → turn_of S.meaning M.code (L.log self.now.log) (world_of self.now.world) thread ≡ turn_of S.meaning M.code (L.log self.now.log) w thread }
+    {
+        rests_still(&self.world, &self.log, reader, thread)
+    }
+
+    /// Makes local steps of a thread, as many as come, but no more than `most`, of those that its logged end has
+    /// left. Answers how many.
+    pub fn local_steps(&mut self, thread: u32, most: u32) -> u32
+        requires { most ≤ steps_left_of M.code ((L.log self.old.log).end thread) (slice_get (world_of self.old.world).threads thread) }
+        ensures log { self.new.log ≡ self.old.log }
+        ensures opens { self.new.opens ≡ self.old.opens }
+        ensures few { result ≤ most }
+        ensures goes { GoesAlone M.code thread result (world_of self.old.world) (world_of self.new.world) }
+    {
+        run_local(&mut self.world, &self.log, thread, most)
     }
 }

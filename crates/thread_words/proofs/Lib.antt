@@ -14,3 +14,6 @@ pub mod Landings
 pub mod Entering
 pub mod Asking
 pub mod Replying
+pub mod AccessesApart
+pub mod FunctionCode
+pub mod CallsApart

@@ -6,3 +6,6 @@ pub mod Calling
 pub mod Accesses
 pub mod Copies
 pub mod Apart
+pub mod AccessesApart
+pub mod FunctionCode
+pub mod CallsApart

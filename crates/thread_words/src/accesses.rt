@@ -11,6 +11,7 @@ ghost use Rattle.thread_step.specs.Effect.{within_capacity, atomically, atomic_l
 ghost use Rattle.thread_words.specs.Words.{instance_at};
 ghost use Rattle.thread_words.specs.Accesses.{takes_of, IsAccess, HasOperands, Tests, AsksBy, CanMove, Asks};
 
+use crate::accesses_apart::memory_access_on;
 use crate::instance::Instance;
 use crate::operands::{one_operand, three_operands, two_i32_operands, two_operands};
 use crate::stacks::{Stacks, Stage};
@@ -22,7 +23,12 @@ use wasm_types::{
 /// The effective address of an access of that width, without wrapping. An access that ends past the greatest
 /// length of the memory is a trap.
 #[inline(always)]
-fn address_within(instance: &Instance, base: u32, offset: u32, width: Width) -> Result<u32, Trap>
+pub(crate) fn address_within(
+    instance: &Instance,
+    base: u32,
+    offset: u32,
+    width: Width,
+) -> Result<u32, Trap>
     ensures { Tests (within_capacity (instance_at instance.now) (base + offset) (2 ^ exponent_of (width_of width))) (base + offset) result }
 {
     let address = u64::from(base) + u64::from(offset);
@@ -54,22 +60,7 @@ fn memory_access(
     requires { HasOperands (takes_of (Memory op argument)) m.now }
     ensures { AsksBy (instance_at instance.now) (Memory op argument) result m.now }
 {
-    match op {
-        MemoryOp::Load(load) => {
-            let base = one_operand(m);
-            let address = address_within(instance, base, argument.offset, load.width())?;
-            Ok(Action::Load { load, address })
-        }
-        MemoryOp::Store(access) => {
-            let (base, operand) = two_operands(m);
-            let address = address_within(instance, base, argument.offset, access.width())?;
-            Ok(Action::Store {
-                access,
-                address,
-                operand,
-            })
-        }
-    }
+    memory_access_on(&m.words, instance, op, argument)
 }
 
 /// What `memory.size` or `memory.grow` asks for.

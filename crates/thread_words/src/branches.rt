@@ -6,15 +6,19 @@ ghost use Rattle.wasm_types.specs.declared.instruction.IndexOp.TheVariants.{Bran
 ghost use Rattle.validator.specs.Context.{labels_in};
 ghost use Rattle.thread_step.specs.Step.{chosen_label};
 ghost use Rattle.thread_step.specs.Thread.{Function, function_at};
-ghost use Rattle.thread_words.specs.Apart.{IsInner, CanLandInside, LandsInside};
+ghost use Rattle.thread_words.specs.Apart.{IsInner};
 ghost use Rattle.thread_words.specs.Fields.{Keeps, IsHeight};
-ghost use Rattle.thread_words.specs.Leaving.{CanBranch, Branches, CanLand, Lands, CanLandAt, LandsAt, HasTable};
+ghost use Rattle.thread_words.specs.FunctionCode.{CanLandWith, LandsWith, CanLandIn, LandsIn, CanLandWithin, LandsWithin};
+ghost use Rattle.thread_words.specs.Leaving.{CanBranch, Branches, HasTable};
 ghost use Rattle.thread_words.specs.Moves.{CanStepIn, StepsIn};
 
-use crate::functions::{behind_end, body_of_function, instruction_at};
+use crate::functions::{
+    behind_end_by, body_of_function, code_of_function, instruction_in, targets_of_function,
+};
 use crate::leaving::leave;
 use crate::operands::{cut, drop_top, i32_operand};
 use crate::stacks::{Label, Stacks};
+use control_flow::Targets;
 use validator::Valid;
 use wasm_types::{BlockKind, Instr, LabelRange, ValType};
 
@@ -27,9 +31,10 @@ pub(crate) struct Landing {
 }
 
 /// The landing at a block of a kind and a result.
-fn land(valid: &Valid, function: u32, opener: u32, kind: BlockKind, t: Option<ValType>) -> Landing
-    requires { CanLand valid.now function opener kind t }
-    ensures { Lands valid.now function opener kind t result }
+#[inline(always)]
+fn land(targets: &Targets, opener: u32, kind: BlockKind, t: Option<ValType>) -> Landing
+    requires { CanLandWith targets.now opener kind t }
+    ensures { LandsWith targets.now opener kind t result }
 {
     match kind {
         BlockKind::Loop => Landing {
@@ -39,19 +44,20 @@ fn land(valid: &Valid, function: u32, opener: u32, kind: BlockKind, t: Option<Va
         },
         BlockKind::Block | BlockKind::If => Landing {
             keep: t.is_some(),
-            place: behind_end(valid, function, opener),
+            place: behind_end_by(targets, opener),
             labels: 0,
         },
     }
 }
 
 /// The landing at the block that is opened at a place.
-fn landing_at(valid: &Valid, function: u32, opener: u32) -> Landing
-    requires { CanLandAt valid.now function opener }
-    ensures { LandsAt valid.now function opener result }
+#[inline(always)]
+fn landing_at(code: &[Instr], targets: &Targets, opener: u32) -> Landing
+    requires { CanLandIn code.now targets.now opener }
+    ensures { LandsIn code.now targets.now opener result }
 {
-    match *instruction_at(valid, function, opener) {
-        Instr::Block(kind, t) => land(valid, function, opener, kind, t),
+    match *instruction_in(code, opener) {
+        Instr::Block(kind, t) => land(targets, opener, kind, t),
         _ => unreachable!(),
     }
 }
@@ -76,23 +82,23 @@ pub(crate) fn is_inner(m: &Stacks, depth: u32) -> bool
     m.labels.len() - m.here.labels != depth as usize
 }
 
-/// A branch to a block, on the labels and the words of a function. Answers the place to go on at.
+/// A branch to a block, on the labels and the words of a function of this code. Answers the place to go on at.
 #[inline(always)]
 pub(crate) fn land_inside(
     labels: &mut Vec<Label>,
     words: &mut Vec<u64>,
-    valid: &Valid,
-    function: u32,
+    code: &[Instr],
+    targets: &Targets,
     depth: u32,
 ) -> u32
-    requires { CanLandInside valid.now function depth words.old labels.old }
-    ensures lands { LandsInside valid.now function depth words.old labels.old result words.new labels.new }
+    requires { CanLandWithin code.now targets.now depth words.old labels.old }
+    ensures lands { LandsWithin code.now targets.now depth words.old labels.old result words.new labels.new }
     ensures capacity { vec_capacity words.new ≡ vec_capacity words.old }
     ensures shorter { length words.new.items ≤ length words.old.items }
 {
     let at = labels.len() - 1 - depth as usize;
     let label = labels[at];
-    let landing = landing_at(valid, function, label.opener);
+    let landing = landing_at(code, targets, label.opener);
     let height = height_below(words.len(), label.height);
     cut(words, height, landing.keep);
     labels.truncate(at + landing.labels);
@@ -111,8 +117,9 @@ fn branch_to(m: &mut Stacks, valid: &Valid, depth: u32) -> bool
         leave(m, valid);
         return false;
     }
-    let function = m.here.function;
-    m.here.place = land_inside(&mut m.labels, &mut m.words, valid, function, depth);
+    let code = code_of_function(valid, m.here.function);
+    let targets = targets_of_function(valid, m.here.function);
+    m.here.place = land_inside(&mut m.labels, &mut m.words, code, targets, depth);
     true
 }
 

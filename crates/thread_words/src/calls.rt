@@ -14,6 +14,7 @@ use validator::Valid;
 use wasm_types::{Body, NoMemory, Outcome, Trap};
 
 /// How many locals a body declares. No memory has room for as many as there are no numbers for.
+#[inline(always)]
 pub fn declared_locals(body: &Body) -> Result<usize, NoMemory>
     ensures ok { IfOk result (λ count. count ≡ length (locals_of body.now.locals)) }
     ensures err { OnErr result (2 ^ 64 ≤ length (locals_of body.now.locals)) }
@@ -30,7 +31,8 @@ pub fn declared_locals(body: &Body) -> Result<usize, NoMemory>
 
 /// How many functions may stand one above the other. The exported function that waits for the start function counts
 /// for none.
-fn frame_limit(starting: bool) -> usize
+#[inline(always)]
+pub(crate) fn frame_limit(starting: bool) -> usize
     ensures { result ≡ most_frames starting }
 {
     if starting { 257 } else { 256 }

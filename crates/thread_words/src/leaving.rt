@@ -25,7 +25,8 @@ fn result_on_top(m: &Stacks, result_type: Option<ValType>) -> Option<Value>
 }
 
 /// Whether the start function still runs, where these callers are left.
-fn still_starts(starting: bool, callers: &[Level]) -> bool
+#[inline(always)]
+pub(crate) fn still_starts(starting: bool, callers: &[Level]) -> bool
     ensures { result ≡ is_still starting callers.now }
 {
     match callers {

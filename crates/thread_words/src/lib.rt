@@ -2,11 +2,13 @@
 #![tactic(auto)]
 
 mod accesses;
+mod accesses_apart;
 mod blocks;
 mod blocks_apart;
 mod branches;
 mod branches_apart;
 mod calls;
+mod calls_apart;
 mod copying;
 mod functions;
 mod indirect;
@@ -20,12 +22,16 @@ mod simple;
 mod stacks;
 
 pub use accesses::access_of;
+pub use accesses_apart::{answer_apart, memory_access_apart};
 pub use blocks::{block, end, end_first_arm};
 pub use blocks_apart::{choose_apart, close_apart, end_arm_apart, open_apart};
 pub use branches::{branch, branch_if, branch_table};
 pub use branches_apart::{branch_apart, branch_if_apart};
 pub use calls::{call, declared_locals, put_zeros};
-pub use functions::{code_of_function, groups_of_function, instruction_at};
+pub use calls_apart::{
+    branch_if_out_apart, branch_out_apart, call_apart, finish_apart, return_apart,
+};
+pub use functions::{code_of_function, groups_of_function, instruction_at, targets_of_function};
 pub use indirect::call_indirect;
 pub use instance::Instance;
 pub use leaving::return_now;

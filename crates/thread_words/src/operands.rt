@@ -14,6 +14,7 @@ use crate::stacks::Stacks;
 use wasm_types::{NoMemory, ValType, Value};
 
 /// The word at a depth, of which the topmost has depth 0.
+#[inline(always)]
 pub(crate) fn operand(words: &[u64], depth: usize) -> u64
     requires { depth < length words.now }
     ensures { result ≡ get_or words.now (length words.now - 1 - depth) result }
@@ -85,6 +86,7 @@ pub(crate) fn store(words: &mut Vec<u64>, at: usize)
 }
 
 /// The topmost word stays where `keep` is true, and what is below it goes down to a height.
+#[inline(always)]
 pub(crate) fn cut(words: &mut Vec<u64>, height: usize, keep: bool)
     requires { height + one_if keep ≤ length words.old.items }
     ensures items { words.new.items ≡ take height words.old.items ++ drop (length words.old.items - one_if keep) words.old.items }
@@ -111,6 +113,7 @@ pub(crate) fn value(t: ValType, word: u64) -> Value
 }
 
 /// The bits of a value as a word.
+#[inline(always)]
 pub fn word(value: Value) -> u64
     ensures bits { result ≡ bits_of value }
     ensures range { IsInRange value }

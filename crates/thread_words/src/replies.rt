@@ -13,7 +13,8 @@ use crate::stacks::{Stacks, Stage};
 use wasm_types::{AtomicOp, Instr, Load, MemoryOp, NoMemory, Outcome, PagesOp, Reply, ValType};
 
 /// The low bits of a number that a value of a type has.
-fn low_bits(t: ValType, bits: u64) -> u64
+#[inline(always)]
+pub(crate) fn low_bits(t: ValType, bits: u64) -> u64
     ensures { result ≡ bits_of (value_by t bits) }
 {
     match t {

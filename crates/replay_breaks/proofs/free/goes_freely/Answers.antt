@@ -1,13 +1,12 @@
-use Rattle.std.proofs.Common.{◌≡◌, ◌<◌, cond, slice_index, sym, ap, ◌∙◌, arith}
+use Rattle.std.proofs.Common.{◌<◌, slice_index, subst, arith}
 use Rattle.event_core.specs.World.{world_of}
-use Rattle.replay_laws.specs.declared.turn.Turn.TheVariants.{Local}
-use Rattle.replay_laws.specs.Turns.{turn_of, world_after_turn}
-use Rattle.replay_gate.proofs.LocalTurns.{local_is}
+use Rattle.replay_gate.specs.Ready.{IsReady}
+use Rattle.replay_breaks.proofs.FreeEvents.{event_free}
 use Rattle.replay_breaks.proofs.FreeSteps.{none_hits, freely_free}
 use Rattle.replay_breaks.proofs.free.goes_freely.Goals as goal
 
-pub returns-in-Ok-true-clause-goes : goal.returns-in-Ok-true-clause-goes
-returns-in-Ok-true-clause-goes g c =
+pub returns-in-Ok-Local-clause-goes : goal.returns-in-Ok-Local-clause-goes
+returns-in-Ok-Local-clause-goes g c =
     let space = g.S.ObjectSpace.meaning in
     let code = g.M.Machine.code in
     let log = g.L.ReadLog.log c.args.replay.now.log in
@@ -15,14 +14,11 @@ returns-in-Ok-true-clause-goes g c =
     let t = c.args.thread in
     let left = slice_index c.args.free.now t in
     let some : 0 < left = let l = c.if-left-eq0.false in omega (arith, l) in
-    let local : turn_of space code log w t ≡ Local = local_is (turn_of space code log w t) (sym c.in-Ok-true.ensures.made ∙ c.in-Ok-true.field-0-test) in (
-      local,
-      none_hits space code g.met.M.Machine.laws log (g.met.L.ReadLog.limits c.args.replay.now.log) c.args.breaks.now w t left some (c.requires.free t) local,
-      c.in-Ok-true.ensures.world ∙ ap (λ b. cond b (world_after_turn space code w t Local) w) c.in-Ok-true.field-0-test,
-    )
+    let is = subst (λ r. IsReady space code log w t r (g.L.ReadLog.holds c.ready_turn.new.reader t) (world_of c.ready_turn.new.self.world)) c.in-Ok-Local.field-0-is c.in-Ok-Local.ensures.ready in
+    (is.0, none_hits space code g.met.M.Machine.laws log (g.met.L.ReadLog.limits c.args.replay.now.log) c.args.breaks.now w t left some (c.requires.free t) is.0, is.1)
 
-pub returns-in-Ok-true-clause-free : goal.returns-in-Ok-true-clause-free
-returns-in-Ok-true-clause-free g c =
+pub returns-in-Ok-Local-clause-free : goal.returns-in-Ok-Local-clause-free
+returns-in-Ok-Local-clause-free g c =
     let space = g.S.ObjectSpace.meaning in
     let code = g.M.Machine.code in
     let log = g.L.ReadLog.log c.args.replay.now.log in
@@ -30,6 +26,20 @@ returns-in-Ok-true-clause-free g c =
     let t = c.args.thread in
     let left = slice_index c.args.free.now t in
     let some : 0 < left = let l = c.if-left-eq0.false in omega (arith, l) in
-    let local : turn_of space code log w t ≡ Local = local_is (turn_of space code log w t) (sym c.in-Ok-true.ensures.made ∙ c.in-Ok-true.field-0-test) in
-    freely_free space code g.met.M.Machine.laws log (g.met.L.ReadLog.limits c.args.replay.now.log) c.args.breaks.now w t left some (c.requires.free t) local (world_of c.local_turn.new.self.world) c.args.free.now
-    (c.in-Ok-true.ensures.world ∙ ap (λ b. cond b (world_after_turn space code w t Local) w) c.in-Ok-true.field-0-test) c.requires.free (let e = c.told-free in let f = c.requires.few in omega (arith, e, f))
+    let is = subst (λ r. IsReady space code log w t r (g.L.ReadLog.holds c.ready_turn.new.reader t) (world_of c.ready_turn.new.self.world)) c.in-Ok-Local.field-0-is c.in-Ok-Local.ensures.ready in
+    freely_free space code g.met.M.Machine.laws log (g.met.L.ReadLog.limits c.args.replay.now.log) c.args.breaks.now w t left some (c.requires.free t) is.0 (world_of c.ready_turn.new.self.world) c.args.free.now is.1 c.requires.free
+    (let e = c.told-free in let f = c.requires.few in omega (arith, e, f))
+
+pub returns-in-Ok-Event-clause-free : goal.returns-in-Ok-Event-clause-free
+returns-in-Ok-Event-clause-free g c =
+    let space = g.S.ObjectSpace.meaning in
+    let code = g.M.Machine.code in
+    let log = g.L.ReadLog.log c.args.replay.now.log in
+    let w = world_of c.args.replay.now.world in
+    let t = c.args.thread in
+    let left = slice_index c.args.free.now t in
+    let some : 0 < left = let l = c.if-left-eq0.false in omega (arith, l) in
+    let held = g.L.ReadLog.holds c.ready_turn.new.reader t in
+    let is = subst (λ r. IsReady space code log w t r held (world_of c.ready_turn.new.self.world)) c.in-Ok-Event.field-0-is c.in-Ok-Event.ensures.ready in
+    event_free space code g.met.M.Machine.laws log (g.met.L.ReadLog.limits c.args.replay.now.log) c.args.breaks.now w (world_of c.ready_turn.new.self.world) t left held is c.args.free.now some (c.requires.free t) c.requires.free
+    (let e = c.told-free in let f = c.requires.few in omega (arith, e, f))

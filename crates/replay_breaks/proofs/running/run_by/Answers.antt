@@ -8,10 +8,12 @@ use Rattle.replay_gate.proofs.Rounds.{thread_in_order, turn_grows, turn_keeps, l
 use Rattle.replay_breaks.specs.Breaks.{NoneHits}
 use Rattle.replay_breaks.specs.Stops.{GoesOn, is_step, TurnTakes, TurnStopsAt, IsBehind}
 use Rattle.replay_breaks.specs.Free.{AreFree}
+use Rattle.replay_breaks.specs.Known.{AreKnown}
 use Rattle.replay_breaks.specs.Rounds.{IsInRound}
 use Rattle.replay_breaks.proofs.Rounds.{steps_taken, at_length, turn_on, in_turn, round_start, round_again, of_round, round_on, ends_so, sticks_so}
 use Rattle.replay_gate.specs.LocalRounds.{RoundsLead}
 use Rattle.replay_breaks.proofs.FreeSteps.{all_none_free}
+use Rattle.replay_breaks.proofs.KnownTurns.{all_nothing}
 use Rattle.replay_breaks.proofs.RoundsOn.{steps_kept, rounds_on}
 use Rattle.replay_breaks.proofs.running.run_by.Goals as goal
 
@@ -21,6 +23,7 @@ loop-thread-init g c =
     record {
       behind = record { at = refl; goes_on = λ i l. absurd (omega (arith, l)); no_break = λ i l. absurd (omega (arith, l)) };
       free = all_none_free g.M.Machine.code (g.L.ReadLog.log c.args.replay.now.log) c.args.breaks.now start 16;
+      known = all_nothing g.S.ObjectSpace.meaning g.M.Machine.code (g.L.ReadLog.log c.args.replay.now.log) start 16;
       reads = c.requires;
       log = refl;
       opens = refl;
@@ -60,6 +63,7 @@ loop-thread-preserved g c =
     (subst (λ r. v ≡ world_after_turn space code w t (turn_of space code (g.L.ReadLog.log r) w t)) inv.log c.in-Ok.ensures.takes.world) in
     record {
       free = subst (λ y. AreFree code (g.L.ReadLog.log y) v breaks c.turn_on.new.free) inv.log c.in-Ok.ensures.free;
+      known = subst (λ y. AreKnown space code (g.L.ReadLog.log y) v c.turn_on.new.all) inv.log c.in-Ok.ensures.known;
       reads = c.turn_on.ensures.reads;
       behind = subst (λ j. IsBehind space code log start order breaks j v) (sym (add-one k)) on;
       log = c.turn_on.ensures.log ∙ inv.log;
@@ -81,6 +85,7 @@ loop-made-init g c =
       round = round_start space code log start order breaks w (subst (λ k. IsBehind space code log start order breaks k w) end inv.behind);
       count = c.count-count.ensures.count ∙ ap (λ x. length (world_of x).threads) c.world.ensures.same ∙ at_length space code log start order breaks c.loop-thread.thread-index w inv.behind;
       free = inv.free;
+      known = inv.known;
       reads = inv.reads;
       log = inv.log;
       opens = inv.opens;
@@ -150,15 +155,17 @@ loop-made-preserved-then-next-count-2 g c =
       reads = c.turn_on-then-next-count-2.ensures.reads;
       log = c.turn_on-then-next-count-2.ensures.log ∙ inv.log;
       opens = c.turn_on-then-next-count-2.ensures.opens ∙ inv.opens;
-      free = subst (λ y. AreFree code (g.L.ReadLog.log y) v breaks c.turn_on-then-next-count-2.new.free) (inv.log) c.in-Ok-turn_on.ensures.free;
+      free = subst (λ y. AreFree code (g.L.ReadLog.log y) v breaks c.turn_on-then-next-count-2.new.free) inv.log c.in-Ok-turn_on.ensures.free;
+      known = subst (λ y. AreKnown space code (g.L.ReadLog.log y) v c.turn_on-then-next-count-2.new.all) inv.log c.in-Ok-turn_on.ensures.known;
     }
 
 pub loop-made-smaller : goal.loop-made-smaller
 loop-made-smaller g c =
     let code = g.M.Machine.code in
     let w = world_of c.loop-made.replay.world in
-    let v = world_of c.go_ahead.new.replay.world in
-    let grows = steps_kept g.S.ObjectSpace.meaning code g.met.M.Machine.laws (g.L.ReadLog.log c.loop-made.replay.log) c.go_ahead.result w v c.go_ahead.ensures.rounds in
+    let v = world_of c.go_ahead-pace.new.replay.world in
+    let ahead = c.go_ahead-pace.ensures.ahead in
+    let grows = steps_kept g.S.ObjectSpace.meaning code g.met.M.Machine.laws (g.L.ReadLog.log c.loop-made.replay.log) ahead.rounds w v ahead.leads in
     let few = c.count-count.ensures.few in let past = c.if-next-count-2.false in grind (arith, grows, few, past)
 
 pub loop-made-preserved : goal.loop-made-preserved
@@ -168,20 +175,22 @@ loop-made-preserved g c =
     let log = g.L.ReadLog.log c.args.replay.now.log in
     let start = world_of c.args.replay.now.world in
     let w = world_of c.loop-made.replay.world in
-    let v = world_of c.go_ahead.new.replay.world in
+    let v = world_of c.go_ahead-pace.new.replay.world in
     let order = c.args.order.now in
     let breaks = c.args.breaks.now in
     let inv = c.loop-made.invariant in
     let past : length start.threads ≤ c.loop-made.next = let l = c.if-next-count-2.false in let n = inv.count in omega (arith, l, n) in
+    let ahead = c.go_ahead-pace.ensures.ahead in
     let begun = round_again space code log start order breaks c.loop-made.next c.loop-made.made c.loop-made.held w past inv.round in
     record {
-      round = rounds_on space code g.met.M.Machine.laws log start order breaks c.go_ahead.result w v
-          (subst (λ r. RoundsLead space code (g.L.ReadLog.log r) c.go_ahead.result w v) inv.log c.go_ahead.ensures.rounds) c.go_ahead.ensures.clear begun;
+      round = rounds_on space code g.met.M.Machine.laws log start order breaks ahead.rounds w v
+          (subst (λ r. RoundsLead space code (g.L.ReadLog.log r) ahead.rounds w v) inv.log ahead.leads) ahead.clear begun;
       count = inv.count;
-      reads = subst (λ y. g.L.ReadLog.reads y c.loop-made.reader) (sym c.go_ahead.ensures.log) inv.reads;
-      free = subst (λ y. AreFree code (g.L.ReadLog.log y) v breaks c.go_ahead.new.free) inv.log c.go_ahead.ensures.free;
-      log = c.go_ahead.ensures.log ∙ inv.log;
-      opens = c.go_ahead.ensures.opens ∙ inv.opens;
+      reads = subst (λ y. g.L.ReadLog.reads y c.loop-made.reader) (sym c.go_ahead-pace.ensures.log) inv.reads;
+      free = subst (λ y. AreFree code (g.L.ReadLog.log y) v breaks c.go_ahead-pace.new.free) inv.log c.go_ahead-pace.ensures.free;
+      known = subst (λ y. AreKnown space code (g.L.ReadLog.log y) v c.go_ahead-pace.new.all) inv.log c.go_ahead-pace.ensures.known;
+      log = c.go_ahead-pace.ensures.log ∙ inv.log;
+      opens = c.go_ahead-pace.ensures.opens ∙ inv.opens;
     }
 
 pub returns-then-held-clause-stops : goal.returns-then-held-clause-stops

@@ -4,6 +4,7 @@ use Rattle.event_core.specs.Threads.{all_steps}
 use Rattle.event_core.specs.World.{world_of}
 use Rattle.replay_breaks.specs.Stops.{IsBehind}
 use Rattle.replay_breaks.specs.Free.{AreFree}
+use Rattle.replay_breaks.specs.Known.{AreKnown}
 use Rattle.replay_breaks.specs.Rounds.{IsInRound}
 use Rattle.replay_breaks.proofs.running.run_by.Given as goal
 
@@ -11,6 +12,7 @@ abbrev pub invariant-loop-thread : goal.invariant-loop-thread
 invariant-loop-thread g l = record {
   behind : IsBehind g.S.ObjectSpace.meaning g.M.Machine.code (g.L.ReadLog.log l.fn.replay.log) (world_of l.fn.replay.world) l.order l.breaks l.thread-index (world_of l.replay.world);
   free : AreFree g.M.Machine.code (g.L.ReadLog.log l.fn.replay.log) (world_of l.replay.world) l.breaks l.free;
+  known : AreKnown g.S.ObjectSpace.meaning g.M.Machine.code (g.L.ReadLog.log l.fn.replay.log) (world_of l.replay.world) l.all;
   reads : g.L.ReadLog.reads l.replay.log l.reader;
   log : l.replay.log ≡ l.fn.replay.log;
   opens : l.replay.opens ≡ l.fn.replay.opens;
@@ -21,6 +23,7 @@ invariant-loop-made g l = record {
   round : IsInRound g.S.ObjectSpace.meaning g.M.Machine.code (g.L.ReadLog.log l.fn.replay.log) (world_of l.fn.replay.world) l.order l.breaks l.next l.made l.held (world_of l.replay.world);
   count : l.count ≡ length (world_of l.fn.replay.world).threads;
   free : AreFree g.M.Machine.code (g.L.ReadLog.log l.fn.replay.log) (world_of l.replay.world) l.breaks l.free;
+  known : AreKnown g.S.ObjectSpace.meaning g.M.Machine.code (g.L.ReadLog.log l.fn.replay.log) (world_of l.replay.world) l.all;
   reads : g.L.ReadLog.reads l.replay.log l.reader;
   log : l.replay.log ≡ l.fn.replay.log;
   opens : l.replay.opens ≡ l.fn.replay.opens;

@@ -3,6 +3,7 @@ use Rattle.event_core.specs.World.{world_of}
 use Rattle.replay_laws.specs.Turns.{turn_of, world_after_turn}
 use Rattle.replay_breaks.specs.Marks.{AreMarks}
 use Rattle.replay_breaks.specs.Tests.{IsFirst, HoldsNone}
+use Rattle.replay_breaks.proofs.Testing.{all_tell}
 use Rattle.replay_breaks.proofs.Taking.{fault_stops, first_hits, passed_takes, done_is, done_takes, step_takes}
 use Rattle.replay_breaks.proofs.running.take_turn.Goals as goal
 
@@ -21,7 +22,7 @@ returns-in-Some-clause-stops g c =
     let t = c.args.thread in
     let d = c.in-Ok.turned in
     let marks = c.marks_of-marks.result in
-    let m = subst (λ x. AreMarks space code (world_of x) t marks) c.world.ensures.same c.marks_of-marks.ensures in
+    let m = all_tell space code w t (turn_of space code (g.L.ReadLog.log c.args.replay.now.log) w t) marks (subst (λ x. AreMarks space code (world_of x) t marks) c.world.ensures.same c.marks_of-marks.ensures) in
     let first = subst (λ x. IsFirst code c.args.breaks.now t d marks (world_of x) c.in-Some.index) c.world-else-is_done.ensures.same c.in-Some.ensures.some in (
       first_hits space code (g.L.ReadLog.log c.args.replay.now.log) w t d marks v m c.in-Ok.ensures.ok c.in-Ok.ensures.world c.args.breaks.now c.in-Some.index (sym c.is_done.ensures ∙ c.if-is_done.false) first,
       c.in-Ok.ensures.world,
@@ -36,7 +37,7 @@ returns-in-None-clause-takes g c =
     let t = c.args.thread in
     let d = c.in-Ok.turned in
     let marks = c.marks_of-marks.result in
-    let m = subst (λ x. AreMarks space code (world_of x) t marks) c.world.ensures.same c.marks_of-marks.ensures in
+    let m = all_tell space code w t (turn_of space code (g.L.ReadLog.log c.args.replay.now.log) w t) marks (subst (λ x. AreMarks space code (world_of x) t marks) c.world.ensures.same c.marks_of-marks.ensures) in
     let none = subst (λ x. HoldsNone code c.args.breaks.now t d marks (world_of x)) c.world-else-is_done.ensures.same (c.first_that_holds.ensures.none c.in-None.is) in
     step_takes space code (g.L.ReadLog.log c.args.replay.now.log) w t d marks v m c.in-Ok.ensures.ok c.in-Ok.ensures.world c.args.breaks.now (sym c.is_done.ensures ∙ c.if-is_done.false) none
 
