@@ -12,8 +12,9 @@ use thread_words::Instance;
 use wasm_instance::{block_of, capacity, first_memory, first_table, initial_pages, is_shared};
 use wasm_types::{Extent, Module, NoMemory, Profile};
 
-/// The numbers of a module's memory in a profile: its length at first, its capacity, which is the declared maximum and at
-/// most 16 pages in profile 1 and 256 in profile 2, and the size of its blocks. A module without a memory has an empty one.
+/// The numbers of a module's memory in a profile: its length at first, its capacity, which is the declared maximum and
+/// at most 16 pages in profile 1 and 256 in profile 2, and the size of its blocks. A module without a memory has an
+/// empty one.
 pub fn memory_limits(module: &Module, profile: Profile) -> MemoryLimits
     ensures { result ≡ limits_of (instance_of «module».now profile 0) }
 {

@@ -64,7 +64,8 @@ fn nanos_in(time: i64) -> u64
     if time > 0 { time as u64 } else { 0 }
 }
 
-/// After how many nanoseconds the sleep of a thread times out: 0 where it does not sleep, or sleeps without a limit of time.
+/// After how many nanoseconds the sleep of a thread times out: 0 where it does not sleep, or sleeps without a limit of
+/// time.
 pub(crate) fn nanos_of(m: &Stacks) -> u64
     ensures { (within : Module) → result ≡ nanos_by (meaning within m.now) }
 {

@@ -16,8 +16,8 @@ use thread_words::{
 use validator::Valid;
 use wasm_types::{IndexOp, Instr, NoMemory, Plain};
 
-/// Makes the step of an instruction of one byte that is not numeric, and answers whether the same function is known to go
-/// on. It takes no memory.
+/// Makes the step of an instruction of one byte that is not numeric, and answers whether the same function is known to
+/// go on. It takes no memory.
 fn plain_step(m: &mut Stacks, valid: &Valid, op: Plain) -> bool
     requires { CanStepIn valid.now (PlainInstr op) m.old }
     ensures steps { StepsIn valid.now (PlainInstr op) m.old m.new }

@@ -42,7 +42,7 @@ impl EntryLog for AllOrNone {
     fn push(&mut self, entry: &Entry) {}
 }
 
-/// Makes local steps of a thread, as many as come, but no more than `most`, of those that its logged end has left.
+/// Makes local steps of a thread, at most `most`, of those that its logged end has left. There may be fewer than come.
 /// Answers how many.
 pub(crate) fn run_local<M: Machine<S>, S: ObjectSpace, L: ReadLog>(
     world: &mut World<M, S>,

@@ -15,10 +15,10 @@ use event_core::{Ended, World};
 use rw_objects::{Machine, ObjectSpace};
 use std::alloc::Global;
 
-/// Finishes a replay: makes the turns that are left from its world on, in rounds of all threads, and answers the end to which
-/// they come, or the fault at which they stop. Where some gated run from the log leads to the world, an end vouches for the
-/// log, and is that of every run whose log the log is below, and a fault is that of a gated run; where some gated run comes
-/// to the log's ends, only memory can be wanting.
+/// Finishes a replay: makes the turns that are left from its world on, in rounds of all threads, and answers the end to
+/// which they come, or the fault at which they stop. Where some gated run from the log leads to the world, an end
+/// vouches for the log, and is that of every run whose log the log is below, and a fault is that of a gated run; where
+/// some gated run comes to the log's ends, only memory can be wanting.
 pub fn finish<M: Machine<S> + Drop, S: ObjectSpace + Drop, L: ReadLog>(
     alloc: Global,
     world: World<M, S>,

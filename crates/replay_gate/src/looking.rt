@@ -132,8 +132,8 @@ fn put<M: Machine<S> + Drop, S: ObjectSpace, L: ReadLog>(
 }
 
 /// Makes rounds of turns of all threads, up to `most`, in which each thread makes a local step or none, and answers how
-/// many. It looks so far ahead in copies of the threads, and tries fewer where one can't make as many. None are made where
-/// memory is wanted.
+/// many. It looks so far ahead in copies of the threads, and tries fewer where one can't make as many. None are made
+/// where memory is wanted.
 pub(crate) fn make_local_rounds<M: Machine<S> + Drop, S: ObjectSpace, L: ReadLog>(
     alloc: Global,
     world: &mut World<M, S>,

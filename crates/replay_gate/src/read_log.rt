@@ -28,8 +28,8 @@ pub trait ReadLog {
     fn reader(&self) -> Self::Reader
         ensures { reads self.now result };
 
-    /// Reads the item at a place of a thread, if one is claimed there; the reader then holds it. Of a thread whose places
-    /// rise no item is searched for, and one that is asked for again is not read again.
+    /// Reads the item at a place of a thread, if one is claimed there; the reader then holds it. Of a thread whose
+    /// places rise no item is searched for, and one that is asked for again is not read again.
     fn read(&self, reader: &mut Self::Reader, thread: u32, place: u32)
         requires reads { reads self.now reader.old }
         requires thread { thread < 16 }

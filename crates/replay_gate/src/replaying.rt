@@ -75,11 +75,11 @@ fn replay_in_order<M: Machine<S> + Drop, S: ObjectSpace + Drop, L: ReadLog, O: O
     }
 }
 
-/// Replays a log: the end, or the fault, of its ordered replay. Where some schedule comes to the log's ends, every order
-/// does, and so the end is reached by a fast one; only where that stops is the order followed, for its very fault. An end
-/// vouches for the log: a run whose log is below it ends so, and its log is that run's where it is complete. And it is the
-/// end of every run whose log it is below. Where some schedule comes to the ends, as on the whole log of a run, only memory
-/// can be wanting.
+/// Replays a log: the end, or the fault, of its ordered replay. Where some schedule comes to the log's ends, every
+/// order does, and so the end is reached by a fast one; only where that stops is the order followed, for its very
+/// fault. An end vouches for the log: a run whose log is below it ends so, and its log is that run's where it is
+/// complete. And it is the end of every run whose log it is below. Where some schedule comes to the ends, as on the
+/// whole log of a run, only memory can be wanting.
 pub fn replay<M: Machine<S> + Drop, S: ObjectSpace + Drop, L: ReadLog, O: OpenWorld<M, S>>(
     alloc: Global,
     opens: &O,

@@ -1,13 +1,12 @@
 //! A replay that is made turn by turn.
 
-ghost use Rattle.std.specs.Prelude.{◌≡◌, ◌⊎◌, ◌≤◌, true, cond, slice_get, Some, IfOk, IfErr, OnOk, OnErr};
+ghost use Rattle.std.specs.Prelude.{◌≡◌, ◌⊎◌, ◌≤◌, true, slice_get, Some, IfOk, IfErr, OnOk, OnErr};
 ghost use Rattle.event_core.specs.World.{WorldAt, world_of};
 ghost use Rattle.replay_laws.specs.Turns.{turn_of, world_after_turn};
 ghost use Rattle.event_core.specs.Opening.{IsOpeningWorld};
-ghost use Rattle.replay_laws.specs.declared.turn.Turn.TheVariants as turn;
 ghost use Rattle.replay_gate.specs.Alone.{GoesAlone};
 ghost use Rattle.replay_gate.specs.Leads.{Leads};
-ghost use Rattle.replay_gate.specs.Local.{is_local, steps_left_of, HasStepsLeft};
+ghost use Rattle.replay_gate.specs.Local.{steps_left_of, HasStepsLeft};
 ghost use Rattle.replay_gate.specs.LocalRounds.{Rests};
 ghost use Rattle.replay_gate.specs.Ready.{IsReady};
 ghost use Rattle.replay_gate.specs.Shows.{ShowsRecorded};
@@ -20,7 +19,7 @@ use crate::looking::make_local_rounds;
 use crate::read_log::ReadLog;
 use crate::ready::{Ready, rests_still, take_ready};
 use crate::replaying::OpenWorld;
-use crate::turn::{steps_left, take_local, take_turn};
+use crate::turn::{steps_left, take_turn};
 use event_core::World;
 use rw_objects::{Machine, ObjectSpace};
 use std::alloc::Global;
@@ -134,19 +133,6 @@ impl<M: Machine<S>, S: ObjectSpace, L: ReadLog, O: OpenWorld<M, S>> Replay<M, S,
         steps_left(&self.world, &self.log, thread)
     }
 
-    /// A turn of a thread that has steps left to its logged end, where that is a local step; else nothing is done. It
-    /// answers whether the step was made, and looks at the thread alone.
-    pub fn local_turn(&mut self, thread: u32) -> Result<bool, NoMemory>
-        requires { HasStepsLeft M.code (L.log self.old.log) (world_of self.old.world) thread }
-        ensures log { self.new.log ≡ self.old.log }
-        ensures opens { self.new.opens ≡ self.old.opens }
-        ensures made { IfOk result (λ made. made ≡ is_local (turn_of S.meaning M.code (L.log self.old.log) (world_of self.old.world) thread)) }
-        ensures world { IfOk result (λ made. world_of self.new.world ≡ cond made (world_after_turn S.meaning M.code (world_of self.old.world) thread turn.Local) (world_of self.old.world)) }
-        ensures unchanged { OnErr result (world_of self.new.world ≡ (world_of self.old.world)) }
-    {
-        take_local(&mut self.world, &self.log, thread)
-    }
-
     /// A turn of a thread that has steps left to its logged end, where by it the thread goes on: by a local step, or
     /// by an event that the log lets pass, whose entry the reader then holds. Else nothing is done.
     #[inline(always)]
@@ -163,7 +149,8 @@ impl<M: Machine<S>, S: ObjectSpace, L: ReadLog, O: OpenWorld<M, S>> Replay<M, S,
     }
 
     /// Whether a thread whose turn made no step before rests still: its turn is then what it was in each world in
-    /// which the thread stood as now and rested. It looks at the gate of the thread's next event alone.
+    /// which the thread stood as now and rested. Where it says no, nothing is known. It looks at the gate of the
+    /// thread's next event alone.
     #[inline(never)]
     pub fn rests_still(&self, reader: &mut L::Reader, thread: u32) -> bool
         requires reads { L.reads self.now.log reader.old }
@@ -174,8 +161,8 @@ impl<M: Machine<S>, S: ObjectSpace, L: ReadLog, O: OpenWorld<M, S>> Replay<M, S,
         rests_still(&self.world, &self.log, reader, thread)
     }
 
-    /// Makes local steps of a thread, as many as come, but no more than `most`, of those that its logged end has
-    /// left. Answers how many.
+    /// Makes local steps of a thread, at most `most`, of those that its logged end has left, and answers how many.
+    /// There may be fewer than come.
     pub fn local_steps(&mut self, thread: u32, most: u32) -> u32
         requires { most ≤ steps_left_of M.code ((L.log self.old.log).end thread) (slice_get (world_of self.old.world).threads thread) }
         ensures log { self.new.log ≡ self.old.log }

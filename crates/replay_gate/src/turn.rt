@@ -184,8 +184,8 @@ pub(crate) fn take_turn<M: Machine<S>, S: ObjectSpace, L: ReadLog>(
     }
 }
 
-/// Makes the local step of a thread's turn, where the turn is that, and answers whether it did. It asks the thread alone,
-/// which has made fewer steps than its logged end has.
+/// Makes the local step of a thread's turn, where the turn is that, and answers whether it did. It asks the thread
+/// alone, which has made fewer steps than its logged end has.
 pub(crate) fn take_local<M: Machine<S>, S: ObjectSpace, L: ReadLog>(
     world: &mut World<M, S>,
     log: &L,

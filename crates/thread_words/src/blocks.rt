@@ -121,8 +121,8 @@ pub fn end(m: &mut Stacks, valid: &Valid) -> bool
     true
 }
 
-/// `else` where the first arm ends: the whole `if` ends. It takes no memory. Answers whether the same function is known to
-/// go on.
+/// `else` where the first arm ends: the whole `if` ends. It takes no memory. Answers whether the same function is known
+/// to go on.
 pub fn end_first_arm(m: &mut Stacks, valid: &Valid) -> bool
     requires { CanStepIn valid.now (Plain Else) m.old }
     ensures steps { StepsIn valid.now (Plain Else) m.old m.new }

@@ -9,8 +9,8 @@ use crate::stacks::Stacks;
 use std::alloc::Global;
 use wasm_types::NoMemory;
 
-/// How many more items a copied list has room for at the least: of the smallest, of 8 bytes, two lines of memory. So what two threads
-/// write into lists of their own, at their tops, lies in lines apart, wherever the lists lie.
+/// How many more items a copied list has room for at the least: of the smallest, of 8 bytes, two lines of memory. So
+/// what two threads write into lists of their own, at their tops, lies in lines apart, wherever the lists lie.
 const ROOM: usize = 16;
 
 /// The same items once more, with room for others.

@@ -28,10 +28,10 @@ pub use blocks_apart::{choose_apart, close_apart, end_arm_apart, open_apart};
 pub use branches::{branch, branch_if, branch_table};
 pub use branches_apart::{branch_apart, branch_if_apart};
 pub use calls::{call, declared_locals, put_zeros};
-pub use calls_apart::{
-    branch_if_out_apart, branch_out_apart, call_apart, finish_apart, return_apart,
+pub use calls_apart::{call_apart, finish_apart, return_apart};
+pub use functions::{
+    FunctionTables, code_of_function, groups_of_function, instruction_at, tables_of_function,
 };
-pub use functions::{code_of_function, groups_of_function, instruction_at, targets_of_function};
 pub use indirect::call_indirect;
 pub use instance::Instance;
 pub use leaving::return_now;
