@@ -13,8 +13,8 @@ pub struct BlockRange {
     pub past: u32,
 }
 
-/// The blocks that hold a byte of a range of a 32-bit memory, which is that from an address on of so many bytes. A range
-/// of no bytes has no blocks.
+/// The blocks that hold a byte of a range of a 32-bit memory, which is that from an address on of so many bytes. A
+/// range of no bytes has no blocks.
 pub fn blocks_of_range(block: Block, from: u32, len: u32) -> BlockRange
     ensures holding { AreHolding block from len result }
     ensures order { result.first ≤ result.past }

@@ -1,5 +1,5 @@
-//! Views of a stopped replay: the bytes of its memory, the versions of its objects, how its threads stand, and all of them
-//! as a text.
+//! Views of a stopped replay: the bytes of its memory, the versions of its objects, how its threads stand, and all of
+//! them as a text.
 #![tactic(auto)]
 
 mod blocks;

@@ -24,11 +24,11 @@ use wasm_types::{Block, NoMemory};
 const ROW: usize = 16;
 
 /// The view of a world at which a replay stopped so: `stopped place`, `stopped step`, `stopped write`, `finished` or
-/// `stuck`; `thread T steps S places P OUTCOME` for each thread, by number; `object O version V reads R` for each block that
-/// holds a byte of the range, by number; and the range in rows of 16 bytes from its start, the last one perhaps shorter: the
-/// address in eight lower-case hexadecimal digits, and the bytes in two each. The range is that from an address on of so
-/// many bytes; blocks are of this size. Where the replay stopped at a break, it is one of the list. Behind a thread's line
-/// stands the note of its number, if there is one.
+/// `stuck`; `thread T steps S places P OUTCOME` for each thread, by number; `object O version V reads R` for each block
+/// that holds a byte of the range, by number; and the range in rows of 16 bytes from its start, the last one perhaps
+/// shorter: the address in eight lower-case hexadecimal digits, and the bytes in two each. The range is that from an
+/// address on of so many bytes; blocks are of this size. Where the replay stopped at a break, it is one of the list.
+/// Behind a thread's line stands the note of its number, if there is one.
 pub fn view<M: Machine<S>, S: MemorySpace>(
     alloc: Global,
     world: &World<M, S>,

@@ -19,7 +19,8 @@ pub fn is_in_view<M: Machine<S>, S: MemorySpace>(world: &World<M, S>, from: u32,
     end <= world.space().bytes().len() as u64
 }
 
-/// The bytes of the memory from an address on, so many of them. No other byte is copied, and of length 0 no memory is taken.
+/// The bytes of the memory from an address on, so many of them. No other byte is copied, and of length 0 no memory is
+/// taken.
 pub fn bytes<M: Machine<S>, S: MemorySpace>(
     alloc: Global,
     world: &World<M, S>,

@@ -4,9 +4,9 @@ use crate::trials::stand;
 use std::test::Fail;
 use wasm_types::Profile;
 
-/// Several rows have a function of an i32, which gives 0 for 0, and else one more than it gives for one less; it calls itself,
-/// or through element 0 of the table. The start section is `08 01 01`: function 1. The element section `09 07` has function 0
-/// in element 0; `09 0e` has functions 1 and 2 in elements 1 and 2, and then function 1 in element 2.
+/// Several rows have a function of an i32, which gives 0 for 0, and else one more than it gives for one less; it calls
+/// itself, or through element 0 of the table. The start section is `08 01 01`: function 1. The element section `09 07`
+/// has function 0 in element 0; `09 0e` has functions 1 and 2 in elements 1 and 2, and then function 1 in element 2.
 const CALLS: &str = "\
 # 256 functions stand one above the other.
 03 | 00 2000 047f 2000 4101 6b 1000 4101 6a 05 4100 0b 0b | - | 2555 steps, i32 255 | thread f 255

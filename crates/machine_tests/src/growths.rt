@@ -1,5 +1,5 @@
-//! Want of memory. `rt try --test --fail-alloc N` refuses the Nth growth; without it none is refused, and the tests pass,
-//! too. What was refused is tried again, and the thread then ends as without the refusal.
+//! Want of memory. `rt try --test --fail-alloc N` refuses the Nth growth; without it none is refused, and the tests
+//! pass, too. What was refused is tried again, and the thread then ends as without the refusal.
 
 use crate::trials::{Case, SHARED, Way, advance, check};
 use integer_machine::ThreadState;
@@ -18,8 +18,8 @@ pub(crate) enum Refused {
     Room,
 }
 
-/// The length of the memory and what function 1 gives for 12; which calls itself from inside three blocks, down to 0, with
-/// three lengths on its operands, and has two locals. All stacks grow, and the first word is a reply's.
+/// The length of the memory and what function 1 gives for 12; which calls itself from inside three blocks, down to 0,
+/// with three lengths on its operands, and has two locals. All stacks grow, and the first word is a reply's.
 const GROWING: Case<'static> = Case {
     imports: "",
     memory: SHARED,

@@ -28,8 +28,8 @@ const SEGMENT: &str = "\
     0061736d01000000010401600000030201000504010301010705010177\
     00000a040102000b0b07010041030b012a";
 
-/// The world of a module with two threads that run `w`; moves, each of a thread that makes so many steps; why the replay
-/// stopped, among its breaks; the range of bytes that is shown; and what is seen.
+/// The world of a module with two threads that run `w`; moves, each of a thread that makes so many steps; why the
+/// replay stopped, among its breaks; the range of bytes that is shown; and what is seen.
 struct Row {
     module: &'static str,
     moves: &'static [(u32, u32)],

@@ -19,8 +19,8 @@ use std::thread::Threads;
 use striped_memory::StripedMemory;
 use waiter_queues::SharedSpace;
 
-/// Replays a log by at most 16 machines that made no step, each in a thread of its own, over a shared memory that no thread has
-/// touched. What is answered is the end of a gated run from the log, or the fault at which one stands.
+/// Replays a log by at most 16 machines that made no step, each in a thread of its own, over a shared memory that no
+/// thread has touched. What is answered is the end of a gated run from the log, or the fault at which one stands.
 pub fn replay_memory<
     X,
     M: Machine<StripedMemory, State = X> + Drop + Send + Sync,

@@ -11,8 +11,9 @@ use replica::{Replica, ReplicaFault};
 use std::alloc::Global;
 use std::sync::Wait;
 
-/// Delivers the pieces that come through a channel until no sender is left, or 2^64 - 1 came, and answers how many there were. At
-/// a refusal it stops: the pieces before it stand delivered, and the one that was refused is out of the channel.
+/// Delivers the pieces that come through a channel until no sender is left, or 2^64 - 1 came, and answers how many
+/// there were. At a refusal it stops: the pieces before it stand delivered, and the one that was refused is out of the
+/// channel.
 pub fn receive<R: Wait>(
     rt: &R,
     alloc: Global,

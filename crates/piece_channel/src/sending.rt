@@ -31,8 +31,8 @@ fn send_pieces<R: Wait>(
     Ok(count)
 }
 
-/// Sends a recorded run as pieces of `size` entries each, by rising thread and place, and answers how many there were. Where the
-/// channel fails, for whatever cause, no piece behind that one is sent.
+/// Sends a recorded run as pieces of `size` entries each, by rising thread and place, and answers how many there were.
+/// Where the channel fails, for whatever cause, no piece behind that one is sent.
 pub fn send<R: Wait>(
     rt: &R,
     alloc: Global,

@@ -218,8 +218,8 @@ fn stopped(
     Ok((stopped, places))
 }
 
-/// Where the end of a thread is not known the others go on, until none can; a thread that can't do what the log says of it
-/// ends the run.
+/// Where the end of a thread is not known the others go on, until none can; a thread that can't do what the log says of
+/// it ends the run.
 #[test]
 fn replays_without_breaks(rt: HostRuntime) -> Result<(), Fail> {
     let found = stopped(rt.alloc(), ACCESSES, [Some(0), None, Some(7)])?;

@@ -1,5 +1,5 @@
-//! Tests of recordings and replays of scripts. A crate with tests is proved twice, so they stand here, over what those crates
-//! offer.
+//! Tests of recordings and replays of scripts. A crate with tests is proved twice, so they stand here, over what those
+//! crates offer.
 #![tactic(auto)]
 
 #[cfg(test)]

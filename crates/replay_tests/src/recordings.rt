@@ -247,7 +247,8 @@ fn refused_steps_are_made_again(rt: HostRuntime) -> Result<(), Fail> {
     Ok(())
 }
 
-/// A recording of a script that rests, adds 3 to the third cell, which holds 4, and rests, by a pick more than it has steps.
+/// A recording of a script that rests, adds 3 to the third cell, which holds 4, and rests, by a pick more than it has
+/// steps.
 fn recorded_rests(alloc: Global) -> Result<Recorded, Fail> {
     let script = [
         ScriptStep::Rest,

@@ -1,5 +1,6 @@
-//! Want of memory in replays. Where each growth is refused in turn, as `bench/test_growths.py` does it, what was refused has changed
-//! nothing, and the replay goes on to the same end. Without it none is refused, and the tests pass, too.
+//! Want of memory in replays. Where each growth is refused in turn, as `bench/test_growths.py` does it, what was
+//! refused has changed nothing, and the replay goes on to the same end. Without it none is refused, and the tests pass,
+//! too.
 
 use crate::breaks::{ACCESSES, SUMS};
 use crate::logs::{ClaimedLog, SCRIPTS, Scripts};

@@ -179,8 +179,8 @@ struct Fault {
     fault: ReplayFault,
 }
 
-/// An entry that is missing, that clashes, that is of another access, and that waits for a read that never comes; ends that
-/// are not known, by two orders; and an end with another sum.
+/// An entry that is missing, that clashes, that is of another access, and that waits for a read that never comes; ends
+/// that are not known, by two orders; and an end with another sum.
 const FAULTS: [Fault; 7] = [
     Fault {
         thread: 1,
@@ -346,7 +346,8 @@ fn compare_taken(
     assert_eq!(rt; (world.places(1), world.places(2)), (Some(0), Some(1)));
 }
 
-/// A replay turn by turn, by the second log: a shut gate refuses and changes nothing, a thread that is not there is done.
+/// A replay turn by turn, by the second log: a shut gate refuses and changes nothing, a thread that is not there is
+/// done.
 #[test]
 fn turns_are_taken(rt: HostRuntime) -> Result<(), Fail> {
     let alloc = rt.alloc();

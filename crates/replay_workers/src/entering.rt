@@ -18,8 +18,8 @@ use std::sync::Wait;
 use striped_objects::Striped;
 use wasm_types::NoMemory;
 
-/// Tries to enter a call of a thread whose entry is to be this one, and gives it the reply. Answers whether the call was entered.
-/// The memory that the thread may want is had before.
+/// Tries to enter a call of a thread whose entry is to be this one, and gives it the reply. Answers whether the call
+/// was entered. The memory that the thread may want is had before.
 pub(crate) fn enter_at<
     M: Machine<S>,
     S: Striped,

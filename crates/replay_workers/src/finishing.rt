@@ -17,9 +17,9 @@ use std::sync::Wait;
 use std::thread::Threads;
 use striped_objects::Striped;
 
-/// Replays a log by threads, of machines that made no step, over a space that no thread has touched. Each is driven by a worker of
-/// its own; the turns that these leave are made in rounds. What is answered is the end of a gated run from the log, or the fault at
-/// which one stands.
+/// Replays a log by threads, of machines that made no step, over a space that no thread has touched. Each is driven by
+/// a worker of its own; the turns that these leave are made in rounds. What is answered is the end of a gated run from
+/// the log, or the fault at which one stands.
 pub fn replay_by_threads<
     S: Striped + Drop + Send + Sync,
     X,

@@ -53,8 +53,8 @@ fn known(item: Option<&Flat<Entry>>) -> Option<&Entry> {
     }
 }
 
-/// The next event of a thread, at the gate of its logged entry. Answers whether it was entered. The entry of the event behind it is read
-/// by another reader, so that the thread waits for that one's gate from there on.
+/// The next event of a thread, at the gate of its logged entry. Answers whether it was entered. The entry of the event
+/// behind it is read by another reader, so that the thread waits for that one's gate from there on.
 fn pass_event<
     M: Machine<S>,
     S: Striped,
@@ -106,8 +106,8 @@ fn pass_event<
     }
 }
 
-/// One move of a thread that follows the log, as far as its logged end: a run of local steps, or an event. Answers whether the
-/// thread may go on.
+/// One move of a thread that follows the log, as far as its logged end: a run of local steps, or an event. Answers
+/// whether the thread may go on.
 fn follow<
     M: Machine<S>,
     S: Striped,
@@ -155,8 +155,8 @@ fn follow<
     }
 }
 
-/// Drives a thread along the log until it has made the steps of its logged end, can't give what the log has next, stands at a
-/// gate that stays shut, or wants memory.
+/// Drives a thread along the log until it has made the steps of its logged end, can't give what the log has next,
+/// stands at a gate that stays shut, or wants memory.
 fn follow_to<
     M: Machine<S>,
     S: Striped,

@@ -18,9 +18,9 @@ use std::sync::Wait;
 use striped_objects::Striped;
 use wasm_types::NoMemory;
 
-/// Rests before the gate of an event, which was found shut, until it can be open, and enters the event. Answers whether it did: it
-/// stops where the gate can not open any more, and once no seat can go on. How many calls were entered is known before each try, so
-/// that no call that opens the gate is missed.
+/// Rests before the gate of an event, which was found shut, until it can be open, and enters the event. Answers whether
+/// it did: it stops where the gate can not open any more, and once no seat can go on. How many calls were entered is
+/// known before each try, so that no call that opens the gate is missed.
 fn wait_to_enter<M: Machine<S>, S: Striped, J: Opening<S, S::Value, S::Fixed>, R: Wait, H: Hold>(
     rt: &R,
     alloc: Global,

@@ -62,9 +62,9 @@ fn stopped_threads<M: Drop, L>(
     Ok(threads)
 }
 
-/// Replays a log by workers, each in a thread of its own, of machines that made no step, over a space that no thread has touched.
-/// The world to which they come is one to which a gated run from the log leads; what they leave undone is to be done from there.
-/// Where memory is wanted for one of them all others end first, and no world is answered.
+/// Replays a log by workers, each in a thread of its own, of machines that made no step, over a space that no thread
+/// has touched. The world to which they come is one to which a gated run from the log leads; what they leave undone is
+/// to be done from there. Where memory is wanted for one of them all others end first, and no world is answered.
 pub fn replay_workers<
     S: Striped + Drop + Send + Sync,
     X,

@@ -93,8 +93,8 @@ fn take_two<R: Wait>(rt: &R, from: Receiver<Piece>) -> [bool; 2] {
     [first, second]
 }
 
-/// Sends a recording to another thread that takes two of its four pieces and leaves. In a channel of no capacity a send ends once its
-/// message was taken.
+/// Sends a recording to another thread that takes two of its four pieces and leaves. In a channel of no capacity a send
+/// ends once its message was taken.
 fn left_after_two<R: Threads + Wait + Copy + Send + 'static>(
     rt: R,
     alloc: Global,
@@ -157,8 +157,8 @@ fn no_piece_is_sent_of_no_size_or_to_nobody(rt: HostRuntime) -> Result<(), Fail>
 /// What three calls receive, and whether the replica then has the log of the first recording.
 type OfTwo = ([Result<u64, ReplicaFault>; 3], bool);
 
-/// Sends the two pieces of one recording, those of another, and those of the first again, and receives them for the first by three
-/// calls.
+/// Sends the two pieces of one recording, those of another, and those of the first again, and receives them for the
+/// first by three calls.
 fn received_of_two<R: Wait>(
     rt: &R,
     alloc: Global,
@@ -187,7 +187,8 @@ fn recorded_of_two<R: Wait>(rt: &R, alloc: Global) -> Result<OfTwo, Fail> {
     received_of_two(rt, alloc, &first, &other)
 }
 
-/// Each piece of another run ends one call, and is out of the channel: those of the run that come behind it are received.
+/// Each piece of another run ends one call, and is out of the channel: those of the run that come behind it are
+/// received.
 #[test]
 fn a_piece_of_another_run_ends_the_receiving(rt: HostRuntime) -> Result<(), Fail> {
     let refused = Err(ReplicaFault::OtherRun);

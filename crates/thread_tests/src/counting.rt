@@ -20,7 +20,8 @@ fn index(thread: u32, place: u64) -> Option<usize> {
     None
 }
 
-/// Counts the calls that threads enter, by thread and place, and keeps the first ones until two threads were inside at once.
+/// Counts the calls that threads enter, by thread and place, and keeps the first ones until two threads were inside at
+/// once.
 #[derive(Drop)]
 pub(crate) struct Counting {
     entered: AtomicU64,

@@ -18,8 +18,8 @@ fn note(thread: u32, place: u64) -> u64 {
     (u64::from(thread) << 32) | (place % (1 << 32))
 }
 
-/// Notes the calls that threads are inside, in their order. Where an order of the threads of four calls is given, it keeps them to
-/// it.
+/// Notes the calls that threads are inside, in their order. Where an order of the threads of four calls is given, it
+/// keeps them to it.
 #[derive(Drop)]
 pub(crate) struct Noting {
     order: Option<[u32; 4]>,

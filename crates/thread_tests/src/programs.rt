@@ -18,15 +18,16 @@ use wasm_replay::replay_gathered;
 use wasm_types::Block;
 use workers::Timer;
 
-/// A shared memory of one page, and a function `w` that adds 1 at address 0 twice and answers the second old value; two threads of it.
+/// A shared memory of one page, and a function `w` that adds 1 at address 0 twice and answers the second old value; two
+/// threads of it.
 pub(crate) const COUNTER: (&str, &str) = (
     "0061736d010000000105016000017f030201000504010301010705010177\
     00000a1501130041004101fe1e02001a41004101fe1e02000b",
     "wreplay plan 1\nthread w\nthread w\n",
 );
 
-/// A function `f0` that waits at address 0 for 0, at most 1,000 nanoseconds, and a function `f1` that wakes one there; a thread of
-/// each.
+/// A function `f0` that waits at address 0 for 0, at most 1,000 nanoseconds, and a function `f1` that wakes one there;
+/// a thread of each.
 pub(crate) const LIMITED: (&str, &str) = (
     "0061736d010000000105016000017f0303020000050401030101070b02026630000002663100010a1a02\
     0d004100410042e807fe0102000b0a0041004101fe0002000b",
@@ -40,8 +41,8 @@ pub(crate) const UNLIMITED: (&str, &str) = (
     "wreplay plan 1\nthread f0\nthread f1\n",
 );
 
-/// `f0`, `f1` and `f2` wait at address 0, `f3` at address 4; `f4` wakes two at address 0 and then all, and answers ten times the
-/// first number and the second; a thread of each.
+/// `f0`, `f1` and `f2` wait at address 0, `f3` at address 4; `f4` wakes two at address 0 and then all, and answers ten
+/// times the first number and the second; a thread of each.
 pub(crate) const FIVE: (&str, &str) = (
     "0061736d010000000105016000017f0306050000000000050401030101071a050266300000026631000102663200\
     02026633000302663400040a4c050c0041004100427ffe0102000b0c0041004100427ffe0102000b0c0041004100\
@@ -56,8 +57,8 @@ pub(crate) const READERS: (&str, &str) = (
     "wreplay plan 1\nthread r\nthread r\n",
 );
 
-/// `a` waits at address 0 without a limit of time, and then at 8, at most 1 nanosecond; `b` wakes one at address 0 until one was
-/// woken; `c` ends at once; a thread of each.
+/// `a` waits at address 0 without a limit of time, and then at 8, at most 1 nanosecond; `b` wakes one at address 0
+/// until one was woken; `c` ends at once; a thread of each.
 pub(crate) const LEAVING: (&str, &str) = (
     "0061736d010000000108026000017f60000003040300010105040103010107\
     0d03016100000162000101630002\

@@ -45,7 +45,8 @@ fn replay<R: Threads + Wait + Sync>(
     Ok(())
 }
 
-/// Of a recording and of its replay each reads while the other does. Where a reader kept the other out they would not meet.
+/// Of a recording and of its replay each reads while the other does. Where a reader kept the other out they would not
+/// meet.
 #[test]
 fn two_read_at_once(rt: HostRuntime) -> Result<(), Fail> {
     let alloc = rt.alloc();

@@ -59,8 +59,8 @@ fn are_entered(hold: &Counting, thread: u32, places: u32) -> bool {
     true
 }
 
-/// Checks that each event of a log was entered once, by its thread and at its place, and nothing else, and that two threads were at it
-/// at once.
+/// Checks that each event of a log was entered once, by its thread and at its place, and nothing else, and that two
+/// threads were at it at once.
 fn check(abort: &impl Abort, hold: &Counting, log: &Log) {
     assert!(abort; hold.has_met(), "the threads took turns");
     assert_eq!(abort; hold.entered(), events(log));

@@ -73,7 +73,8 @@ fn ends_so<T: Timer + Sync, R: Threads + Wait + Sync>(
     Ok(recording.recorded().end().outcomes() == outcomes.as_slice())
 }
 
-/// A sleeper that nobody wakes any more times out where the timer says so, and else sleeps on: the timer is asked, and believed.
+/// A sleeper that nobody wakes any more times out where the timer says so, and else sleeps on: the timer is asked, and
+/// believed.
 #[test]
 fn a_timer_is_asked(rt: HostRuntime) -> Result<(), Fail> {
     let woke_nobody = Outcome::Done(Some(Value::I32(0)));

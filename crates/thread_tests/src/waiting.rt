@@ -48,7 +48,8 @@ fn sleeps_until_it_is_woken(rt: HostRuntime) -> Result<(), Fail> {
     Ok(())
 }
 
-/// Where each wait with a limit times out at once, the sleeper is woken, or its time is over. One without a limit sleeps on.
+/// Where each wait with a limit times out at once, the sleeper is woken, or its time is over. One without a limit
+/// sleeps on.
 #[test]
 fn times_out(rt: HostRuntime) -> Result<(), Fail> {
     let alloc = rt.alloc();

@@ -30,7 +30,8 @@ use wasm_threads::{StripedThread, striped_threads};
 use wasm_types::{NoMemory, Profile};
 use wasm_world::open_parts;
 
-/// What a replay by threads begins with: the threads of a plan before their first steps, over the memory of their module.
+/// What a replay by threads begins with: the threads of a plan before their first steps, over the memory of their
+/// module.
 #[derive(Drop)]
 struct Beginning<'a> {
     threads: Vec<StripedThread<'a>>,
@@ -58,7 +59,8 @@ fn begin<'a>(
     })
 }
 
-/// Replays a log from the opening world of a module and a plan in a profile, each thread of the plan in a thread of the system.
+/// Replays a log from the opening world of a module and a plan in a profile, each thread of the plan in a thread of the
+/// system.
 fn replay_in<H: Hold + Sync, R: Threads + Wait + Sync>(
     rt: &R,
     alloc: Global,
@@ -80,12 +82,13 @@ fn replay_in<H: Hold + Sync, R: Threads + Wait + Sync>(
     replay_memory(rt, alloc, space, threads, &Gathered::new(log), hold)
 }
 
-/// Replays a log that was gathered, from the opening world of its module and plan: each thread of the plan in a thread of the
-/// system, all at once, each up to where its log goes; the turns that are left are made in rounds.
+/// Replays a log that was gathered, from the opening world of its module and plan: each thread of the plan in a thread
+/// of the system, all at once, each up to where its log goes; the turns that are left are made in rounds.
 ///
-/// An end that is answered is that of the ordered replay in every order, and so that of every run of the module and plan whose
-/// log this log is below, and vouches that there is one. A fault is that of some gated run from the log, which may be another
-/// one than the ordered replay's; where one of these comes to the log's ends, no refusal but want of memory comes.
+/// An end that is answered is that of the ordered replay in every order, and so that of every run of the module and
+/// plan whose log this log is below, and vouches that there is one. A fault is that of some gated run from the log,
+/// which may be another one than the ordered replay's; where one of these comes to the log's ends, no refusal but want
+/// of memory comes.
 pub fn replay_threads<H: Hold + Sync, R: Threads + Wait + Sync>(
     rt: &R,
     alloc: Global,

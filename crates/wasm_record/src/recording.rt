@@ -54,8 +54,8 @@ impl Recording {
     }
 
     /// The recorded run as pieces of `size` entries each, by rising thread and place; a thread's last piece has the
-    /// entries that are left, and the thread's end, and a thread without entries gives one piece. They are pieces of the
-    /// run, and their joined log is the run's log.
+    /// entries that are left, and the thread's end, and a thread without entries gives one piece. They are pieces of
+    /// the run, and their joined log is the run's log.
     pub fn pieces(&self, alloc: Global, size: u32) -> Result<Vec<Piece>, PiecesFault>
         ensures pieces { IfOk result (λ pieces. pieces.items ≡ pieces_of self.now.key self.now.recorded.threads size) }
         ensures size { IfOk result (λ _. (0 < size) × (size ≤ 4096)) }
@@ -87,8 +87,8 @@ impl Recording {
 }
 
 /// Records the run of a module and a plan by those picks that are enabled in turn and whose thread has made fewer than
-/// `steps` steps, in profile 2 with blocks of that size; the other picks are passed over and counted. `steps` is at most
-/// 1,000,000,000; a larger number counts as that.
+/// `steps` steps, in profile 2 with blocks of that size; the other picks are passed over and counted. `steps` is at
+/// most 1,000,000,000; a larger number counts as that.
 pub fn record_schedule(
     alloc: Global,
     valid: &Valid,

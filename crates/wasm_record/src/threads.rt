@@ -20,9 +20,10 @@ use wasm_types::{Block, MOST_STEPS, NoMemory, Profile, RunKey};
 use wasm_world::open_parts;
 use workers::Timer;
 
-/// Records a run of a module and a plan in profile 2 with blocks of that size, in which each thread of the plan is a thread of
-/// the system, and all run at once. No thread makes more than `steps` steps, at most 1,000,000,000; a larger number counts as
-/// that. What threads can still do when all have ended is done in rounds. A wait times out only where the timer says so.
+/// Records a run of a module and a plan in profile 2 with blocks of that size, in which each thread of the plan is a
+/// thread of the system, and all run at once. No thread makes more than `steps` steps, at most 1,000,000,000; a larger
+/// number counts as that. What threads can still do when all have ended is done in rounds. A wait times out only where
+/// the timer says so.
 pub fn record_threads<T: Timer + Sync, H: Hold + Sync, R: Threads + Wait + Sync>(
     rt: &R,
     alloc: Global,

@@ -30,9 +30,9 @@ pub enum WasmReplayFault {
 
 /// Replays a log that was gathered, from the opening world of its module and plan.
 ///
-/// What is answered is the end, or the fault, of the ordered replay: the threads of the order one by one take a turn each,
-/// then all in rounds. An end is that of every run of the module and plan whose log this log is below, and vouches that
-/// there is one; on the whole log of a run no refusal but want of memory comes.
+/// What is answered is the end, or the fault, of the ordered replay: the threads of the order one by one take a turn
+/// each, then all in rounds. An end is that of every run of the module and plan whose log this log is below, and
+/// vouches that there is one; on the whole log of a run no refusal but want of memory comes.
 pub fn replay_gathered(
     alloc: Global,
     valid: &Valid,

@@ -10,8 +10,8 @@ use striped_memory::StripedMemory;
 use waiter_queues::SharedSpace;
 use wasm_types::{NoMemory, Op, Reply};
 
-/// A thread of a plan, as `ThreadState` has it, over a shared memory that can stand in parts: what it asks of the memory, and
-/// what it makes of the replies, is the same. Contracts see the same of it.
+/// A thread of a plan, as `ThreadState` has it, over a shared memory that can stand in parts: what it asks of the
+/// memory, and what it makes of the replies, is the same. Contracts see the same of it.
 #[derive(Drop)]
 pub struct StripedThread<'a> {
     thread: ThreadState<'a>,

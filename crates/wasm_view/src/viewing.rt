@@ -36,8 +36,8 @@ pub enum WasmViewFault {
     View(ViewFault),
 }
 
-/// Shows a world at which a replay stopped, with where its threads stand if names are asked for. A range that passes the memory is
-/// refused before memory is wanted for names.
+/// Shows a world at which a replay stopped, with where its threads stand if names are asked for. A range that passes
+/// the memory is refused before memory is wanted for names.
 fn show(
     alloc: Global,
     valid: &Valid,
@@ -72,11 +72,11 @@ fn show(
     )
 }
 
-/// Replays a log that was gathered, in this order, up to the first break that holds, or until no thread goes on, and shows
-/// the world at which it stops. The bytes shown are those from an address on, so many. On a log below that of a run of the
-/// module and plan, the values and threads of that world are recorded ones alone. Where names are asked for, behind the line
-/// of each thread stands where it is, by the names in the module's bytes. That the range passes that world's memory is said before any
-/// want of memory for its view.
+/// Replays a log that was gathered, in this order, up to the first break that holds, or until no thread goes on, and
+/// shows the world at which it stops. The bytes shown are those from an address on, so many. On a log below that of a
+/// run of the module and plan, the values and threads of that world are recorded ones alone. Where names are asked for,
+/// behind the line of each thread stands where it is, by the names in the module's bytes. That the range passes that
+/// world's memory is said before any want of memory for its view.
 pub fn view_log(
     alloc: Global,
     valid: &Valid,

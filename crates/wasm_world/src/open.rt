@@ -45,9 +45,9 @@ pub struct OpeningParts<'a> {
     pub space: SharedSpace,
 }
 
-/// What the world of a module and a plan has before the first step: each thread of the plan at its function (WebAssembly
-/// Core 1.0, instantiation and invocation), and the memory with its segments written. The plan is one of the module, whose
-/// runs can be of the profile.
+/// What the world of a module and a plan has before the first step: each thread of the plan at its function
+/// (WebAssembly Core 1.0, instantiation and invocation), and the memory with its segments written. The plan is one of
+/// the module, whose runs can be of the profile.
 pub fn open_parts<'a>(
     alloc: Global,
     valid: &'a Valid,
@@ -70,8 +70,8 @@ pub fn open_parts<'a>(
     Ok(OpeningParts { threads, space })
 }
 
-/// The world of a module and a plan before the first step: the threads and the memory of `open_parts`, and no object read or
-/// written yet.
+/// The world of a module and a plan before the first step: the threads and the memory of `open_parts`, and no object
+/// read or written yet.
 pub fn open_world<'a>(
     alloc: Global,
     valid: &'a Valid,

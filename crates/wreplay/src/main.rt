@@ -1,5 +1,5 @@
-//! `wreplay` records runs of threaded WebAssembly modules by schedules, gathers the pieces of a recorded run and lists the
-//! log that they claim, replays it, and checks modules.
+//! `wreplay` records runs of threaded WebAssembly modules by schedules, gathers the pieces of a recorded run and lists
+//! the log that they claim, replays it, and checks modules.
 #![tactic(auto)]
 
 ghost use Rattle.std.specs.Prelude.{◌≤◌, ◌<◌, ◌-◌, ◌^◌, IfOk, IfSome, length};
@@ -107,8 +107,8 @@ fn words(runtime: &HostRuntime) -> io::Result<Vec<String>> {
     Ok(env::args(runtime)?.collect(runtime.alloc())?)
 }
 
-/// The number of the first word that is not UTF-8, and how many bytes it has, which are put into `bytes`. Words that have more
-/// bytes than these are passed over.
+/// The number of the first word that is not UTF-8, and how many bytes it has, which are put into `bytes`. Words that
+/// have more bytes than these are passed over.
 fn odd_word(runtime: &HostRuntime, bytes: &mut [u8]) -> Option<(usize, usize)>
     ensures { IfSome result (λ found. found.1 ≤ length bytes.old) }
 {

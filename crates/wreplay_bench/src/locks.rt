@@ -164,7 +164,8 @@ fn read_often<R: Wait>(rt: &R, lock: &RwLock<u32>, count: u32) -> u32 {
     sum
 }
 
-/// Has each of so many threads take one lock for reading and give it back so many times, and answers how often they did.
+/// Has each of so many threads take one lock for reading and give it back so many times, and answers how often they
+/// did.
 fn run_readers<R: Threads + Wait + Sync>(
     rt: &R,
     alloc: Global,
@@ -181,8 +182,8 @@ fn run_readers<R: Threads + Wait + Sync>(
     Ok(added(&made))
 }
 
-/// Makes what the words ask for: the mode, how many threads, from 1 to 4, and how many loads each makes, or how often it takes a
-/// lock. It answers how many were made, and nothing where the words ask for none.
+/// Makes what the words ask for: the mode, how many threads, from 1 to 4, and how many loads each makes, or how often
+/// it takes a lock. It answers how many were made, and nothing where the words ask for none.
 pub(crate) fn locks_asked<R: Threads + Wait + Sync>(
     rt: &R,
     alloc: Global,

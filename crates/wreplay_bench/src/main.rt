@@ -1,5 +1,5 @@
-//! Work for measurements, which `make bench` runs: steps of scripts, accesses of a memory, the same under locks by threads at
-//! once, decoding and validating of a module, and the run of one thread.
+//! Work for measurements, which `make bench` runs: steps of scripts, accesses of a memory, the same under locks by
+//! threads at once, decoding and validating of a module, and the run of one thread.
 #![tactic(auto)]
 
 mod accesses;

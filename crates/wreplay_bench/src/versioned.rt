@@ -140,8 +140,8 @@ pub fn loads(alloc: Global, limits: MemoryLimits, count: u32) -> Result<u64, NoM
     Ok(sum)
 }
 
-/// Makes so many loads of four bytes of a memory, each of a kind that is read from a table, so that it is not known where
-/// the loop is compiled. Answers a number that depends on each of them.
+/// Makes so many loads of four bytes of a memory, each of a kind that is read from a table, so that it is not known
+/// where the loop is compiled. Answers a number that depends on each of them.
 pub fn loads_of_kinds(alloc: Global, limits: MemoryLimits, count: u32) -> Result<u64, NoMemory>
     requires some { 1 ≤ limits.capacity }
     requires order { limits.initial ≤ limits.capacity }
