@@ -23,8 +23,8 @@ module _ {holds later : List ℕ → Type 0} {fails breaks : Type 0} (held : (by
   plan_refused_earlier m (File fault) h = file_earlier fault h
   plan_refused_earlier m (Decode fault) h = h
   plan_refused_earlier m (Valid fault) h = h
-  plan_refused_earlier m (Plan fault) h = (h.0, held h.0 h.1, h.2)
-  plan_refused_earlier m (Schedule fault) h = h
+  plan_refused_earlier m (Plan fault quote) h = (h.0, held h.0 h.1, h.2)
+  plan_refused_earlier m (Schedule fault quote) h = h
   plan_refused_earlier m (Pieces fault) h = h
   plan_refused_earlier m (Gather fault) h = h
   plan_refused_earlier m (Replay fault) h = h
@@ -36,8 +36,8 @@ module _ {holds later : List ℕ → Type 0} {fails breaks : Type 0} (held : (by
   lines_refused_earlier (File fault) h = file_earlier fault h
   lines_refused_earlier (Decode fault) h = h
   lines_refused_earlier (Valid fault) h = h
-  lines_refused_earlier (Plan fault) h = h
-  lines_refused_earlier (Schedule fault) h = h
+  lines_refused_earlier (Plan fault quote) h = h
+  lines_refused_earlier (Schedule fault quote) h = h
   lines_refused_earlier (Pieces fault) h = h
   lines_refused_earlier (Gather fault) h = (h.0, held h.0 h.1, h.2)
   lines_refused_earlier (Replay fault) h = h
@@ -49,8 +49,8 @@ module _ {holds later : List ℕ → Type 0} {fails breaks : Type 0} (held : (by
   schedule_refused_earlier (File fault) h = file_earlier fault h
   schedule_refused_earlier (Decode fault) h = h
   schedule_refused_earlier (Valid fault) h = h
-  schedule_refused_earlier (Plan fault) h = h
-  schedule_refused_earlier (Schedule fault) h = (h.0, held h.0 h.1, h.2)
+  schedule_refused_earlier (Plan fault quote) h = h
+  schedule_refused_earlier (Schedule fault quote) h = (h.0, held h.0 h.1, h.2)
   schedule_refused_earlier (Pieces fault) h = h
   schedule_refused_earlier (Gather fault) h = h
   schedule_refused_earlier (Replay fault) h = h

@@ -2,7 +2,8 @@
 use Rattle.std.specs.Prelude.{◌≡◌, ◌⊎◌, ◌<◌, ℕ, List, [], ◌++◌, Ok, length}
 use Rattle.wasm_types.specs.declared.modules.Module.{Module}
 use Rattle.wasm_types.specs.declared.key.Profile.TheVariants.{Two}
-use Rattle.thread_plan.specs.Plans.{PlanValue, plan_of, IsFaultOf}
+use Rattle.thread_plan.specs.Plans.{PlanValue, plan_of}
+use Rattle.thread_plan.specs.Refusals.{IsFaultOf}
 use Rattle.log_pieces.specs.Piece.{PieceValue}
 use Rattle.replica.specs.declared.log.Log.{Log}
 use Rattle.replica.specs.declared.fault.GatherFault.{GatherFault}
@@ -53,7 +54,7 @@ module _ (holds : List ℕ → Type 0) where
 
   abbrev pub IsPlanRefused : Type 0 → Module → Fault → Type 0
   IsPlanRefused fails m (File fault) = IsFileFault fails fault
-  IsPlanRefused fails m (Plan fault) = (bytes : List ℕ) × holds bytes × IsFaultOf (plan_of m bytes) fault
+  IsPlanRefused fails m (Plan fault quote) = (bytes : List ℕ) × holds bytes × IsFaultOf (plan_of m bytes) fault
   IsPlanRefused fails m _ = ⊥
 
   -- the log that the file gives for a module and a plan

@@ -31,7 +31,7 @@ module _ (holds : List ℕ → Type 0) where
 
   abbrev pub IsScheduleRefused : Type 0 → Fault → Type 0
   IsScheduleRefused fails (File fault) = IsFileFault fails fault
-  IsScheduleRefused fails (Schedule fault) = (bytes : List ℕ) × holds bytes × IsFaultOf (schedule_of bytes) fault
+  IsScheduleRefused fails (Schedule fault quote) = (bytes : List ℕ) × holds bytes × IsFaultOf (schedule_of bytes) fault
   IsScheduleRefused fails _ = ⊥
 
 -- there are no pieces of so many entries, or there is no memory for the run or its text

@@ -49,15 +49,15 @@ valid_text (typing.Invalid (Some function) instruction) = placed (codes "refused
 valid_text typing.NoMemory = codes "refused 12 NoMemory"
 
 abbrev pub plan_text : PlanFault → List ℕ
-plan_text (planning.BadLine line) = codes "refused 13 BadLine " ++ decimal line
-plan_text (planning.NoExport line) = codes "refused 14 NoExport " ++ decimal line
-plan_text (planning.WrongArguments line) = codes "refused 15 WrongArguments " ++ decimal line
+plan_text (planning.BadLine line cause) = codes "refused 13 BadLine " ++ decimal line
+plan_text (planning.NoExport line cause) = codes "refused 14 NoExport " ++ decimal line
+plan_text (planning.WrongArguments line cause) = codes "refused 15 WrongArguments " ++ decimal line
 plan_text planning.NotShared = codes "refused 16 NotShared"
 plan_text planning.SegmentOutOfBounds = codes "refused 17 SegmentOutOfBounds"
 plan_text planning.NoMemory = codes "refused 12 NoMemory"
 
 abbrev pub schedule_text : ScheduleFault → List ℕ
-schedule_text (scheduling.BadLine line) = codes "refused 18 BadSchedule " ++ decimal line
+schedule_text (scheduling.BadLine line cause) = codes "refused 18 BadSchedule " ++ decimal line
 schedule_text scheduling.NoMemory = codes "refused 23 NoMemory"
 
 abbrev pub pieces_text : PiecesFault → List ℕ
@@ -93,8 +93,8 @@ abbrev pub fault_text : Fault → List ℕ
 fault_text (File fault) = file_text fault
 fault_text (Decode fault) = decode_text fault
 fault_text (Valid fault) = valid_text fault
-fault_text (Plan fault) = plan_text fault
-fault_text (Schedule fault) = schedule_text fault
+fault_text (Plan fault quote) = plan_text fault
+fault_text (Schedule fault quote) = schedule_text fault
 fault_text (Pieces fault) = pieces_text fault
 fault_text (Gather fault) = gather_text fault
 fault_text (Replay fault) = refusal_text fault

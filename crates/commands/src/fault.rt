@@ -3,6 +3,7 @@
 ghost use Rattle.std.specs.Prelude.{◌≡◌};
 
 use crate::files::FileFault;
+use crate::quotes::Quote;
 use byte_reader::DecodeFault;
 use debug_views::ViewFault;
 use pick_schedule::ScheduleFault;
@@ -23,10 +24,10 @@ pub enum Fault {
     Decode(DecodeFault),
     /// The module is not well typed.
     Valid(ValidFault),
-    /// The text of the plan spells none for the module.
-    Plan(PlanFault),
-    /// The text of the schedule spells none.
-    Schedule(ScheduleFault),
+    /// The text of the plan spells none for the module. The reason quotes that of it.
+    Plan(PlanFault, Quote),
+    /// The text of the schedule spells none. The reason quotes that of it.
+    Schedule(ScheduleFault, Quote),
     /// There are no pieces of the size.
     Pieces(PiecesFault),
     /// The piece lines give no log.

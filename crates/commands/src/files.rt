@@ -47,8 +47,8 @@ pub trait Files {
     /// The file at a path may fail to be read, from now on.
     ghost fails: { Self → List ℕ → Type 0 };
 
-    /// The bytes of the file at that path; with `most`, the first of them, at most so many. No more memory is taken than
-    /// these fill.
+    /// The bytes of the file at that path; with `most`, the first of them, at most so many. No more memory is taken
+    /// than these fill.
     fn read(&mut self, alloc: Global, path: &str, most: Option<usize>) -> Result<Vec<u8>, FileFault>
         ensures bytes { IfOk result (λ bytes. IsRead (holds self.old path.now) most bytes.items) }
         ensures not_read { result ≡ Err NotRead → fails self.old path.now }

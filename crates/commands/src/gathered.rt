@@ -82,8 +82,8 @@ pub struct ReplayInput {
     pub replica: Replica,
 }
 
-/// The module, the plan and the log in the files of a replay. The module is read and judged, then the plan, then the piece
-/// lines.
+/// The module, the plan and the log in the files of a replay. The module is read and judged, then the plan, then the
+/// piece lines.
 pub fn read_replay_input<L: Log, F: Files>(
     rt: &L,
     alloc: Global,

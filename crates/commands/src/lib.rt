@@ -1,5 +1,5 @@
-//! What the program's commands make of the files that they name: the summary of a module, the report of a recording or a replay,
-//! the view of a replay that stops.
+//! What the program's commands make of the files that they name: the summary of a module, the report of a recording or
+//! a replay, the view of a replay that stops.
 #![tactic(auto)]
 
 mod checking;
@@ -8,6 +8,7 @@ mod files;
 mod gathered;
 mod memory;
 mod program;
+mod quotes;
 mod record_answer;
 mod recording;
 mod replaying;
@@ -22,6 +23,7 @@ pub use files::{FileFault, FileState, Files};
 pub use gathered::{ReplayInput, read_replay_input};
 pub use memory::{MemoryFile, MemoryFiles};
 pub use program::{MODULE_BEGINNING, Program};
+pub use quotes::{Quote, plan_quote, schedule_quote};
 pub use record_answer::RecordAnswer;
 pub use recording::record;
 pub use replaying::replay;

@@ -7,6 +7,7 @@ ghost use Rattle.commands.specs.Inputs.{IsPlanFile, IsPlanRefused, IsProgram, Is
 
 use crate::fault::Fault;
 use crate::files::{Files, read_file};
+use crate::quotes::plan_quote;
 use binary_decoder::decode;
 use byte_reader::DecodeFault;
 use log::Log;
@@ -72,7 +73,7 @@ fn read_plan<L: Log, F: Files>(
     };
     match Plan::read(alloc, &bytes, valid) {
         Ok(plan) => Ok(plan),
-        Err(fault) => Err(Fault::Plan(fault)),
+        Err(fault) => Err(Fault::Plan(fault, plan_quote(&bytes, &fault))),
     }
 }
 

@@ -64,8 +64,8 @@ pub enum AnswerForm {
     Lines(RecordedLines),
 }
 
-/// What a recording answers: the report of the run's end, or the lines of its pieces; and a line of the threads that stopped at
-/// `--steps`, which is empty where there are none. Contracts see both.
+/// What a recording answers: the report of the run's end, or the lines of its pieces; and a line of the threads that
+/// stopped at `--steps`, which is empty where there are none. Contracts see both.
 #[derive(Drop)]
 pub struct RecordAnswer {
     form: AnswerForm,
@@ -94,8 +94,8 @@ impl RecordAnswer {
         }
     }
 
-    /// The lines of a recording's pieces of so many entries, and the line of the threads that stopped. Room for the former is
-    /// taken.
+    /// The lines of a recording's pieces of so many entries, and the line of the threads that stopped. Room for the
+    /// former is taken.
     pub(crate) fn of_lines(
         alloc: Global,
         recording: Recording,

@@ -21,7 +21,8 @@ use threaded_replay::replay_threads;
 use validator::Valid;
 use wasm_replay::replay_gathered;
 
-/// The report of the end of a replay, in turns or by threads. The module is read and judged, then the plan, then the piece lines.
+/// The report of the end of a replay, in turns or by threads. The module is read and judged, then the plan, then the
+/// piece lines.
 pub fn replay<L: Log, T: Threads + Wait + Sync, F: Files>(
     rt: &L,
     threads: &T,

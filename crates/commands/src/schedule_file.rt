@@ -5,6 +5,7 @@ ghost use Rattle.commands.specs.Records.{IsScheduleFile, IsScheduleRefused};
 
 use crate::fault::Fault;
 use crate::files::{Files, read_file};
+use crate::quotes::schedule_quote;
 use log::Log;
 use pick_schedule::{SCHEDULE_BEGINNING, schedule};
 use schedules::Schedule;
@@ -26,6 +27,6 @@ pub(crate) fn read_schedule<L: Log, F: Files>(
     };
     match schedule(alloc, &beginning) {
         Ok(picks) => Ok(picks),
-        Err(fault) => Err(Fault::Schedule(fault)),
+        Err(fault) => Err(Fault::Schedule(fault, schedule_quote(&beginning, &fault))),
     }
 }

@@ -122,9 +122,9 @@ fn text_of_plan(fault: &PlanFault) -> ArrayString<64>
     ensures short { array_string_len result ≤ 63 }
 {
     match *fault {
-        PlanFault::BadLine { line } => numbered("refused 13 BadLine ", line),
-        PlanFault::NoExport { line } => numbered("refused 14 NoExport ", line),
-        PlanFault::WrongArguments { line } => numbered("refused 15 WrongArguments ", line),
+        PlanFault::BadLine { line, .. } => numbered("refused 13 BadLine ", line),
+        PlanFault::NoExport { line, .. } => numbered("refused 14 NoExport ", line),
+        PlanFault::WrongArguments { line, .. } => { numbered("refused 15 WrongArguments ", line) }
         PlanFault::NotShared => plain("refused 16 NotShared"),
         PlanFault::SegmentOutOfBounds => plain("refused 17 SegmentOutOfBounds"),
         PlanFault::NoMemory => plain("refused 12 NoMemory"),
@@ -136,7 +136,7 @@ fn text_of_schedule(fault: &ScheduleFault) -> ArrayString<64>
     ensures short { array_string_len result ≤ 63 }
 {
     match *fault {
-        ScheduleFault::BadLine { line } => numbered("refused 18 BadSchedule ", line),
+        ScheduleFault::BadLine { line, .. } => numbered("refused 18 BadSchedule ", line),
         ScheduleFault::NoMemory => plain("refused 23 NoMemory"),
     }
 }
@@ -210,8 +210,8 @@ impl Fault {
             Fault::File(fault) => text_of_file(fault),
             Fault::Decode(fault) => text_of_decode(fault),
             Fault::Valid(fault) => text_of_valid(fault),
-            Fault::Plan(fault) => text_of_plan(fault),
-            Fault::Schedule(fault) => text_of_schedule(fault),
+            Fault::Plan(fault, _) => text_of_plan(fault),
+            Fault::Schedule(fault, _) => text_of_schedule(fault),
             Fault::Pieces(fault) => text_of_pieces(fault),
             Fault::Gather(fault) => text_of_gather(fault),
             Fault::Replay(fault) => text_of_refusal(fault),

@@ -61,13 +61,13 @@ in_functions file (typing.Invalid (Some function) instruction) = at_instruction 
 in_functions file fault = file
 
 abbrev pub in_plan : List ℕ → PlanFault → List ℕ
-in_plan file (planning.BadLine line) = at_line file line
-in_plan file (planning.NoExport line) = at_line file line
-in_plan file (planning.WrongArguments line) = at_line file line
+in_plan file (planning.BadLine line cause) = at_line file line
+in_plan file (planning.NoExport line cause) = at_line file line
+in_plan file (planning.WrongArguments line cause) = at_line file line
 in_plan file fault = file
 
 abbrev pub in_schedule : List ℕ → ScheduleFault → List ℕ
-in_schedule file (scheduling.BadLine line) = at_line file line
+in_schedule file (scheduling.BadLine line cause) = at_line file line
 in_schedule file fault = file
 
 abbrev pub in_lines : List ℕ → GatherFault → List ℕ
@@ -89,8 +89,8 @@ in_log file fault = file
 abbrev pub BeginsWith : Request → Fault → List ℕ → Type 0
 BeginsWith r (fault.Decode f) place = place ≡ in_module (module_path r) f
 BeginsWith r (fault.Valid f) place = place ≡ in_functions (module_path r) f
-BeginsWith r (fault.Plan f) place = place ≡ in_plan (plan_path r) f
-BeginsWith r (fault.Schedule f) place = place ≡ in_schedule (schedule_path r) f
+BeginsWith r (fault.Plan f quote) place = place ≡ in_plan (plan_path r) f
+BeginsWith r (fault.Schedule f quote) place = place ≡ in_schedule (schedule_path r) f
 BeginsWith r (fault.Gather f) place = place ≡ in_lines (pieces_path r) f
 BeginsWith r (fault.Replay f) place = place ≡ in_log (pieces_path r) f
 BeginsWith r f place = Unit {0}

@@ -3,41 +3,22 @@
 ghost use Rattle.std.specs.Prelude.{IfSome};
 ghost use Rattle.thread_plan.specs.Plans.{IsPlanOf};
 
-use binary_decoder::decode;
 use command_words::ReplayRequest;
 use commands::{FileState, Files, MODULE_BEGINNING, ReplayInput, read_replay_input};
 use log::Log;
 use std::alloc::Global;
-use validator::{Valid, validate};
 
 /// Whether the file at a path can be read again, since it is no pipe.
 fn is_regular<F: Files>(files: &mut F, path: &str) -> bool {
     files.state(path) == FileState::Regular
 }
 
-/// The bytes of a file, with `most` the first of them; None where they can't be had again.
-pub(crate) fn again<F: Files>(
-    alloc: Global,
-    files: &mut F,
-    path: &str,
-    most: Option<usize>,
-) -> Option<Vec<u8>> {
+/// The bytes of a module; None where they can't be had again.
+pub(crate) fn module_again<F: Files>(alloc: Global, files: &mut F, path: &str) -> Option<Vec<u8>> {
     if !is_regular(files, path) {
         return None;
     }
-    files.read(alloc, path, most).ok()
-}
-
-/// The bytes of a module; None where they can't be had again.
-pub(crate) fn module_again<F: Files>(alloc: Global, files: &mut F, path: &str) -> Option<Vec<u8>> {
-    again(alloc, files, path, Some(MODULE_BEGINNING))
-}
-
-/// The valid module in a file; None where it can't be had again.
-pub(crate) fn valid_again<F: Files>(alloc: Global, files: &mut F, path: &str) -> Option<Valid> {
-    let bytes = module_again(alloc, files, path)?;
-    let module = decode(alloc, &bytes).ok()?;
-    validate(alloc, module).ok()
+    files.read(alloc, path, Some(MODULE_BEGINNING)).ok()
 }
 
 /// The module, the plan and the log of a replay; None where they can't be had again.

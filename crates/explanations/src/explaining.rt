@@ -52,9 +52,9 @@ fn in_plan<'a>(file: &'a str, fault: &PlanFault) -> Place<'a>
     ensures { place_text result ≡ in_plan file.now fault.now }
 {
     match *fault {
-        PlanFault::BadLine { line } => Place::Line { file, line },
-        PlanFault::NoExport { line } => Place::Line { file, line },
-        PlanFault::WrongArguments { line } => Place::Line { file, line },
+        PlanFault::BadLine { line, .. } => Place::Line { file, line },
+        PlanFault::NoExport { line, .. } => Place::Line { file, line },
+        PlanFault::WrongArguments { line, .. } => Place::Line { file, line },
         _ => Place::Whole(file),
     }
 }
@@ -63,7 +63,7 @@ fn in_schedule<'a>(file: &'a str, fault: &ScheduleFault) -> Place<'a>
     ensures { place_text result ≡ in_schedule file.now fault.now }
 {
     match *fault {
-        ScheduleFault::BadLine { line } => Place::Line { file, line },
+        ScheduleFault::BadLine { line, .. } => Place::Line { file, line },
         ScheduleFault::NoMemory => Place::Whole(file),
     }
 }
@@ -123,8 +123,8 @@ fn place_of<'a, F: Files>(
         Fault::File(_) => Place::Whole(blamed_file(alloc, files, request)),
         Fault::Decode(fault) => in_module(module_path(request), fault),
         Fault::Valid(fault) => in_functions(module_path(request), fault),
-        Fault::Plan(fault) => in_plan(plan_path(request), fault),
-        Fault::Schedule(fault) => in_schedule(schedule_path(request), fault),
+        Fault::Plan(fault, _) => in_plan(plan_path(request), fault),
+        Fault::Schedule(fault, _) => in_schedule(schedule_path(request), fault),
         Fault::Pieces(_) => Place::Whole("--size"),
         Fault::Gather(fault) => in_lines(pieces_path(request), fault),
         Fault::Replay(fault) => in_log(pieces_path(request), fault),

@@ -7,6 +7,13 @@ mod explaining;
 mod paths;
 mod place;
 mod reasons;
+mod words_of_lines;
+mod words_of_plans;
+mod words_of_schedules;
+mod words_of_spacing;
 
 pub use explaining::explain;
 pub use place::Place;
+pub use words_of_lines::line_words;
+pub use words_of_plans::plan_words;
+pub use words_of_schedules::schedule_words;

@@ -5,31 +5,31 @@ ghost use Rattle.thread_plan.specs.Plans.{IsPlanOf};
 ghost use Rattle.commands.specs.declared.fault.Fault.TheVariants as faults;
 ghost use Rattle.explanations.specs.Explained.{SaysWhy};
 
-use crate::again::{again, input_again, module_again, valid_again};
-use crate::paths::{files_of, module_path, plan_path, replay_of, schedule_path};
+use crate::again::{input_again, module_again};
+use crate::paths::{files_of, module_path, replay_of};
+use crate::words_of_lines::line_words;
+use crate::words_of_plans::plan_words;
+use crate::words_of_schedules::schedule_words;
 use binary_decoder::decode;
 use byte_reader::DecodeFault;
 use command_words::Request;
 use commands::{Fault, FileFault, FileState, Files, ReplayInput};
 use debug_views::ViewFault;
-use line_reasons::{plan_reason, schedule_reason};
 use log::Log;
 use module_reasons::{ValidCause, decode_reason, limit_reason, valid_reason};
-use pick_schedule::{SCHEDULE_BEGINNING, ScheduleFault};
 use replay_reasons::{other_line_reason, replay_reason};
 use replica::GatherFault;
 use run_pieces::PiecesFault;
 use std::alloc::Global;
-use thread_plan::PlanFault;
 use validator::ValidFault;
 use wasm_replay::WasmReplayFault;
 use wasm_types::NoMemory;
 
 /// The words of an explanation.
-type Words = Result<String, NoMemory>;
+pub(crate) type Words = Result<String, NoMemory>;
 
 /// These words.
-fn words(alloc: Global, text: &str) -> Words {
+pub(crate) fn words(alloc: Global, text: &str) -> Words {
     let mut words = String::new(alloc);
     words.push_str(text)?;
     Ok(words)
@@ -117,40 +117,6 @@ fn cause_words(alloc: Global, cause: &ValidCause) -> Words {
     }
 }
 
-/// Why the text of a plan is none for the module.
-fn plan_words<F: Files>(
-    alloc: Global,
-    files: &mut F,
-    request: &Request<'_>,
-    fault: &PlanFault,
-) -> Words {
-    let Some(valid) = valid_again(alloc, files, module_path(request)) else {
-        return Ok(format!(in alloc; "{fault}")?);
-    };
-    match again(alloc, files, plan_path(request), None) {
-        Some(text) => Ok(format!(in alloc; "{}", plan_reason(&text, &valid, fault))?),
-        None => Ok(format!(in alloc; "{fault}")?),
-    }
-}
-
-/// Why the text of a schedule is none.
-fn schedule_words<F: Files>(
-    alloc: Global,
-    files: &mut F,
-    request: &Request<'_>,
-    fault: &ScheduleFault,
-) -> Words {
-    match again(
-        alloc,
-        files,
-        schedule_path(request),
-        Some(SCHEDULE_BEGINNING),
-    ) {
-        Some(text) => Ok(format!(in alloc; "{}", schedule_reason(&text, fault))?),
-        None => Ok(format!(in alloc; "{fault}")?),
-    }
-}
-
 /// Why there are no pieces of a size.
 fn size_words(fault: &PiecesFault) -> &'static str {
     match fault {
@@ -167,7 +133,7 @@ fn gather_words(alloc: Global, fault: &GatherFault) -> Words
     match fault {
         GatherFault::OtherRun { own, first, .. } => other_line_reason(alloc, own, first),
         GatherFault::NoMemory => words(alloc, "memory for the log could not be had"),
-        GatherFault::BadLine { reason, .. } => Ok(format!(in alloc; "{reason}")?),
+        GatherFault::BadLine { reason, .. } => line_words(alloc, *reason),
         GatherFault::SourceFailed => words(alloc, "reading it failed"),
         GatherFault::SinkFailed => words(alloc, "writing failed"),
     }
@@ -226,8 +192,8 @@ pub(crate) fn reason_of<L: Log, F: Files>(
         Fault::File(fault) => file_words(alloc, files, request, fault),
         Fault::Decode(fault) => decode_words(alloc, files, module_path(request), fault),
         Fault::Valid(fault) => valid_words(alloc, files, module_path(request), fault),
-        Fault::Plan(fault) => plan_words(alloc, files, request, fault),
-        Fault::Schedule(fault) => schedule_words(alloc, files, request, fault),
+        Fault::Plan(fault, quote) => plan_words(alloc, fault, quote),
+        Fault::Schedule(fault, quote) => schedule_words(alloc, fault, quote),
         Fault::Pieces(fault) => words(alloc, size_words(fault)),
         Fault::Gather(fault) => gather_words(alloc, fault),
         Fault::Replay(fault) => log_words(rt, alloc, files, request, fault),

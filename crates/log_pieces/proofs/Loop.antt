@@ -6,9 +6,7 @@ use Rattle.std.proofs.lemmas.List.{append-nil, take_more}
 use Rattle.std.proofs.lemmas.List.Concat.{flat_map-cons}
 use Rattle.std.proofs.lemmas.List.Elements.{All-push}
 use Rattle.std.proofs.lemmas.Grind.{flat_map-append}
-use Rattle.log_pieces.specs.declared.fault.DecodeFault.{DecodeFault}
-use Rattle.log_pieces.specs.declared.fault.DecodeFault.TheVariants.{NotAPiece, NoMemory}
-use Rattle.log_pieces.specs.Reading.{Reader, Refuses, read_times}
+use Rattle.log_pieces.specs.Reading.{Reader, read_times}
 
 -- the values before those that are still read
 abbrev pub behind : {A : Type 0} → List A → Option (List A × List ℕ) → Option (List A × List ℕ)
@@ -31,11 +29,10 @@ module _ {A : Type 0} (read : Reader A) where
       let one : behind xs (read_times (count - i) read bytes) ≡ behind (xs ++ x ∷ []) (read_times (count - (i + 1)) read rest) = rw (one_more, h) (regroup xs x (read_times (count - (i + 1)) read rest)) in
       sym one ∙ so_far
 
-  pub fails : (fault : DecodeFault) (xs : List A) (count i : ℕ) (bytes : List ℕ) (total : Option (List A × List ℕ)) → i < count → Refuses fault (read bytes)
-      → behind xs (read_times (count - i) read bytes) ≡ total → Refuses fault total
+  pub fails : (xs : List A) (count i : ℕ) (bytes : List ℕ) (total : Option (List A × List ℕ)) → i < count → read bytes ≡ None
+      → behind xs (read_times (count - i) read bytes) ≡ total → total ≡ None
   unfolding read_times
-  fails NoMemory xs count i bytes total lt h so_far = tt
-  fails NotAPiece xs count i bytes total lt h so_far =
+  fails xs count i bytes total lt h so_far =
       let one_more : count - i ≡ suc (count - (i + 1)) = omega arith in
       let one : behind xs (read_times (count - i) read bytes) ≡ None = rw (one_more, h) refl in
       sym so_far ∙ one

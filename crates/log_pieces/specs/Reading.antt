@@ -42,7 +42,7 @@ refuses bytes = None
 
 -- the fault of a reader that refuses; want of memory says nothing of the bytes
 abbrev pub Refuses : {Y : Type 0} → DecodeFault → Option Y → Type 0
-Refuses NotAPiece read = read ≡ None
+Refuses (NotAPiece fault) read = read ≡ None
 Refuses NoMemory read = Unit {0}
 
 -- a function answers as a reader does, unless memory runs out; view is what contracts see of what it returns

@@ -5,9 +5,15 @@ ghost use Rattle.std.specs.List.{list_all};
 ghost use Rattle.hex.specs.Hex.{hex_digit_value, pair_value, decode_pairs, decode_of};
 ghost use Rattle.hex.specs.declared.error.FromHexError.TheVariants.{OddLength};
 ghost use Rattle.log_pieces.specs.Line.{is_lower_digit};
+ghost use Rattle.log_pieces.specs.declared.fault.LineFault.{LineFault};
 
-use crate::fault::DecodeFault;
+use crate::fault::{DecodeFault, LineFault};
 use std::alloc::Global;
+
+/// A number in 32 bits; the greatest of these where it is above them.
+pub(crate) fn saturated(number: usize) -> u32 {
+    u32::try_from(number).unwrap_or(u32::MAX)
+}
 
 /// The value of a digit.
 fn value_of(digit: u8) -> u8
@@ -46,10 +52,12 @@ fn put_bytes(digits: &[u8], out: &mut [u8])
 pub(crate) fn bytes_of(alloc: Global, digits: &[u8]) -> Result<Vec<u8>, DecodeFault>
     requires { list_all is_lower_digit digits.now ≡ true }
     ensures ok { IfOk result (λ bytes. decode_of digits.now ≡ Ok bytes.items) }
-    ensures none { result ≡ Err DecodeFault.NotAPiece → decode_of digits.now ≡ Err OddLength }
+    ensures none { (fault : LineFault) → result ≡ Err (DecodeFault.NotAPiece fault) → decode_of digits.now ≡ Err OddLength }
 {
     if digits.len() % 2 != 0 {
-        return Err(DecodeFault::NotAPiece);
+        return Err(DecodeFault::NotAPiece(LineFault::OddDigits {
+            digits: saturated(digits.len()),
+        }));
     }
     let mut bytes = vec![in alloc; 0u8; digits.len() / 2]?;
     put_bytes(digits, bytes.as_mut_slice());

@@ -5,9 +5,10 @@ ghost use Rattle.std.specs.List.{list_all};
 ghost use Rattle.hex.specs.Hex.{encode_lower};
 ghost use Rattle.log_pieces.specs.Piece.{PieceValue};
 ghost use Rattle.log_pieces.specs.Line.{IsLineOf, EndsOnce, is_lower_digit};
+ghost use Rattle.log_pieces.specs.declared.fault.LineFault.{LineFault};
 
-use crate::digits::bytes_of;
-use crate::fault::DecodeFault;
+use crate::digits::{bytes_of, saturated};
+use crate::fault::{DecodeFault, LineFault};
 use crate::piece::Piece;
 use crate::reading::decode;
 use crate::writing::encode;
@@ -41,13 +42,13 @@ fn put_digits(bytes: &[u8], line: &mut [u8])
 /// piece, 35 where memory runs out.
 pub fn read_line(alloc: Global, line: &[u8]) -> Result<Piece, DecodeFault>
     ensures ok { IfOk result (IsLineOf line.now) }
-    ensures none { result ≡ Err DecodeFault.NotAPiece → (p : PieceValue) → IsLineOf line.now p → ⊥ }
+    ensures none { (fault : LineFault) → result ≡ Err (DecodeFault.NotAPiece fault) → (p : PieceValue) → IsLineOf line.now p → ⊥ }
 {
     let Some(digits) = digits_of(line) else {
-        return Err(DecodeFault::NotAPiece);
+        return Err(DecodeFault::NotAPiece(LineFault::NoEnd));
     };
     if !are_lower_digits(digits) {
-        return Err(DecodeFault::NotAPiece);
+        return Err(DecodeFault::NotAPiece(digit_fault(digits)));
     }
     match bytes_of(alloc, digits) {
         Ok(bytes) => decode(alloc, &bytes),
@@ -74,6 +75,31 @@ fn are_lower_digits(digits: &[u8]) -> bool
         all_lower &= matches!(digit, b'0'..=b'9' | b'a'..=b'f');
     }
     all_lower
+}
+
+// The first byte that is no lower-case digit, in bytes that have such a one.
+fn digit_fault(digits: &[u8]) -> LineFault {
+    let is_lower = |digit: &u8| matches!(*digit, b'a'..=b'f' | b'0'..=b'9');
+    let place = digits
+        .iter()
+        .position(|digit| !is_lower(digit))
+        .unwrap_or(0);
+    let column = saturated(place).saturating_add(1);
+    match digits.get(place..) {
+        Some([b'\r']) => LineFault::CarriageReturn,
+        Some([b'A'..=b'F', ..]) => LineFault::UpperCase { column },
+        Some(rest) => LineFault::NotADigit {
+            column,
+            bytes: first_six(rest),
+        },
+        None => LineFault::Empty,
+    }
+}
+
+// The first six of bytes, and 0 behind the last.
+fn first_six(bytes: &[u8]) -> [u8; 6] {
+    let byte = |at: usize| bytes.get(at).copied().unwrap_or(0);
+    [byte(0), byte(1), byte(2), byte(3), byte(4), byte(5)]
 }
 
 /// A law of the lines alone: no piece's line begins another's, and no two pieces have the same.

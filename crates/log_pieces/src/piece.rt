@@ -151,7 +151,8 @@ fn passes_end(places: u64, end: &Option<End>) -> bool
     }
 }
 
-fn greatest_object(profile: &Profile) -> u32
+/// The greatest object of a run of that profile.
+pub(crate) fn greatest_object(profile: &Profile) -> u32
     ensures { result ≡ greatest_object profile.now }
 {
     match profile {

@@ -2,7 +2,7 @@
 
 ghost use Rattle.std.specs.Prelude.{◌<◌, length};
 
-use log_pieces::{DecodeFault, End, Piece, PieceFault, decode, encode, line, read_line};
+use log_pieces::{DecodeFault, End, LineFault, Piece, PieceFault, decode, encode, line, read_line};
 use rw_objects::{Entry, Few, Found, Kind};
 use std::alloc::Global;
 use std::test::Fail;
@@ -153,7 +153,7 @@ fn edited(
 }
 
 fn is_no_piece(alloc: Global, bytes: &[u8]) -> bool {
-    matches!(decode(alloc, bytes), Err(DecodeFault::NotAPiece))
+    matches!(decode(alloc, bytes), Err(DecodeFault::NotAPiece(_)))
 }
 
 fn is_no_piece_in(alloc: Global, text: &str) -> Result<bool, Fail> {
@@ -196,7 +196,7 @@ fn is_another(alloc: Global, whole: &[u8], bytes: &[u8]) -> Result<bool, Fail> {
             let again = encode(alloc, &piece)?;
             Ok(again.as_slice() == bytes && bytes != whole)
         }
-        Err(fault) => Ok(fault == DecodeFault::NotAPiece),
+        Err(fault) => Ok(fault != DecodeFault::NoMemory),
     }
 }
 
@@ -227,7 +227,7 @@ fn one_bit_makes_another_piece_or_none(rt: HostRuntime) -> Result<(), Fail> {
 fn is_no_line(alloc: Global, text: &str) -> bool {
     matches!(
         read_line(alloc, text.as_bytes()),
-        Err(DecodeFault::NotAPiece)
+        Err(DecodeFault::NotAPiece(_))
     )
 }
 
@@ -401,7 +401,7 @@ fn ends_have_a_text(rt: HostRuntime) -> Result<(), Fail> {
     assert_eq!(rt; end.copy(rt.alloc())?, end);
     let text = format!(in rt.alloc();
         "{end}; {}; {}",
-        DecodeFault::NotAPiece,
+        DecodeFault::NotAPiece(LineFault::TooShort),
         PieceFault::BadThread
     )?;
     assert_eq!(rt;

@@ -3,8 +3,7 @@
 ghost use Rattle.std.specs.Prelude.{◌<◌};
 
 use join_laws::Flat;
-use line_faults::{BytesFault, LineFault};
-use log_pieces::{Piece, read_line};
+use log_pieces::{LineFault, Piece, read_line};
 use replica::{
     GatherFault, ListingForm, Log, MemorySink, MemorySource, Replica, ReplicaFault, Sink, Source,
     collect, gather, listing,
@@ -333,7 +332,7 @@ static REFUSED: &[(&[&str], u64, LineFault)] = &[
         1,
         LineFault::NotADigit {
             column: 1,
-            byte: b'n',
+            bytes: *b"no pie",
         },
     ),
     (
@@ -341,14 +340,10 @@ static REFUSED: &[(&[&str], u64, LineFault)] = &[
         3,
         LineFault::NotADigit {
             column: 1,
-            byte: b'n',
+            bytes: *b"no pie",
         },
     ),
-    (
-        &[WHOLE, "00\n"],
-        1,
-        LineFault::Bytes(BytesFault::LeftOver { bytes: 1 }),
-    ),
+    (&[WHOLE, "00\n"], 1, LineFault::LeftOver { bytes: 1 }),
     (&["\n", WHOLE, "\n"], 1, LineFault::Empty),
     (&[WHOLE, "\n\n"], 2, LineFault::Empty),
     (&[WHOLE, "\r\n"], 1, LineFault::CarriageReturn),
@@ -356,12 +351,18 @@ static REFUSED: &[(&[&str], u64, LineFault)] = &[
     (
         &["\0\0", WHOLE, "\n"],
         1,
-        LineFault::NotADigit { column: 1, byte: 0 },
+        LineFault::NotADigit {
+            column: 1,
+            bytes: *b"\0\x004952",
+        },
     ),
     (
         &[WHOLE, "\n\0"],
         2,
-        LineFault::NotADigit { column: 1, byte: 0 },
+        LineFault::NotADigit {
+            column: 1,
+            bytes: [0; 6],
+        },
     ),
 ];
 
@@ -419,7 +420,7 @@ fn lines_that_are_cut_or_in_upper_case_are_refused(rt: HostRuntime) {
     };
     let short = GatherFault::BadLine {
         line: 1,
-        reason: LineFault::Bytes(BytesFault::TooShort),
+        reason: LineFault::TooShort,
     };
     let odd = GatherFault::BadLine {
         line: 1,
@@ -540,7 +541,7 @@ fn a_bad_line_comes_before_a_later_failure(rt: HostRuntime) {
         line: 1,
         reason: LineFault::NotADigit {
             column: 1,
-            byte: b'n',
+            bytes: *b"no pie",
         },
     };
     let want = failed(fault, 0, 0);

@@ -1,9 +1,9 @@
 //! Plans, of small modules in hex.
 
+use crate::plans::Refusal::{BadLine, NoExport, NotShared, SegmentOutOfBounds, WrongArguments};
 use crate::validation::valid_of;
 use std::alloc::Global;
 use std::process::Abort;
-use thread_plan::PlanFault::{BadLine, NoExport, NotShared, SegmentOutOfBounds, WrongArguments};
 use thread_plan::{Plan, PlanFault};
 use validator::Valid;
 use wasm_types::Value;
@@ -175,8 +175,30 @@ static PLANS: &[(&str, &str, Threads<'static>)] = &[
     ),
 ];
 
+/// Why a plan is refused, whatever is wrong in the line.
+#[derive(Clone, Copy, Debug, PartialEq, Eq)]
+enum Refusal {
+    BadLine { line: u64 },
+    NoExport { line: u64 },
+    WrongArguments { line: u64 },
+    NotShared,
+    SegmentOutOfBounds,
+    NoMemory,
+}
+
+fn refusal_of(fault: PlanFault) -> Refusal {
+    match fault {
+        PlanFault::BadLine { line, .. } => BadLine { line },
+        PlanFault::NoExport { line, .. } => NoExport { line },
+        PlanFault::WrongArguments { line, .. } => WrongArguments { line },
+        PlanFault::NotShared => NotShared,
+        PlanFault::SegmentOutOfBounds => SegmentOutOfBounds,
+        PlanFault::NoMemory => Refusal::NoMemory,
+    }
+}
+
 /// Texts that are no plans of modules, with their faults.
-static FAULTS: &[(&str, &str, PlanFault)] = &[
+static FAULTS: &[(&str, &str, Refusal)] = &[
     // Other first lines, and none behind it.
     (FUNCTIONS, "", BadLine { line: 1 }),
     (FUNCTIONS, "\n", BadLine { line: 1 }),
@@ -495,12 +517,11 @@ pub(crate) fn is_plan(
     is_read(alloc, text, &valid, wanted)
 }
 
-fn same(
-    rt: &impl Abort,
-    found: Result<bool, PlanFault>,
-    want: Result<bool, PlanFault>,
-    text: &str,
-) {
+fn same(rt: &impl Abort, found: Result<bool, PlanFault>, want: Result<bool, Refusal>, text: &str) {
+    let found = match found {
+        Ok(read) => Ok(read),
+        Err(fault) => Err(refusal_of(fault)),
+    };
     assert_eq!(rt; found, want, "{text}");
 }
 

@@ -19,8 +19,6 @@ use Rattle.text_lines.proofs.DecimalLemmas.{text_is_decimal}
 use Rattle.event_core.specs.declared.pick.Pick.{Pick}
 use Rattle.event_core.specs.declared.pick.Input.{Input}
 use Rattle.event_core.specs.declared.pick.Input.TheVariants.{Go, TimeOut}
-use Rattle.pick_schedule.specs.declared.fault.ScheduleFault.{ScheduleFault}
-use Rattle.pick_schedule.specs.declared.fault.ScheduleFault.TheVariants.{BadLine}
 use Rattle.pick_schedule.specs.Schedule.{in_range, number_in, picks_by, picks_of, behind, line_by, picks_from, schedule_of}
 use Rattle.pick_schedule.proofs.Lines.{lines_are}
 
@@ -132,19 +130,19 @@ line_short line picks e =
 
 -- ---- the first faulty line
 
-refused_by : (number room : ℕ) (o : Option (List Pick)) (rest : ℕ → Result (List Pick) ScheduleFault) → ((picks : List Pick) → o ≡ Some picks → room < length picks) → line_by number room o rest ≡ Err (BadLine number)
+refused_by : (number room : ℕ) (o : Option (List Pick)) (rest : ℕ → Result (List Pick) ℕ) → ((picks : List Pick) → o ≡ Some picks → room < length picks) → line_by number room o rest ≡ Err number
 refused_by number room None rest many = refl
 refused_by number room (Some picks) rest many = cond-false _ _ _ (lt-leb _ _ (many picks refl))
 
-chosen : (is : Bool) (a b c : Result (List Pick) ScheduleFault) → (is ≡ true → a ≡ b) → cond is a c ≡ cond is b c
+chosen : (is : Bool) (a b c : Result (List Pick) ℕ) → (is ≡ true → a ≡ b) → cond is a c ≡ cond is b c
 chosen true a b c same = same refl
 chosen false a b c same = refl
 
-same_by : (number room : ℕ) (o : Option (List Pick)) (rest others : ℕ → Result (List Pick) ScheduleFault)
+same_by : (number room : ℕ) (o : Option (List Pick)) (rest others : ℕ → Result (List Pick) ℕ)
     → ((picks : List Pick) → o ≡ Some picks → length picks ≤ room → rest (room - length picks) ≡ others (room - length picks)) → line_by number room o rest ≡ line_by number room o others
 same_by number room None rest others same = refl
 same_by number room (Some picks) rest others same =
-    chosen (nat_le (length picks) room) (behind picks (rest (room - length picks))) (behind picks (others (room - length picks))) (Err (BadLine number))
+    chosen (nat_le (length picks) room) (behind picks (rest (room - length picks))) (behind picks (others (room - length picks))) (Err number)
     (λ is. ap (behind picks) (same picks refl (leb-true _ _ is)))
 
 -- lines with more bytes than picks can have are refused within them, whatever stands behind them

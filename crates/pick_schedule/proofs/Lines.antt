@@ -6,8 +6,6 @@ use Rattle.std.proofs.Math.ListN.{length-append}
 use Rattle.std.proofs.lemmas.Bool.{cond-true, cond-false, le-leb, lt-leb}
 use Rattle.text_lines.specs.Parts.{words, lines}
 use Rattle.event_core.specs.declared.pick.Pick.{Pick}
-use Rattle.pick_schedule.specs.declared.fault.ScheduleFault.{ScheduleFault}
-use Rattle.pick_schedule.specs.declared.fault.ScheduleFault.TheVariants.{BadLine}
 use Rattle.pick_schedule.specs.Schedule.{picks_of, behind, line_by, picks_from, lines_in, schedule_of}
 
 -- the picks so far, the number of the next line, and the lines that are left
@@ -16,13 +14,13 @@ pub record IsReadUpTo (text : List ℕ) (picks : List Pick) (number : ℕ) (rest
   pub numbered : number ≤ length picks + 1
   pub same : schedule_of text ≡ behind picks (picks_from number (1000000 - length picks) rest)
 
-behind_nil : (rest : Result (List Pick) ScheduleFault) → behind [] rest ≡ rest
+behind_nil : (rest : Result (List Pick) ℕ) → behind [] rest ≡ rest
 behind_nil (Ok picks) = refl
-behind_nil (Err fault) = refl
+behind_nil (Err line) = refl
 
-behind_more : (picks more : List Pick) (rest : Result (List Pick) ScheduleFault) → behind picks (behind more rest) ≡ behind (picks ++ more) rest
+behind_more : (picks more : List Pick) (rest : Result (List Pick) ℕ) → behind picks (behind more rest) ≡ behind (picks ++ more) rest
 behind_more picks more (Ok others) = ap (λ (ps : List Pick). Ok ps) (sym (append_assoc picks more others))
-behind_more picks more (Err fault) = refl
+behind_more picks more (Err line) = refl
 
 pub lines_are : (text : List ℕ) → 0 < length text → lines_in text ≡ lines text
 lines_are [] some = absurd (omega arith)
@@ -39,7 +37,7 @@ pub one_more : (text : List ℕ) (picks more : List Pick) (number : ℕ) (line :
     → picks_of (words line) ≡ Some more → 0 < length more → length more ≤ 1000000 - length picks → IsReadUpTo text (picks ++ more) (number + 1) rest
 one_more text picks more number line rest read e some room =
     let n : length (picks ++ more) ≡ length picks + length more = length-append picks more in
-    let next : (ℕ → Result (List Pick) ScheduleFault) = (λ left. picks_from (number + 1) left rest) in
+    let next : (ℕ → Result (List Pick) ℕ) = (λ left. picks_from (number + 1) left rest) in
     record {
       at_most = omega (arith, read.at_most);
       numbered = omega (arith, read.numbered);
@@ -52,9 +50,9 @@ one_more text picks more number line rest read e some room =
     }
 
 pub too_many : (text : List ℕ) (picks more : List Pick) (number : ℕ) (line : List ℕ) (rest : List (List ℕ)) → IsReadUpTo text picks number (line ∷ rest)
-    → picks_of (words line) ≡ Some more → 1000000 - length picks < length more → schedule_of text ≡ Err (BadLine number)
+    → picks_of (words line) ≡ Some more → 1000000 - length picks < length more → schedule_of text ≡ Err number
 too_many text picks more number line rest read e many =
-    let next : (ℕ → Result (List Pick) ScheduleFault) = (λ left. picks_from (number + 1) left rest) in
+    let next : (ℕ → Result (List Pick) ℕ) = (λ left. picks_from (number + 1) left rest) in
     read.same
     ∙ ap (λ (o : Option (List Pick)). behind picks (line_by number (1000000 - length picks) o next)) e
     ∙ ap (behind picks) (cond-false _ _ _ (lt-leb _ _ many))

@@ -1,5 +1,5 @@
 -- Schedules: in which order threads go on.
-use Rattle.std.specs.Prelude.{◌≡◌, ◌⊎◌, ℕ, ◌+◌, ◌-◌, ◌&&◌, ℤ, pos, negsuc, List, [], ◌∷◌, ◌++◌, Option, Some, None, Result, Ok, Err, codes, length, replicate, nat_le, if◌then◌else◌}
+use Rattle.std.specs.Prelude.{◌≡◌, ℕ, ◌+◌, ◌-◌, ◌&&◌, ℤ, pos, negsuc, List, [], ◌∷◌, ◌++◌, Option, Some, None, Result, Ok, Err, codes, length, replicate, nat_le, if◌then◌else◌}
 use Rattle.std.specs.Str.{bytes_eq}
 use Rattle.std.specs.Str.Parse.{signed_digits_value}
 use Rattle.text_lines.specs.Parts.{words, lines}
@@ -8,7 +8,7 @@ use Rattle.event_core.specs.declared.pick.Pick.{Pick}
 use Rattle.event_core.specs.declared.pick.Input.{Input}
 use Rattle.event_core.specs.declared.pick.Input.TheVariants.{Go, TimeOut}
 use Rattle.pick_schedule.specs.declared.fault.ScheduleFault.{ScheduleFault}
-use Rattle.pick_schedule.specs.declared.fault.ScheduleFault.TheVariants.{BadLine, NoMemory}
+use Rattle.pick_schedule.specs.declared.fault.ScheduleFault.TheVariants as fault
 
 abbrev pub in_range : ℕ → ℕ → ℤ → Option ℕ
 in_range least most (pos n) = if nat_le least n && nat_le n most then Some n else None
@@ -33,17 +33,17 @@ picks_of (word ∷ thread ∷ count ∷ []) = if bytes_eq word (codes "go") then
 picks_of (word ∷ thread ∷ count ∷ more ∷ others) = None
 
 -- these picks, and those behind them
-abbrev pub behind : List Pick → Result (List Pick) ScheduleFault → Result (List Pick) ScheduleFault
+abbrev pub behind : List Pick → Result (List Pick) ℕ → Result (List Pick) ℕ
 behind picks (Ok others) = Ok (picks ++ others)
-behind picks (Err fault) = Err fault
+behind picks (Err line) = Err line
 
 -- a line's picks where there is room for so many, and what follows them
-abbrev pub line_by : ℕ → ℕ → Option (List Pick) → (ℕ → Result (List Pick) ScheduleFault) → Result (List Pick) ScheduleFault
-line_by number room None rest = Err (BadLine number)
-line_by number room (Some picks) rest = if nat_le (length picks) room then behind picks (rest (room - length picks)) else Err (BadLine number)
+abbrev pub line_by : ℕ → ℕ → Option (List Pick) → (ℕ → Result (List Pick) ℕ) → Result (List Pick) ℕ
+line_by number room None rest = Err number
+line_by number room (Some picks) rest = if nat_le (length picks) room then behind picks (rest (room - length picks)) else Err number
 
 -- the picks of lines that are numbered from `number` on
-abbrev pub picks_from : ℕ → ℕ → List (List ℕ) → Result (List Pick) ScheduleFault
+abbrev pub picks_from : ℕ → ℕ → List (List ℕ) → Result (List Pick) ℕ
 picks_from number room [] = Ok []
 picks_from number room (line ∷ lines) = line_by number room (picks_of (words line)) (λ left. picks_from (number + 1) left lines)
 
@@ -52,10 +52,11 @@ abbrev pub lines_in : List ℕ → List (List ℕ)
 lines_in [] = []
 lines_in (b ∷ bs) = lines (b ∷ bs)
 
--- the picks that a text spells, at most 1,000,000, or its first faulty line
-abbrev pub schedule_of : List ℕ → Result (List Pick) ScheduleFault
+-- the picks that a text spells, at most 1,000,000, or the number of its first faulty line, from 1 on
+abbrev pub schedule_of : List ℕ → Result (List Pick) ℕ
 schedule_of text = picks_from 1 1000000 (lines_in text)
 
--- want of memory, or this answer's fault
-abbrev pub IsFaultOf : Result (List Pick) ScheduleFault → ScheduleFault → Type 0
-IsFaultOf answer fault = (fault ≡ NoMemory) ⊎ (answer ≡ Err fault)
+-- want of memory, or this answer's line, whatever is wrong in it
+abbrev pub IsFaultOf : Result (List Pick) ℕ → ScheduleFault → Type 0
+IsFaultOf answer (fault.BadLine line cause) = answer ≡ Err line
+IsFaultOf answer fault.NoMemory = Unit {0}

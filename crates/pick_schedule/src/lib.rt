@@ -6,7 +6,7 @@ mod laws;
 mod line;
 mod reader;
 
-pub use fault::ScheduleFault;
+pub use fault::{ScheduleCause, ScheduleFault};
 pub use laws::{SCHEDULE_BEGINNING, beginnings_say_all};
 pub use reader::schedule;
 

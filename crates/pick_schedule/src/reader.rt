@@ -3,7 +3,7 @@
 ghost use Rattle.std.specs.Prelude.{◌≡◌, Ok, IfOk, IfErr};
 ghost use Rattle.pick_schedule.specs.Schedule.{schedule_of, IsFaultOf};
 
-use crate::fault::ScheduleFault;
+use crate::fault::{ScheduleCause, ScheduleFault};
 use crate::line::stretch_of;
 use schedules::Schedule;
 use std::alloc::Global;
@@ -25,11 +25,20 @@ pub fn schedule(alloc: Global, text: &[u8]) -> Result<Schedule, ScheduleFault>
     let mut lines = Parts::new(without_end(text), b'\n');
     let mut number = 1;
     while let Some(line) = lines.take_part() {
-        let Some(stretch) = stretch_of(line) else {
-            return Err(ScheduleFault::BadLine { line: number });
+        let stretch = match stretch_of(line) {
+            Ok(stretch) => stretch,
+            Err(cause) => {
+                return Err(ScheduleFault::BadLine {
+                    line: number,
+                    cause,
+                });
+            }
         };
         if stretch.times > picks.room() {
-            return Err(ScheduleFault::BadLine { line: number });
+            return Err(ScheduleFault::BadLine {
+                line: number,
+                cause: ScheduleCause::TooMany,
+            });
         }
         picks.push(stretch.pick, stretch.times)?;
         number += 1;

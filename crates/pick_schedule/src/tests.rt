@@ -4,13 +4,12 @@ use schedules::Stretch;
 use std::alloc::Global;
 use std::test::Fail;
 
-// The fault of a text; None where it is a schedule.
-fn fault_of(alloc: Global, text: &str) -> Option<ScheduleFault> {
-    schedule(alloc, text.as_bytes()).err()
-}
-
-const fn bad(line: u64) -> Option<ScheduleFault> {
-    Some(ScheduleFault::BadLine { line })
+// The faulty line of a text; None where it is a schedule, or memory is wanting.
+fn bad_line(alloc: Global, text: &str) -> Option<u64> {
+    match schedule(alloc, text.as_bytes()) {
+        Err(ScheduleFault::BadLine { line, .. }) => Some(line),
+        _ => None,
+    }
 }
 
 #[test]
@@ -56,9 +55,9 @@ fn the_first_faulty_line_is_answered(rt: HostRuntime) -> Result<(), Fail> {
         "out -0",
         "go 0 1000001",
     ] {
-        assert_eq!(rt; fault_of(alloc, text), bad(1), "{text}");
+        assert_eq!(rt; bad_line(alloc, text), Some(1), "{text}");
     }
-    assert_eq!(rt; fault_of(alloc, "go 0 1\nout\nin 0\n"), bad(2));
+    assert_eq!(rt; bad_line(alloc, "go 0 1\nout\nin 0\n"), Some(2));
     Ok(())
 }
 
@@ -66,6 +65,6 @@ fn the_first_faulty_line_is_answered(rt: HostRuntime) -> Result<(), Fail> {
 fn picks_beyond_a_million_are_refused(rt: HostRuntime) -> Result<(), Fail> {
     let alloc = rt.alloc();
     assert_eq!(rt; schedule(alloc, b"go 1 999999\nout 3\n")?.len(), 1_000_000);
-    assert_eq!(rt; fault_of(alloc, "go 1 999999\ngo 0 1\nout 3\n"), bad(3));
+    assert_eq!(rt; bad_line(alloc, "go 1 999999\ngo 0 1\nout 3\n"), Some(3));
     Ok(())
 }

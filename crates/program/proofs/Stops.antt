@@ -12,7 +12,7 @@ use Rattle.commands.specs.Records.{AnswerAt, IsRecordAnswer}
 use Rattle.commands.specs.Replays.{IsReplayRefused}
 use Rattle.replica.specs.declared.skipping.Skipped.{Skipped}
 use Rattle.command_words.specs.declared.requests.Request.TheVariants as request
-use Rattle.line_faults.specs.declared.reasons.LineFault.{LineFault}
+use Rattle.log_pieces.specs.declared.fault.LineFault.{LineFault}
 use Rattle.replica.specs.Gathered.{IsBadLine, IsOtherRun, IsCutText}
 use Rattle.replica.specs.Lines.{IsDeviceFault}
 use Rattle.replica.specs.declared.fault.GatherFault.{GatherFault}

@@ -59,8 +59,8 @@ fn show_recorded<W: Sink>(output: &mut W, answer: &mut RecordAnswer) -> Result<(
     }
 }
 
-/// Writes the line of the threads of a recording that stopped at `--steps`, or nothing where none did, where it is asked for. Where
-/// writing fails there is nobody to tell.
+/// Writes the line of the threads of a recording that stopped at `--steps`, or nothing where none did, where it is
+/// asked for. Where writing fails there is nobody to tell.
 fn tell_stopped<E: Sink>(errors: &mut E, why: bool, line: &str)
     requires { E.failed errors.old < 2 ^ 64 - 1 }
     ensures { IsSaid (λ text. (E.takes errors.old text errors.new) ⊎ (E.failed errors.new ≡ E.failed errors.old + 1)) why line.now }
@@ -246,8 +246,8 @@ fn not_text(word: &OddWord<'_>) -> ArrayString<110>
     text
 }
 
-/// Answers the exit status where the words of the command line could not be had, and says why: this one is not UTF-8, or they do not
-/// fit into memory.
+/// Answers the exit status where the words of the command line could not be had, and says why: this one is not UTF-8,
+/// or they do not fit into memory.
 pub fn refuse_words<E: Sink>(errors: &mut E, error: &io::Error, odd: Option<OddWord<'_>>) -> u8
     requires { E.failed errors.old < 2 ^ 64 - 1 }
     ensures no_memory { error_kind error.now ≡ ErrorKind.OutOfMemory → (result ≡ 1) × ((E.takes errors.old (fault_line faults.NoMemory) errors.new) ⊎ (E.failed errors.new ≡ E.failed errors.old + 1)) }
@@ -261,8 +261,9 @@ pub fn refuse_words<E: Sink>(errors: &mut E, error: &io::Error, odd: Option<OddW
 }
 
 /// Does what the words ask for, the first of which is the program's name, and answers the exit status: 0 where it is
-/// done, 1 where it is refused, and then `errors` took the line that says so, 2 where the words are not understood. `rt` logs
-/// the path of each file before it is read; `threads` makes the threads of a recording or a replay by threads.
+/// done, 1 where it is refused, and then `errors` took the line that says so, 2 where the words are not understood.
+/// `rt` logs the path of each file before it is read; `threads` makes the threads of a recording or a replay by
+/// threads.
 pub fn run<L: Log, T: Threads + Wait + Sync, F: Files, R: Source, W: Sink, E: Sink, S: AsStr>(
     rt: &L,
     threads: &T,
@@ -276,10 +277,11 @@ pub fn run<L: Log, T: Threads + Wait + Sync, F: Files, R: Source, W: Sink, E: Si
     requires source { R.failed source.old < 2 ^ 64 - 1 }
     requires output { W.failed output.old < 2 ^ 64 - 1 }
     requires errors { E.failed errors.old < 2 ^ 64 - 1 }
-    // Done: the output took the very text of the command that the words ask for, and `errors` took the line of the numbers of lines
-    // that were passed over, or where the words ask for it the line of the threads that stopped, or else nothing; or it failed. Refused:
-    // `errors` took the line of the fault, and where the words ask for it one more line, of the reason, or failed; and nothing was
-    // written but by a failing output. Not understood: nothing was read or written.
+    // Done: the output took the very text of the command that the words ask for, and `errors` took the line of the
+    // numbers of lines that were passed over, or where the words ask for it the line of the threads that stopped, or
+    // else nothing; or it failed. Refused: `errors` took the line of the fault, and where the words ask for it one more
+    // line, of the reason, or failed; and nothing was written but by a failing output. Not understood: nothing was read
+    // or written.
     ensures answered { IsAnswered (F.holds files.old) (F.fails files.old)
         (λ text. R.brings source.old text source.new) (R.ended source.new) (R.failed source.new ≡ R.failed source.old + 1)
         (λ text. W.takes output.old text output.new) (output.new ≡ output.old) (W.failed output.new ≡ W.failed output.old + 1)

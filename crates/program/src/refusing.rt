@@ -101,8 +101,8 @@ fn refuse_in_words<E: Sink>(alloc: Global, errors: &mut E, fault: &Fault, words:
     }
 }
 
-/// Refuses a request: writes the line of the fault and, where the reason is asked for, the line of the reason, and answers the
-/// exit status.
+/// Refuses a request: writes the line of the fault and, where the reason is asked for, the line of the reason, and
+/// answers the exit status.
 pub(crate) fn refuse_request<L: Log, F: Files, E: Sink>(
     rt: &L,
     alloc: Global,

@@ -1,5 +1,5 @@
-//! Runs of the program whose input or output fails, by threads, and on words that are no text. What it writes and refuses on files that
-//! can be read is shown by `worked_rows`.
+//! Runs of the program whose input or output fails, by threads, and on words that are no text. What it writes and
+//! refuses on files that can be read is shown by `worked_rows`.
 
 ghost use Rattle.std.specs.Prelude.{◌≡◌, ◌<◌, List, ℕ, map};
 ghost use Rattle.std.specs.Borrow.{Bor};
@@ -54,8 +54,8 @@ const PICKS: &str = "go 0 3\ngo 1 8\ngo 0 5\n";
 /// A schedule by which one of them is left at its third step.
 const FEWER_PICKS: &str = "go 0 3\ngo 1 8\n";
 
-/// A line that is no piece, the piece of a thread that made three steps and no access, the piece of another run, and once more a line that
-/// is no piece.
+/// A line that is no piece, the piece of a thread that made three steps and no access, the piece of another run, and
+/// once more a line that is no piece.
 const MIXED: &str = "zz\n\
     49525001aaaaaaaaaaaaaaaaaaaaaaaaaaaaaaaaaaaaaaaaaaaaaaaaaaaaaaaaaaaaaaaa01000000000000000300000000000001030000000000000002\n\
     49525001bbbbbbbbbbbbbbbbbbbbbbbbbbbbbbbbbbbbbbbbbbbbbbbbbbbbbbbbbbbbbbbb01000000000000000300000000000001030000000000000002\n\
@@ -70,8 +70,8 @@ const fn file<'a>(path: &'a str, bytes: &'a [u8]) -> MemoryFile<'a> {
     }
 }
 
-/// What the program is run on: words, piece lines for the file `l` and for the standard input, and at which call each of these fails, and
-/// the output, which takes so many bytes at a call.
+/// What the program is run on: words, piece lines for the file `l` and for the standard input, and at which call each
+/// of these fails, and the output, which takes so many bytes at a call.
 #[derive(Clone, Copy, Drop)]
 struct Case<'a> {
     words: &'a [&'a str],
@@ -106,8 +106,9 @@ fn paths(alloc: Global, lines: &Lines) -> Vec<u8> {
     paths
 }
 
-/// Runs the program on the files `m`, `p`, `s`, `f` and `l`: a module, a plan, two schedules and piece lines; `w` and `a`, a module whose
-/// thread waits and a plan of it alone; `g` and `o`, its steps without and with the time-out of its wait.
+/// Runs the program on the files `m`, `p`, `s`, `f` and `l`: a module, a plan, two schedules and piece lines; `w` and
+/// `a`, a module whose thread waits and a plan of it alone; `g` and `o`, its steps without and with the time-out of its
+/// wait.
 fn run_on<T: Threads + Wait + Sync>(threads: &T, alloc: Global, case: Case<'_>) -> Done
     requires { 0 < case.most }
 {
@@ -157,8 +158,8 @@ fn is_done(done: &Done, status: u8, output: &str, errors: &str, noted: &str) -> 
         && done.noted.as_slice() == noted.as_bytes()
 }
 
-/// A case without files: words, piece lines, at which call reading them fails, and at which call the output, which takes 8 bytes at one.
-/// Behind it what the program is to write, and to say on standard error.
+/// A case without files: words, piece lines, at which call reading them fails, and at which call the output, which
+/// takes 8 bytes at one. Behind it what the program is to write, and to say on standard error.
 type Failing = (
     &'static [&'static str],
     &'static str,
@@ -273,8 +274,8 @@ fn refuses_pieces_of_which_a_read_fails(rt: HostRuntime) {
     assert!(rt; done.status == 1 && text(&done.errors).starts_with("refused 43 BadLine 1\n"));
 }
 
-/// Runs the program on files over memory. Where the words ask for the check of a module and the exit status is 0, the file at
-/// its path holds a valid one.
+/// Runs the program on files over memory. Where the words ask for the check of a module and the exit status is 0, the
+/// file at its path holds a valid one.
 fn checked_in_memory<T: Threads + Wait + Sync, S: AsStr>(
     threads: &T,
     alloc: Global,

@@ -5,6 +5,8 @@
 #[cfg(test)]
 mod modules;
 #[cfg(test)]
+mod piece_lines;
+#[cfg(test)]
 mod plan_lines;
 #[cfg(test)]
 mod schedule_lines;

@@ -1,7 +1,8 @@
 //! Why lines of plans are refused.
 
 use binary_decoder::decode;
-use line_reasons::plan_reason;
+use commands::plan_quote;
+use explanations::plan_words;
 use std::alloc::Global;
 use std::process::Abort;
 use std::test::Fail;
@@ -27,8 +28,8 @@ fn told_over(alloc: Global, text: &[u8], valid: &Valid) -> Result<String, Fail> 
     match Plan::read(alloc, text, valid) {
         Ok(_) => Ok(format!(in alloc; "a plan")?),
         Err(fault) => {
-            let reason = plan_reason(text, valid, &fault);
-            Ok(format!(in alloc; "{fault:?}: {reason}")?)
+            let words = plan_words(alloc, &fault, plan_quote(text, &fault).as_str())?;
+            Ok(format!(in alloc; "{fault}: {words}")?)
         }
     }
 }
@@ -39,15 +40,14 @@ fn told(alloc: Global, text: &[u8]) -> Result<String, Fail> {
     told_over(alloc, text, &valid)
 }
 
-// A text, its fault, and the words of its reason.
-type Row = (&'static [u8], PlanFault, &'static str);
+// A text, and the words of its fault and of its reason.
+type Row = (&'static [u8], &'static str);
 
 // Each of these texts is refused so.
 fn all_told(rt: &impl Abort, alloc: Global, rows: &[Row]) -> Result<(), Fail> {
-    for (text, fault, words) in rows {
+    for (text, words) in rows {
         let found = told(alloc, text)?;
-        let want = format!(in alloc; "{fault:?}: {words}")?;
-        assert_eq!(rt; found.as_str(), want.as_str());
+        assert_eq!(rt; found.as_str(), *words);
     }
     Ok(())
 }
@@ -56,88 +56,75 @@ fn all_told(rt: &impl Abort, alloc: Global, rows: &[Row]) -> Result<(), Fail> {
 static FORMS: &[Row] = &[
     (
         b"",
-        PlanFault::BadLine { line: 1 },
-        "the first line is empty, and not `wreplay plan 1`",
+        "line 1 is no line of a plan: the first line is empty, and not `wreplay plan 1`",
     ),
     (
         b"wreplay plan 2\nthread i 0\n",
-        PlanFault::BadLine { line: 1 },
-        "the first line is `wreplay plan 2`, and not `wreplay plan 1`",
+        "line 1 is no line of a plan: the first line is `wreplay plan 2`, and not `wreplay plan 1`",
     ),
     (
         b"wreplay plan 1\r\nthread i 0\r\n",
-        PlanFault::BadLine { line: 1 },
-        "the line ends in a carriage return",
+        "line 1 is no line of a plan: the line ends in a carriage return",
     ),
     (
         b"wreplay plan 1\n",
-        PlanFault::BadLine { line: 2 },
-        "no line `thread NAME ARG ..` stands in the plan",
+        "line 2 is no line of a plan: no line `thread NAME ARG ..` stands in the plan",
     ),
     (
         b"wreplay plan 1\n\n",
-        PlanFault::BadLine { line: 2 },
-        "the line is empty",
+        "line 2 is no line of a plan: the line is empty",
     ),
     (
         b"wreplay plan 1\nthread i 0\n\n",
-        PlanFault::BadLine { line: 3 },
-        "the line is empty",
+        "line 3 is no line of a plan: the line is empty",
     ),
     (
         b"wreplay plan 1\nthread i 0\r\n",
-        PlanFault::BadLine { line: 2 },
-        "the line ends in a carriage return",
+        "line 2 is no line of a plan: the line ends in a carriage return",
     ),
     (
         b"wreplay plan 1\n thread i 0\n",
-        PlanFault::BadLine { line: 2 },
-        "the line begins with a space",
+        "line 2 is no line of a plan: the line begins with a space",
     ),
     (
         b"wreplay plan 1\nthread i 0 \n",
-        PlanFault::BadLine { line: 2 },
-        "the line ends in a space",
+        "line 2 is no line of a plan: the line ends in a space",
     ),
     (
         b"wreplay plan 1\nthread two 0  7\n",
-        PlanFault::BadLine { line: 2 },
-        "two spaces stand side by side",
+        "line 2 is no line of a plan: two spaces stand side by side",
     ),
     (
         b"wreplay plan 1\nthreads i 0\n",
-        PlanFault::BadLine { line: 2 },
-        "the first word is `threads`, and not `thread`",
+        "line 2 is no line of a plan: the first word is `threads`, and not `thread`",
     ),
     (
         b"wreplay plan 1\nthread\n",
-        PlanFault::BadLine { line: 2 },
-        "no name of a function stands behind `thread`",
+        "line 2 is no line of a plan: no name of a function stands behind `thread`",
     ),
     (
         b"wreplay plan 1\nthread a\xffb 0\n",
-        PlanFault::BadLine { line: 2 },
-        "the name `a?b` is not in utf-8",
+        "line 2 is no line of a plan: the name `a?b` is not in utf-8",
     ),
     (
         b"wreplay plan 1\nthread two 0 x1\n",
-        PlanFault::BadLine { line: 2 },
-        "argument 2, `x1`, is no integer in decimal",
+        "line 2 is no line of a plan: argument 2, `x1`, is no integer in decimal",
     ),
     (
         b"wreplay plan 1\nthread i 00",
-        PlanFault::BadLine { line: 2 },
-        "argument 1, `00`, is no integer in decimal",
+        "line 2 is no line of a plan: argument 1, `00`, is no integer in decimal",
+    ),
+    (
+        b"wreplay plan 1\nthread  i 0\n",
+        "line 2 is no line of a plan: two spaces stand side by side",
     ),
     (
         b"\0\x1b[31m\x7f",
-        PlanFault::BadLine { line: 1 },
-        "the first line is `??[31m?`, and not `wreplay plan 1`",
+        "line 1 is no line of a plan: the first line is `??[31m?`, and not `wreplay plan 1`",
     ),
     (
         b"0123456789012345678901234567890123456789x",
-        PlanFault::BadLine { line: 1 },
-        "the first line is `0123456789012345678901234567890123456789..`, and not `wreplay plan 1`",
+        "line 1 is no line of a plan: the first line is `0123456789012345678901234567890123456789..`, and not `wreplay plan 1`",
     ),
 ];
 
@@ -150,18 +137,15 @@ fn lines_that_are_none_of_a_plan_are_told(rt: HostRuntime) -> Result<(), Fail> {
 static NAMES: &[Row] = &[
     (
         b"wreplay plan 1\nthread j 0\n",
-        PlanFault::NoExport { line: 2 },
-        "the module exports no function with the name `j`",
+        "line 2 names no exported function: the module exports no function with the name `j`",
     ),
     (
         b"wreplay plan 1\nthread m\n",
-        PlanFault::NoExport { line: 2 },
-        "the module exports no function with the name `m`",
+        "line 2 names no exported function: the module exports no function with the name `m`",
     ),
     (
         b"wreplay plan 1\nthread i\r\n",
-        PlanFault::NoExport { line: 2 },
-        "the line ends in a carriage return",
+        "line 2 names no exported function: the line ends in a carriage return",
     ),
 ];
 
@@ -174,23 +158,19 @@ fn names_of_no_function_are_told(rt: HostRuntime) -> Result<(), Fail> {
 static ARGUMENTS: &[Row] = &[
     (
         b"wreplay plan 1\nthread i\n",
-        PlanFault::WrongArguments { line: 2 },
-        "the number of arguments that the function takes is 1, and that of the line is 0",
+        "line 2 has other arguments than the function takes: the number of arguments that the function takes is 1, and that of the line is 0",
     ),
     (
         b"wreplay plan 1\nthread two 1 2 3\n",
-        PlanFault::WrongArguments { line: 2 },
-        "the number of arguments that the function takes is 2, and that of the line is 3",
+        "line 2 has other arguments than the function takes: the number of arguments that the function takes is 2, and that of the line is 3",
     ),
     (
         b"wreplay plan 1\nthread i 4294967296\n",
-        PlanFault::WrongArguments { line: 2 },
-        "argument 1, `4294967296`, is not from -2147483648 to 4294967295, as an i32 is",
+        "line 2 has other arguments than the function takes: argument 1, `4294967296`, is not from -2147483648 to 4294967295, as an i32 is",
     ),
     (
         b"wreplay plan 1\nthread two 0 -9223372036854775809\n",
-        PlanFault::WrongArguments { line: 2 },
-        "argument 2, `-9223372036854775809`, is not from -9223372036854775808 to 18446744073709551615, as an i64 is",
+        "line 2 has other arguments than the function takes: argument 2, `-9223372036854775809`, is not from -9223372036854775808 to 18446744073709551615, as an i64 is",
     ),
 ];
 
@@ -214,26 +194,14 @@ fn a_seventeenth_thread_is_told(rt: HostRuntime) -> Result<(), Fail> {
     let found = told(rt.alloc(), text.as_bytes())?;
     assert_eq!(rt;
         found.as_str(),
-        "BadLine { line: 18 }: a plan has no more than 16 threads"
+        "line 18 is no line of a plan: a plan has no more than 16 threads"
     );
     Ok(())
 }
 
-// The words of a fault's reason.
-fn words_over(alloc: Global, valid: &Valid, fault: &PlanFault) -> Result<String, Fail> {
-    let reason = plan_reason(b"", valid, fault);
-    Ok(format!(in alloc; "{reason}")?)
-}
-
-// The same for the module of above.
-fn words(alloc: Global, fault: &PlanFault) -> Result<String, Fail> {
-    let valid = valid(alloc)?;
-    words_over(alloc, &valid, fault)
-}
-
 #[test]
 fn faults_of_no_line_keep_their_words(rt: HostRuntime) -> Result<(), Fail> {
-    let text = words(rt.alloc(), &PlanFault::NotShared)?;
+    let text = plan_words(rt.alloc(), &PlanFault::NotShared, "")?;
     assert_eq!(rt; text.as_str(), "the memory is not shared");
     Ok(())
 }

@@ -1,6 +1,7 @@
 //! Why lines of schedules are refused.
 
-use line_reasons::schedule_reason;
+use commands::schedule_quote;
+use explanations::schedule_words;
 use pick_schedule::{ScheduleFault, schedule};
 use std::alloc::Global;
 use std::test::Fail;
@@ -10,8 +11,8 @@ fn told(alloc: Global, text: &[u8]) -> Result<String, Fail> {
     match schedule(alloc, text) {
         Ok(_) => Ok(format!(in alloc; "a schedule")?),
         Err(fault) => {
-            let reason = schedule_reason(text, &fault);
-            Ok(format!(in alloc; "{fault:?}: {reason}")?)
+            let words = schedule_words(alloc, &fault, schedule_quote(text, &fault).as_str())?;
+            Ok(format!(in alloc; "{fault}: {words}")?)
         }
     }
 }
@@ -104,7 +105,7 @@ static REFUSED: &[(&[u8], u64, &str)] = &[
 fn lines_that_are_none_of_a_schedule_are_told(rt: HostRuntime) -> Result<(), Fail> {
     for (text, line, words) in REFUSED {
         let found = told(rt.alloc(), text)?;
-        let want = format!(in rt.alloc(); "BadLine {{ line: {line} }}: {words}")?;
+        let want = format!(in rt.alloc(); "line {line} is no line of a schedule: {words}")?;
         assert_eq!(rt; found.as_str(), want.as_str());
     }
     Ok(())
@@ -112,8 +113,7 @@ fn lines_that_are_none_of_a_schedule_are_told(rt: HostRuntime) -> Result<(), Fai
 
 #[test]
 fn a_fault_of_no_line_keeps_its_words(rt: HostRuntime) -> Result<(), Fail> {
-    let reason = schedule_reason(b"", &ScheduleFault::NoMemory);
-    let text = format!(in rt.alloc(); "{reason}")?;
+    let text = schedule_words(rt.alloc(), &ScheduleFault::NoMemory, "")?;
     assert_eq!(rt; text.as_str(), "out of memory");
     Ok(())
 }

@@ -1,6 +1,6 @@
 //! Why pieces were not gathered.
 
-use line_faults::LineFault;
+use log_pieces::LineFault;
 use thiserror::Error;
 use wasm_types::{NoMemory, RunKey};
 
@@ -31,7 +31,7 @@ pub enum GatherFault {
     #[error("out of memory")]
     NoMemory,
     /// Refusal 43: that line is the first that is no piece line, for that reason.
-    #[error("line {line} is no piece line: {reason}")]
+    #[error("line {line} is no piece line")]
     BadLine {
         line: u64,
         reason: LineFault,

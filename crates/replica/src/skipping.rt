@@ -1,6 +1,7 @@
 //! Piece lines in, the listing of their joined log out, where lines that cannot be joined are passed over.
 
 ghost use Rattle.std.specs.Prelude.{◌≡◌, ℕ, ◌+◌, ◌-◌, ◌^◌, ◌<◌, List, Option, [], ◌∷◌, ◌++◌, Err, IfOk, OnOk, OnErr, IfErr};
+ghost use Rattle.std.specs.Result.{result_ok};
 ghost use Rattle.log_pieces.specs.Piece.{PieceValue};
 ghost use Rattle.replica.specs.Lines.{IsReadFault, IsDeviceFault};
 ghost use Rattle.replica.specs.Judged.{HasFound, Finds, Skips};
@@ -15,7 +16,7 @@ use crate::lines::Chunk;
 use crate::replica::Replica;
 use crate::sink::Sink;
 use crate::source::Source;
-use log_pieces::Piece;
+use log_pieces::{LineFault, Piece};
 use std::alloc::Global;
 use wasm_types::NoMemory;
 
@@ -72,12 +73,12 @@ impl Found {
     }
 
     /// Takes in a line that was judged.
-    fn put(&mut self, alloc: Global, judged: &Option<Piece>) -> Result<(), NoMemory>
-        ensures { OnOk result ((lines : List (Option PieceValue)) → HasFound lines self.old.replica self.old.skipped → HasFound (lines ++ judged.now ∷ []) self.new.replica self.new.skipped) }
+    fn put(&mut self, alloc: Global, judged: &Result<Piece, LineFault>) -> Result<(), NoMemory>
+        ensures { OnOk result ((lines : List (Option PieceValue)) → HasFound lines self.old.replica self.old.skipped → HasFound (lines ++ result_ok judged.now ∷ []) self.new.replica self.new.skipped) }
     {
         match judged {
-            Some(piece) => self.join(alloc, piece),
-            None => {
+            Ok(piece) => self.join(alloc, piece),
+            Err(_) => {
                 self.skipped.bad = self.skipped.bad.saturating_add(1);
                 Ok(())
             }

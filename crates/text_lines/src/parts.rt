@@ -1,6 +1,6 @@
 //! Parts of bytes between separators.
 
-ghost use Rattle.std.specs.Prelude.{◌≡◌, [], ◌∷◌, MatchOption};
+ghost use Rattle.std.specs.Prelude.{◌≡◌, [], ◌∷◌, MatchOption, option_copied, slice_get};
 ghost use Rattle.text_lines.specs.Parts.{parts, parts_left, without_last_end};
 
 use memchr::memchr;
@@ -41,6 +41,20 @@ impl<'a> Parts<'a> {
                 Some(part)
             }
         }
+    }
+
+    /// The part of that number, from 0 on; None where there are fewer.
+    pub fn part_at(mut self, number: u64) -> Option<&'a [u8]>
+        ensures { option_copied result ≡ slice_get (parts_left self.entry) number }
+    {
+        let mut left = number;
+        'parts: while left > 0 {
+            let Some(_) = self.take_part() else {
+                return None;
+            };
+            left -= 1;
+        }
+        self.take_part()
     }
 }
 

@@ -16,8 +16,7 @@ use Rattle.wasm_types.specs.declared.modules.FuncType.{FuncType}
 use Rattle.validator.specs.Context.{function_type}
 use Rattle.validator.specs.Exports.{exported_function}
 use Rattle.thread_plan.specs.declared.planned_thread.PlannedThread.{PlannedThread}
-use Rattle.thread_plan.specs.declared.fault.PlanFault.{PlanFault}
-use Rattle.thread_plan.specs.declared.fault.PlanFault.TheVariants.{BadLine, NotShared, SegmentOutOfBounds}
+use Rattle.thread_plan.specs.Refusals.{Refusal, BadLine, NotShared, SegmentOutOfBounds}
 use Rattle.text_lines.specs.Parts.{words, lines}
 use Rattle.text_lines.specs.Integers.{bits_of}
 use Rattle.thread_plan.specs.Arguments.{value_of, both, values_of}
@@ -27,7 +26,7 @@ use Rattle.thread_plan.specs.Threads.{form_of, values_by, thread_by, called, jud
 use Rattle.wasm_types.specs.Values.{type_of}
 use Rattle.thread_plan.specs.Plans.{PlanValue, and_then, threads_from, at_most_16, threads_of, threads_in, planned, plan_of, IsThreadOf, IsPlanOf, IsInRange}
 
-ok_is : {X : Type 0} (s t : X) → (let r : Result X PlanFault = Ok s in r ≡ Ok t) → s ≡ t
+ok_is : {X : Type 0} (s t : X) → (let r : Result X Refusal = Ok s in r ≡ Ok t) → s ≡ t
 ok_is s t e = cc
 
 some_is : {X : Type 0} (s t : X) → (let o : Option X = Some s in o ≡ Some t) → s ≡ t
@@ -91,9 +90,9 @@ by_form m n (Some form) thread e = by_export m n form.1 (exported_function m.exp
 thread_suits : (m : Module) (n : ℕ) (line : List ℕ) (thread : PlannedThread) → thread_at m n line ≡ Ok thread → IsThreadOf m thread
 thread_suits m n line thread e = by_form m n (form_of (words line)) thread e
 
-and_then_ok : {X Y : Type 0} (r : Result X PlanFault) (f : X → Result Y PlanFault) (y : Y) → and_then r f ≡ Ok y → (x : X) × (r ≡ Ok x) × (f x ≡ Ok y)
+and_then_ok : {X Y : Type 0} (r : Result X Refusal) (f : X → Result Y Refusal) (y : Y) → and_then r f ≡ Ok y → (x : X) × (r ≡ Ok x) × (f x ≡ Ok y)
 and_then_ok (Ok x) f y e = (x, refl, e)
-and_then_ok (Err fault) f y e = absurd cc
+and_then_ok (Err refusal) f y e = absurd cc
 
 -- one thread for each of so many lines
 record Suits (m : Module) (count : ℕ) (threads : List PlannedThread) : Type 0 where

@@ -1,3 +1,4 @@
+pub mod Refusals
 pub mod Arguments
 pub mod Threads
 pub mod Plans

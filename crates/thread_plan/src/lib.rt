@@ -8,7 +8,7 @@ mod plan;
 mod planned_thread;
 mod thread_line;
 
-pub use fault::PlanFault;
+pub use fault::{ArgumentFault, PlanCause, PlanFault};
 pub use laws::{lines_are_spelled, read_plans_suit};
 pub use plan::Plan;
 pub use planned_thread::PlannedThread;

@@ -2,14 +2,15 @@
 
 ghost use Rattle.std.specs.Prelude.{◌≡◌, ◌<◌, ◌≤◌, Ok, IfOk, IfErr, length, slice_get, option_copied};
 ghost use Rattle.text_lines.specs.Parts.{parts_left, lines};
-ghost use Rattle.thread_plan.specs.Plans.{plan_of, threads_of, threads_in, IsFaultOf, IsPlanOf};
+ghost use Rattle.thread_plan.specs.Plans.{plan_of, threads_of, threads_in, IsPlanOf};
+ghost use Rattle.thread_plan.specs.Refusals.{IsFaultOf};
 
-use crate::fault::PlanFault;
+use crate::fault::{PlanCause, PlanFault};
 use crate::planned_thread::PlannedThread;
 use crate::thread_line::read_thread;
 use std::alloc::Global;
 use std::marker::Model;
-use text_lines::{Parts, without_end};
+use text_lines::{Parts, SpacingFault, without_end};
 use validator::Valid;
 use wasm_instance::{fit_segments, may_share};
 use wasm_types::MOST_THREADS;
@@ -93,7 +94,14 @@ fn read_threads(alloc: Global, text: &[u8], valid: &Valid) -> Result<Vec<Planned
     let mut lines = Parts::new(without_end(text), b'\n');
     match lines.take_part() {
         Some(first) if first == FIRST_LINE => read_lines(alloc, lines, valid),
-        _ => Err(PlanFault::BadLine { line: 1 }),
+        Some([.., b'\r']) => Err(PlanFault::BadLine {
+            line: 1,
+            cause: PlanCause::Spacing(SpacingFault::CarriageReturn),
+        }),
+        _ => Err(PlanFault::BadLine {
+            line: 1,
+            cause: PlanCause::FirstLine,
+        }),
     }
 }
 
@@ -111,13 +119,19 @@ fn read_lines(
     while let Some(line) = lines.take_part() {
         let number = threads.len() as u64 + 2;
         if threads.len() == MOST_THREADS {
-            return Err(PlanFault::BadLine { line: number });
+            return Err(PlanFault::BadLine {
+                line: number,
+                cause: PlanCause::SeventeenthThread,
+            });
         }
         let thread = read_thread(alloc, line, number, valid)?;
         threads.push(thread)?;
     }
     if threads.is_empty() {
-        return Err(PlanFault::BadLine { line: 2 });
+        return Err(PlanFault::BadLine {
+            line: 2,
+            cause: PlanCause::NoThread,
+        });
     }
     Ok(threads)
 }

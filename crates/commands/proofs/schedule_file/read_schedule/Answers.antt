@@ -1,7 +1,6 @@
-use Rattle.std.proofs.Common.{List, ◌∙◌, sym, ap, subst}
+use Rattle.std.proofs.Common.{ℕ, List, ◌∙◌, sym, ap, subst}
 use Rattle.std.specs.Prelude.{Result}
 use Rattle.event_core.specs.declared.pick.Pick.{Pick}
-use Rattle.pick_schedule.specs.declared.fault.ScheduleFault.{ScheduleFault}
 use Rattle.pick_schedule.specs.Schedule.{schedule_of, IsFaultOf}
 use Rattle.pick_schedule.proofs.Beginnings.{beginning_judged}
 use Rattle.commands.proofs.schedule_file.read_schedule.Goals as goal
@@ -14,4 +13,4 @@ returns-in-Ok-schedule-clause-found g c =
 pub returns-clause-refused : goal.returns-clause-refused
 returns-clause-refused g c =
     let f = c.in-Ok.ensures.found in
-    (f.0, f.1, subst (λ (r : Result (List Pick) ScheduleFault). IsFaultOf r c.in-Err-schedule.fault) (ap schedule_of (c.deref.ensures.value ∙ f.2) ∙ beginning_judged f.0) c.in-Err-schedule.ensures.err)
+    (f.0, f.1, subst (λ (r : Result (List Pick) ℕ). IsFaultOf r c.in-Err-schedule.fault) (ap schedule_of (c.deref.ensures.value ∙ f.2) ∙ beginning_judged f.0) c.in-Err-schedule.ensures.err)

@@ -6,7 +6,7 @@ use Rattle.log_pieces.proofs.LineLaws.{line_is_read, no_line, no_bytes, no_spell
 use Rattle.log_pieces.proofs.lines.read_line.Goals as goal
 
 pub returns-then-not-are_lower_digits-clause-none : goal.returns-then-not-are_lower_digits-clause-none
-returns-then-not-are_lower_digits-clause-none c _ =
+returns-then-not-are_lower_digits-clause-none c _ _ =
     no_line c.args.line.now c.in-Some.digits.now c.in-Some.ensures (sym c.are_lower_digits.ensures ∙ c.if-not-are_lower_digits.true)
 
 pub returns-in-Ok-clause-ok : goal.returns-in-Ok-clause-ok
@@ -15,8 +15,8 @@ returns-in-Ok-clause-ok c =
     (subst (λ (bytes : List ℕ). IfOk c.decode.result (Spells bytes)) c.deref.ensures.value c.decode.ensures.ok)
 
 pub returns-in-Ok-clause-none : goal.returns-in-Ok-clause-none
-returns-in-Ok-clause-none c e =
-    no_spelling c.args.line.now c.in-Some.digits.now c.deref.result.now c.in-Some.ensures (rw c.deref.ensures.value c.in-Ok.ensures.ok) (c.decode.ensures.none e)
+returns-in-Ok-clause-none c fault e =
+    no_spelling c.args.line.now c.in-Some.digits.now c.deref.result.now c.in-Some.ensures (rw c.deref.ensures.value c.in-Ok.ensures.ok) (c.decode.ensures.none fault e)
 
 pub returns-in-Err-clause-none : goal.returns-in-Err-clause-none
-returns-in-Err-clause-none c e = no_bytes c.args.line.now c.in-Some.digits.now OddLength c.in-Some.ensures (c.in-Err.ensures.none (cc e))
+returns-in-Err-clause-none c fault e = no_bytes c.args.line.now c.in-Some.digits.now OddLength c.in-Some.ensures (c.in-Err.ensures.none fault (cc e))

@@ -1,5 +1,4 @@
 use Rattle.std.proofs.Common.{◌≡◌, ◌-◌, ◌++◌, ◌∷◌, [], ap, sym, arith}
-use Rattle.log_pieces.specs.declared.fault.DecodeFault.TheVariants.{NotAPiece}
 use Rattle.log_pieces.specs.Packed.{behind_read}
 use Rattle.log_pieces.specs.Reading.{read_times, read_touch}
 use Rattle.log_pieces.proofs.Loop.{goes_on, fails, is_done, whole}
@@ -18,7 +17,7 @@ loop-preserved c =
 pub returns-in-None : goal.returns-in-None
 returns-in-None c =
     let none = passed_none (read_touch c.loop.rest.now) (sym c.in-None.ensures) in
-    sym (ap behind_read (fails read_touch NotAPiece c.loop.invariant.0 c.args.count c.loop.counter c.loop.rest.now (read_times c.args.count read_touch c.args.bytes.now) c.loop-test.true none c.loop.invariant.1))
+    sym (ap behind_read (fails read_touch c.loop.invariant.0 c.args.count c.loop.counter c.loop.rest.now (read_times c.args.count read_touch c.args.bytes.now) c.loop-test.true none c.loop.invariant.1))
 
 pub returns : goal.returns
 returns c = sym (ap behind_read (is_done read_touch c.loop.invariant.0 c.args.count c.loop.counter c.loop.rest.now (read_times c.args.count read_touch c.args.bytes.now) c.loop-test.false c.loop.invariant.1))

@@ -6,7 +6,6 @@ use Rattle.std.proofs.lemmas.List.Concat.{flat_map-cons}
 use Rattle.std.proofs.lemmas.Grind.{flat_map-append}
 use Rattle.rw_objects.specs.declared.touch.Found.{Found}
 use Rattle.rw_objects.specs.Text.{found_text}
-use Rattle.log_pieces.specs.declared.fault.DecodeFault.TheVariants.{NotAPiece}
 use Rattle.log_pieces.specs.Reading.{read_times, read_touch}
 use Rattle.log_pieces.proofs.Loop.{goes_on, fails, is_done}
 use Rattle.replica.proofs.Passed.{same_read, whole}
@@ -46,7 +45,7 @@ loop-preserved c =
 
 pub returns-in-None-clause-text : goal.returns-in-None-clause-text
 returns-in-None-clause-text c found rest e =
-    let none = fails read_touch NotAPiece c.loop.invariant.passed.0 c.args.count c.loop.counter c.loop.rest.now (read_times c.args.count read_touch c.args.bytes.now) c.loop-test.true (sym c.in-None.ensures) c.loop.invariant.passed.2 in
+    let none = fails read_touch c.loop.invariant.passed.0 c.args.count c.loop.counter c.loop.rest.now (read_times c.args.count read_touch c.args.bytes.now) c.loop-test.true (sym c.in-None.ensures) c.loop.invariant.passed.2 in
     absurd (cc (sym none ∙ e))
 
 pub returns-clause-text : goal.returns-clause-text

@@ -2,7 +2,7 @@ use Rattle.std.proofs.Common.{◌≡◌, ℕ, ◌+◌, ◌<◌, length, arith, s
 use Rattle.std.specs.Prelude.{Ok}
 use Rattle.std.proofs.lemmas.Result.{err_from_is_err_and}
 use Rattle.thread_plan.specs.Threads.{thread_at}
-use Rattle.thread_plan.specs.Plans.{IsFaultOf}
+use Rattle.thread_plan.specs.Refusals.{IsFaultOf}
 use Rattle.thread_plan.proofs.PlanLemmas.{left_is, read_more, read_faults}
 use Rattle.thread_plan.proofs.plan.read_lines.Goals as goal
 

@@ -1,14 +1,16 @@
-use Rattle.std.proofs.Common.{◌≡◌, [], ◌∷◌, ◌++◌, refl, sym, subst}
-use Rattle.std.specs.Prelude.{Option, None}
+use Rattle.std.proofs.Common.{◌≡◌, [], ◌∷◌, ◌++◌, refl, sym, ap, subst}
+use Rattle.std.specs.Prelude.{Option, None, Result}
+use Rattle.std.specs.Result.{result_ok}
+use Rattle.log_pieces.specs.declared.fault.LineFault.{LineFault}
 use Rattle.log_pieces.specs.Piece.{PieceValue}
 use Rattle.replica.specs.declared.skipping.Skipped.{Skipped}
 use Rattle.replica.specs.Judged.{HasFound}
 use Rattle.replica.proofs.FoundLemmas.{put_bad}
 use Rattle.replica.proofs.skipping.Found.put.Goals as goal
 
-pub returns-in-None : goal.returns-in-None
-returns-in-None c lines h =
-    let none : c.args.judged.now ≡ None = cc (c.in-None.is) in
+pub returns-in-Err : goal.returns-in-Err
+returns-in-Err c lines h =
+    let none : result_ok c.args.judged.now ≡ None = ap (λ (r : Result PieceValue LineFault). result_ok r) c.in-Err.is in
     let new : Skipped = record { bad = c.saturating_add-self.result; foreign = c.args.self.now.skipped.foreign } in
     subst (λ (j : Option PieceValue). HasFound (lines ++ j ∷ []) c.args.self.now.replica new) (sym none)
     (put_bad lines c.args.self.now.replica c.args.self.now.skipped h new c.saturating_add-self.ensures refl)

@@ -1,6 +1,6 @@
 use Rattle.std.proofs.Common.{length}
 use Rattle.text_lines.specs.Parts.{parts_left}
-use Rattle.line_reasons.proofs.arguments.count.Given as goal
+use Rattle.thread_plan.proofs.argument.wrong_arguments.Given as goal
 
 abbrev pub decreases-texts : goal.decreases-texts
 decreases-texts l = length (parts_left l.texts)

@@ -1,2 +1,0 @@
-pub mod Packings
-pub mod Reasons
