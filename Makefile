@@ -1,14 +1,19 @@
-# build, try, test, bench and install wreplay; growths refuses it memory, pages runs what its pages show. PREFIX says where install
+# demo, build, try, test, bench and install wreplay; growths refuses it memory, pages runs what its pages show. PREFIX says where install
 # puts it, JOBS how many processors a check takes.
 PREFIX ?= /usr/local
 JOBS ?= $(shell nproc)
 PROGRAM = crates/wreplay/out/wreplay
 BENCH = crates/wreplay_bench/out/wreplay_bench
+LOST = examples/lost.wasm examples/lost.plan examples/lost.schedule
 # The tests that wait for a refused growth, or hand it on.
 REFUSED = log_tests:refused:: log_tests:joining_again log_tests:skipping_with_refused machine_tests:growths \
 	module_tests:refused_memory replay_tests:refused shared_tests:growths function_names log_divergence pick_schedule parts_tests
 
-.PHONY: build try test pages bench growths wrong-bodies install clean
+.PHONY: demo build try test pages bench growths wrong-bodies install clean
+
+# Records, gathers and replays the lost update of examples/lost with no proof, by the commands in examples/demo: within two minutes.
+demo:
+	cd crates/worked_rows && rt try --data commands=../../examples/demo $(foreach it,$(LOST),--data $(it)=../../$(it))
 
 # Proves the program and what it stands on, crate by crate, and builds it: minutes the first time, seconds after that.
 build: $(PROGRAM)
@@ -26,6 +31,7 @@ test:
 
 # The commands that stand in the README, the tutorial and the hunt write what stands behind them.
 pages: $(PROGRAM)
+	mkdir -p build
 	python3 bench/pages.py $(PROGRAM) README.md docs/TUTORIAL.md examples/hunt/README.md
 
 # Speeds as ratios to named peers in the same run; docs/BENCH.md keeps them.
