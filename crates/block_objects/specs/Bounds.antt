@@ -1,4 +1,5 @@
--- Actions within a memory. WebAssembly Core 1.0, memory instructions: an access is in bounds where it ends within the memory.
+-- Actions within a memory. WebAssembly Core 1.0, memory instructions: an access is in bounds where it ends within the
+-- memory.
 use Rattle.std.specs.Prelude.{◌≡◌, ℕ, ◌+◌, ◌*◌, ◌≤◌, ◌<◌}
 use Rattle.std.specs.Int.{byte_len}
 use Rattle.wasm_types.specs.declared.sizes.TheConstants.{PAGE_SIZE}

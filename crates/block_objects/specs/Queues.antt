@@ -1,5 +1,5 @@
--- What wait, notify, going on and a time-out do to a waiter queue (threads proposal; that the earliest waiters are woken
--- first is this project's own choice).
+-- What wait, notify, going on and a time-out do to a waiter queue (threads proposal; that the earliest waiters are
+-- woken first is this project's own choice).
 use Rattle.std.specs.Prelude.{ℕ, ◌-◌, Bool, cond, ◌==◌, ◌&&◌, ◌||◌, not, nat_lt, List, [], ◌∷◌, ◌++◌}
 use Rattle.std.specs.List.{filter, list_any}
 use Rattle.block_objects.specs.declared.waiter.Waiter.{Waiter}

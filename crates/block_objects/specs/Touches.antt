@@ -1,6 +1,6 @@
--- The objects that an operation on a shared memory touches, by the operation alone (this project's own table): an access
--- touches each block that holds a byte of it, a wait reads its block and writes its queue, a notify, going on and a
--- time-out write the queue. What ends past the initial length reads the length as well.
+-- The objects that an operation on a shared memory touches, by the operation alone (this project's own table): an
+-- access touches each block that holds a byte of it, a wait reads its block and writes its queue, a notify, going on
+-- and a time-out write the queue. What ends past the initial length reads the length as well.
 use Rattle.std.specs.Prelude.{ℕ, ◌+◌, ◌-◌, cond, ◌==◌, ◌&&◌, List, [], ◌∷◌, ◌++◌, Option, Some, None}
 use Rattle.std.specs.Int.{byte_len}
 use Rattle.rw_objects.specs.declared.touch.Mode.{Mode}

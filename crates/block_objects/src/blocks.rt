@@ -48,8 +48,8 @@ impl Model for Blocks {
 }
 
 impl Blocks {
-    /// A memory as it opens: all bytes up to the capacity are made and zero, and then the segments are written, in order.
-    /// Nothing later takes memory.
+    /// A memory as it opens: all bytes up to the capacity are made and zero, and then the segments are written, in
+    /// order. Nothing later takes memory.
     pub fn new(alloc: Global, limits: MemoryLimits, segments: &[Data]) -> Result<Blocks, NoMemory>
         requires order { limits.initial ≤ limits.capacity }
         requires limit { limits.capacity ≤ MOST_PAGES }

@@ -1,4 +1,5 @@
--- What the tokens own: a share of the right to say what a list or a number is now, or the knowledge that a list was reached.
+-- What the tokens own: a share of the right to say what a list or a number is now, or the knowledge that a list was
+-- reached.
 use Rattle.std.specs.Prelude.{ℕ, List, map}
 use base.Fraction.{full_share, left}
 use base.Stored.{Gv, Coded}

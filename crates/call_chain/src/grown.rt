@@ -1,6 +1,6 @@
 //! The tokens beneath the public ones. A clause sees the name of the list or the number that a token is of.
-//! None has a byte: lists and numbers stand in proofs alone. So the functions here have nothing to do at run time, and an argument
-//! that clauses alone speak of is named by a `let _`.
+//! None has a byte: lists and numbers stand in proofs alone. So the functions here have nothing to do at run time, and
+//! an argument that clauses alone speak of is named by a `let _`.
 
 ghost use Rattle.std.specs.Prelude.{◌≡◌, ℕ, ◌+◌, List, [], ◌∷◌, ◌++◌};
 ghost use base.Stored.{coded_list};

@@ -70,8 +70,8 @@ pub struct ViewRequest<'a> {
 /// What a command line asks for.
 #[derive(Drop)]
 pub enum Request<'a> {
-    /// The listing of piece lines, whether those that cannot be joined are passed over, and whether it says which bytes each
-    /// object is.
+    /// The listing of piece lines, whether those that cannot be joined are passed over, and whether it says which bytes
+    /// each object is.
     Gather {
         skips: bool,
         objects: bool,

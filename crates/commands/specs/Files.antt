@@ -14,8 +14,8 @@ IsFileFault fails NotRead = fails
 IsFileFault fails NoMemory = Unit {0}
 
 module _ {Stream : Type 0} (brings : Stream → List ℕ → Stream → Type 0) (failed : Stream → ℕ) (ended : Stream → Type 0) where
-  -- the stream stands at the first byte of a file: what it brings begins the file, and is the whole file where nothing more
-  -- comes; the file may fail where the stream comes to a state in which more calls failed than when it was opened
+  -- the stream stands at the first byte of a file: what it brings begins the file, and is the whole file where nothing
+  -- more comes; the file may fail where the stream comes to a state in which more calls failed than when it was opened
   pub record IsOpened (holds : List ℕ → Type 0) (fails : Type 0) (stream : Stream) : Type 0 where
     pub begins : (came : List ℕ) (later : Stream) → brings stream came later → (rest : List ℕ) × holds (came ++ rest)
     pub whole : (came : List ℕ) (later : Stream) → brings stream came later → ended later → holds came

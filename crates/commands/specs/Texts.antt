@@ -1,5 +1,5 @@
--- The texts of faults: `refused`, the number, the name, and perhaps numbers in decimal, each after one space; and the text of
--- lines that were passed over.
+-- The texts of faults: `refused`, the number, the name, and perhaps numbers in decimal, each after one space; and the
+-- text of lines that were passed over.
 use Rattle.std.specs.Prelude.{ℕ, List, ◌++◌, ◌∷◌, codes, Some, None}
 use Rattle.std.specs.Fmt.{decimal}
 use Rattle.byte_reader.specs.declared.fault.DecodeFault.{DecodeFault}

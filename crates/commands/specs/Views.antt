@@ -37,8 +37,8 @@ abbrev pub AreBreaks : ViewRequest → ℕ → List Break → Type 0
 AreBreaks r power breaks = (writes : List Break) × AreWrites power r.write writes × (breaks ≡ place_break r.place ++ (step_break r.step ++ writes))
 
 module _ (m : Module) (plan : PlanValue) (log : Log) (r : ViewRequest) where
-  -- the log can be of a run of the module and plan, and this is the view where its replay stops, at one of the breaks or where
-  -- no thread goes on
+  -- the log can be of a run of the module and plan, and this is the view where its replay stops, at one of the breaks
+  -- or where no thread goes on
   pub record IsViewText (text : List ℕ) : Type 0 where
     pub of_run : IsOfRun m plan log
     pub breaks : List Break

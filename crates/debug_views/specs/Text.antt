@@ -71,7 +71,8 @@ module _ {State Op Reply Value Fixed : Type 0} (space : Space Op Reply Value Fix
   view_text w blocks s breaks notes from bytes = stop_words s breaks ++ (10 ∷ (threads_text notes 0 (map (view_of_thread code) w.threads)
       ++ (objects_text w.memory.counts blocks.first (blocks.past - blocks.first) ++ rows_text from bytes ((length bytes + 15) / 16))))
 
-  -- where the replay stopped, each thread with its note, each block that holds a byte of the range, and the range's bytes
+  -- where the replay stopped, each thread with its note, each block that holds a byte of the range, and the range's
+  -- bytes
   pub record IsView (w : WorldAt State Value Fixed) (power : ℕ) (s : Stopped) (breaks : List Break) (notes : List (List ℕ)) (from len : ℕ) (text : List ℕ) : Type 0 where
     pub blocks : BlockRange
     pub holding : AreHolding power from len blocks

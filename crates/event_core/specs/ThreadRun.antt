@@ -34,8 +34,8 @@ module _ {State Op Reply Value Fixed Seen : Type 0} (space : Space Op Reply Valu
     pub leads : v ≡ world_run space code w (goes t n)
     pub log : put_all add before (entries space code w (goes t n) t) ≡ Some after
 
-  -- the steps that thread t of any world makes over its memory, as if there were no other thread, where they are no more than
-  -- a thread may make, are such a run, behind which the other threads stand as before
+  -- the steps that thread t of any world makes over its memory, as if there were no other thread, where they are no
+  -- more than a thread may make, are such a run, behind which the other threads stand as before
   abbrev pub ThreadsRunAlone : Type 0
   ThreadsRunAlone =
       (t n : ℕ) (w : WorldAt State Value Fixed) (x : ThreadAt State) (log : Seen) (b : AloneAt State Value Fixed Seen) → slice_get w.threads t ≡ Some x → Goes space code add n (alone_with x.state w.memory log x.places) b

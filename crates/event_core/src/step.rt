@@ -13,7 +13,8 @@ pub enum StepFault {
     Halted,
     /// Refusal 23: memory could not be had.
     NoMemory,
-    /// Refusal 24: the thread is to time out, but it does not sleep, was woken already, or waits without a limit of time.
+    /// Refusal 24: the thread is to time out, but it does not sleep, was woken already, or waits without a limit of
+    /// time.
     NotWaiting,
 }
 

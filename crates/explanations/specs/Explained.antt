@@ -1,5 +1,5 @@
--- What an explanation says for certain: where the cause of the refusal stands, and of a piece line of another run what differs in its key.
--- Its other words are open.
+-- What an explanation says for certain: where the cause of the refusal stands, and of a piece line of another run what
+-- differs in its key. Its other words are open.
 use Rattle.std.specs.Prelude.{◌≡◌, ◌++◌, ℕ, List, codes, Some}
 use Rattle.command_words.specs.declared.requests.Request.{Request}
 use Rattle.command_words.specs.declared.requests.Request.TheVariants.{Gather, Check, Record, Replay, View}

@@ -134,9 +134,9 @@ fn place_of<'a, F: Files>(
     }
 }
 
-/// Why a request is refused with this fault, in words, without a line end: the file, where in it, and the reason. The files are
-/// read again as far as the reason needs it; where they can't be, or have changed, the reason says less. It refuses for want
-/// of memory alone.
+/// Why a request is refused with this fault, in words, without a line end: the file, where in it, and the reason. The
+/// files are read again as far as the reason needs it; where they can't be, or have changed, the reason says less. It
+/// refuses for want of memory alone.
 pub fn explain<L: Log, F: Files>(
     rt: &L,
     alloc: Global,

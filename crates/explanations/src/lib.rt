@@ -1,5 +1,5 @@
-//! Why the program refuses, in words: the file, where in it, and the reason. Libraries below find the reasons; here the files of
-//! a command are read again, as far as a reason needs their bytes.
+//! Why the program refuses, in words: the file, where in it, and the reason. Libraries below find the reasons; here the
+//! files of a command are read again, as far as a reason needs their bytes.
 #![tactic(auto)]
 
 mod again;

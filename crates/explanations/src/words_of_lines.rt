@@ -24,8 +24,8 @@ pub fn line_words(alloc: Global, fault: LineFault) -> Result<String, NoMemory> {
     }
 }
 
-/// The program that compressed a file whose first bytes are these; None where they do not begin as a compressed file does:
-/// gzip's (RFC 1952), a frame of zstd (RFC 8878), xz's.
+/// The program that compressed a file whose first bytes are these; None where they do not begin as a compressed file
+/// does: gzip's (RFC 1952), a frame of zstd (RFC 8878), xz's.
 fn packing_of(bytes: [u8; 6]) -> Option<&'static str> {
     match bytes {
         [0x1F, 0x8B, ..] => Some("gzip"),

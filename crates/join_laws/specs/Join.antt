@@ -4,7 +4,8 @@
 abbrev pub IsBelow : {V : Type 0} → (V → V → Type 0) → (V → V → V) → V → V → Type 0
 IsBelow same join a b = same (join a b) b
 
--- the laws of a join, up to `same`; `partly a b c` says that c is what want of memory left of a, to which b was to be joined
+-- the laws of a join, up to `same`; `partly a b c` says that c is what want of memory left of a, to which b was to be
+-- joined
 pub record IsJoin {V : Type 0} (same : V → V → Type 0) (join : V → V → V) (partly : V → V → V → Type 0) : Type 0 where
   -- `same` is an equivalence
   pub reflexive : (a : V) → same a a

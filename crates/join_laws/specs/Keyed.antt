@@ -44,8 +44,8 @@ left_at {V} same partly before other after =
     option_same same after before
     ⊎ ((x : Option V) × option_same same x before × option_partly partly x other after)
 
--- want of memory left c of a, to which b was to be joined: a joined with the first entries of b, in order, and the value
--- at the key of the next entry as it was or joined in part
+-- want of memory left c of a, to which b was to be joined: a joined with the first entries of b, in order, and the
+-- value at the key of the next entry as it was or joined in part
 pub record keyed_partly {K V : Type 0} (cmp : K → K → Ordering)
     (same : V → V → Type 0) (join : V → V → V) (partly : V → V → V → Type 0) (a b c : List (K × V)) : Type 0 where
   -- the entries joined, the one that was refused, and those that were not reached

@@ -1,4 +1,5 @@
--- What contradicts itself in a gathered log: items that pieces claim differently, and writes of one version that are claimed twice.
+-- What contradicts itself in a gathered log: items that pieces claim differently, and writes of one version that are
+-- claimed twice.
 use Rattle.std.specs.Prelude.{ℕ, ◌==◌, ◌&&◌, cond, List, [], ◌∷◌, ◌++◌, Option, Some, None}
 use Rattle.std.specs.List.{flat_map, range_with_len}
 use Rattle.rw_objects.specs.declared.entry.Entry.{Entry}
@@ -62,8 +63,8 @@ abbrev pub double_of : WriteAt → Option EventAt → List Diverging
 double_of x None = []
 double_of x (Some first) = DoubleWrite x.written.object x.written.version first x.at ∷ []
 
--- each write that an earlier one claims too, behind the earlier ones; the touches of an entry are of objects that rise, so
--- the earlier one stands at an earlier thread and place
+-- each write that an earlier one claims too, behind the earlier ones; the touches of an entry are of objects that rise,
+-- so the earlier one stands at an earlier thread and place
 abbrev pub doubles : List WriteAt → List WriteAt → List Diverging
 doubles earlier [] = []
 doubles earlier (x ∷ xs) = double_of x (first_of earlier x.written) ++ doubles (earlier ++ x ∷ []) xs

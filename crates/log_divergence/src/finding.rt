@@ -42,9 +42,9 @@ fn all_writes(alloc: Global, log: &Log) -> Result<Vec<WriteAt>, NoMemory>
     Ok(found)
 }
 
-/// The contradictions of a log: the entries that clash, by thread and place, then the ends that clash, by thread, then each
-/// write of a version of an object that an earlier event, by thread and place, claims too. It refuses for want of memory
-/// alone.
+/// The contradictions of a log: the entries that clash, by thread and place, then the ends that clash, by thread, then
+/// each write of a version of an object that an earlier event, by thread and place, claims too. It refuses for want of
+/// memory alone.
 pub fn divergence(alloc: Global, log: &Log) -> Result<Vec<Diverging>, NoMemory>
     ensures { IfOk result (λ found. found.items ≡ divergence log.now) }
 {

@@ -5,8 +5,8 @@ use crate::packed::{take_entry, take_touch};
 use rw_objects::Found;
 use std::alloc::Global;
 
-/// The first of so many entries at the front of bytes that is none, or that breaks the rule of a piece's entries; None where
-/// all are right.
+/// The first of so many entries at the front of bytes that is none, or that breaks the rule of a piece's entries; None
+/// where all are right.
 pub(crate) fn first_bad_entry(
     alloc: Global,
     count: u16,

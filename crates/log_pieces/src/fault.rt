@@ -14,8 +14,8 @@ pub enum PieceFault {
     Empty,
     /// Refusal 32: there are more than 4,096 entries.
     TooMany,
-    /// Refusal 33: the entries go past the end's places or past 1,000,000,000; or the end has more places than steps, or
-    /// more than 1,000,000,000 steps.
+    /// Refusal 33: the entries go past the end's places or past 1,000,000,000; or the end has more places than steps,
+    /// or more than 1,000,000,000 steps.
     PastEnd,
     /// Refusal 36: the thread is above 15.
     BadThread,
@@ -39,8 +39,8 @@ impl fmt::Display for PieceFault {
 
 impl Error for PieceFault {}
 
-/// What is wrong in a line that is no piece line. Columns, and the entries of a piece, are counted from 1; numbers above those of
-/// 32 bits are told as the greatest of these.
+/// What is wrong in a line that is no piece line. Columns, and the entries of a piece, are counted from 1; numbers
+/// above those of 32 bits are told as the greatest of these.
 #[derive(Clone, Copy, Debug, PartialEq, Eq)]
 pub enum LineFault {
     /// It has more bytes than the longest piece line.

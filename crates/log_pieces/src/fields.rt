@@ -1,4 +1,5 @@
-//! The fields of a piece that stand before its entries and behind them: each function puts its field behind what is there.
+//! The fields of a piece that stand before its entries and behind them: each function puts its field behind what is
+//! there.
 
 ghost use Rattle.std.specs.Prelude.{◌≡◌, ◌+◌, ◌≤◌, ◌++◌, length};
 ghost use Rattle.hex.specs.Hex.{IsBytes};

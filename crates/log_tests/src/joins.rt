@@ -101,7 +101,8 @@ fn maps_are_joined_key_by_key(rt: HostRuntime) -> Result<(), Fail> {
     Ok(())
 }
 
-/// Under `rt try --test --fail-alloc N` the Nth growth is refused: those of this `join_from` are the last ones. Without it none is.
+/// Under `rt try --test --fail-alloc N` the Nth growth is refused: those of this `join_from` are the last ones. Without
+/// it none is.
 #[test]
 fn joining_again_completes_what_want_of_memory_left(rt: HostRuntime) -> Result<(), Fail> {
     let alloc = rt.alloc();

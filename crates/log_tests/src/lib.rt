@@ -1,5 +1,5 @@
-//! Tests of pieces, joins and logs that are gathered. A crate with tests is proved twice, so they stand here, over what those
-//! crates offer.
+//! Tests of pieces, joins and logs that are gathered. A crate with tests is proved twice, so they stand here, over what
+//! those crates offer.
 #![tactic(auto)]
 
 #[cfg(test)]

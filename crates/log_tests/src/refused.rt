@@ -1,6 +1,6 @@
 //! Want of memory where pieces are delivered, merged, collected and gathered. Where each growth is refused in turn, as
-//! `bench/test_growths.py` does it, the call answers so, or does what it does with ample memory. Without it none is refused, and the
-//! tests pass, too.
+//! `bench/test_growths.py` does it, the call answers so, or does what it does with ample memory. Without it none is
+//! refused, and the tests pass, too.
 
 use crate::replicas::{WHOLE, WHOLE_TEXT, delivered};
 use log_pieces::{End, Piece};

@@ -117,7 +117,8 @@ const LARGE: Devices = Devices {
     sink_fails_at: None,
 };
 
-/// What `gather` answered, how many calls of the source and of the sink failed, and whether the sink took what was wanted.
+/// What `gather` answered, how many calls of the source and of the sink failed, and whether the sink took what was
+/// wanted.
 #[derive(Clone, Copy, Debug, PartialEq, Eq)]
 struct Gathered {
     answer: Result<(), GatherFault>,
@@ -435,7 +436,8 @@ fn lines_that_are_cut_or_in_upper_case_are_refused(rt: HostRuntime) {
     same(&rt, &found, &failed(odd, 0, 0), "221");
 }
 
-/// Why collecting the bytes by 65,536 at a call fails, where this call of the source does, and how many of its calls do.
+/// Why collecting the bytes by 65,536 at a call fails, where this call of the source does, and how many of its calls
+/// do.
 fn collected(alloc: Global, bytes: &[u8], fails_at: u64) -> (Option<GatherFault>, u64) {
     let mut source = MemorySource::new(bytes, 65_536, Some(fails_at));
     let fault = collect(alloc, &mut source).err();
@@ -548,7 +550,8 @@ fn a_bad_line_comes_before_a_later_failure(rt: HostRuntime) {
     same(&rt, &found, &want, "no piece");
 }
 
-/// How many known ends, missing places, strays and clashes, and whether the log is that of no, of one and of two threads.
+/// How many known ends, missing places, strays and clashes, and whether the log is that of no, of one and of two
+/// threads.
 type Counts = ([u64; 4], [bool; 3]);
 
 fn counts_of(log: &Log) -> Counts {

@@ -176,8 +176,8 @@ fn an_overlong_line_is_one_bad_line(rt: HostRuntime) -> Result<(), Fail> {
     Ok(())
 }
 
-/// Whether the device that fails at each of its calls in turn is answered, until a run meets no failure: 44 with nothing
-/// written, 45 with a beginning of what is written then.
+/// Whether the device that fails at each of its calls in turn is answered, until a run meets no failure: 44 with
+/// nothing written, 45 with a beginning of what is written then.
 fn answers_failures(
     alloc: Global,
     text: &[u8],

@@ -19,9 +19,9 @@ use waiter_queues::SharedSpace;
 use wasm_types::NoMemory;
 use workers::{Timer, record_workers};
 
-/// Records a run of at most 16 machines that made no step, each in a thread of its own, over a shared memory that no thread has
-/// touched. Each thread makes no more than `steps` steps, at most 1,000,000,000. Where memory is wanted for one of them all others
-/// end first, and no recording is answered.
+/// Records a run of at most 16 machines that made no step, each in a thread of its own, over a shared memory that no
+/// thread has touched. Each thread makes no more than `steps` steps, at most 1,000,000,000. Where memory is wanted for
+/// one of them all others end first, and no recording is answered.
 pub fn record_memory<
     X,
     M: Machine<StripedMemory, State = X> + Drop + Send + Sync,

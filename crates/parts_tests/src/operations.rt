@@ -39,8 +39,8 @@ enum Call {
 /// An operation, and what it answers with its entry.
 type Row = (Call, &'static str);
 
-/// Operations, in their order, on a memory that opens with so many pages, grows up to so many, and has blocks of so many
-/// bytes.
+/// Operations, in their order, on a memory that opens with so many pages, grows up to so many, and has blocks of so
+/// many bytes.
 struct Play {
     pages: (u32, u32),
     block: u32,

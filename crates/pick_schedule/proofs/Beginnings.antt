@@ -1,5 +1,5 @@
--- The first 14,000,001 bytes of a text are judged as the whole text is: a line of a schedule has at most 14 bytes with its end, and
--- brings a pick.
+-- The first 14,000,001 bytes of a text are judged as the whole text is: a line of a schedule has at most 14 bytes with
+-- its end, and brings a pick.
 use Rattle.std.proofs.Common.{◌≡◌, ℕ, ◌+◌, ◌-◌, ◌*◌, ◌^◌, ◌<◌, ◌≤◌, Bool, true, false, List, [], ◌∷◌, ◌++◌, length, take, drop, refl, sym, ap, subst, ◌∙◌, inl, inr, arith, codes, lit<}
 use Rattle.std.specs.Prelude.{Option, Some, None, Result, Err, ℤ, pos, negsuc, cond, nat_le, slice_index, ◌==◌, ◌&&◌}
 use Rattle.std.specs.List.{onto_first}

@@ -11,9 +11,9 @@ use text_lines::{Parts, without_end};
 
 /// Reads the picks of a schedule.
 ///
-/// Each line is `go T N`, thread T goes on N times, or `out T`, the wait of thread T times out: T from 0 to 15, N from 1 to
-/// 1,000,000, in decimal, with a single space between two words. The last line may lack its line end, and a text of no
-/// bytes has no line. The first line that is of another form, or brings the picks above 1,000,000, is answered.
+/// Each line is `go T N`, thread T goes on N times, or `out T`, the wait of thread T times out: T from 0 to 15, N from
+/// 1 to 1,000,000, in decimal, with a single space between two words. The last line may lack its line end, and a text
+/// of no bytes has no line. The first line that is of another form, or brings the picks above 1,000,000, is answered.
 pub fn schedule(alloc: Global, text: &[u8]) -> Result<Schedule, ScheduleFault>
     ensures ok { IfOk result (λ picks. schedule_of text.now ≡ Ok picks) }
     ensures err { IfErr result (λ fault. IsFaultOf (schedule_of text.now) fault) }

@@ -48,7 +48,8 @@ pub record IsListed (form : ListingForm) (brought : List ℕ → Type 0) (ended 
   pub lines : IsText text pieces
   pub is_listing : IsListing form pieces listed
 
--- the source brought a text, up to its end, and this is the listing of the pieces that are kept of its lines; their numbers were told
+-- the source brought a text, up to its end, and this is the listing of the pieces that are kept of its lines; their
+-- numbers were told
 pub record IsListedSkipping (form : ListingForm) (brought : List ℕ → Type 0) (ended : Type 0) (counted : Skipped → Type 0) (listed : List ℕ) : Type 0 where
   pub text : List ℕ
   pub came : brought text
@@ -117,8 +118,8 @@ module _ (took : List ℕ → Type 0) where
 
 -- What the files may hold and which may fail, what the source brought, and whether it ended or failed.
 module _ (holds : List ℕ → List ℕ → Type 0) (fails : List ℕ → Type 0) (brought : List ℕ → Type 0) (ended broke : Type 0) where
-  -- the text of a command that is done; `counted` says that the numbers of lines passed over were told, and `said` that a recording's
-  -- line of the threads that stopped was, or nothing
+  -- the text of a command that is done; `counted` says that the numbers of lines passed over were told, and `said` that
+  -- a recording's line of the threads that stopped was, or nothing
   abbrev pub IsDone : (Skipped → Type 0) → (List ℕ → Type 0) → Request → List ℕ → Type 0
   IsDone counted said (request.Gather false objects) text = IsListed (form_of objects) brought ended text × said []
   IsDone counted said (request.Gather true objects) text = IsListedSkipping (form_of objects) brought ended counted text
@@ -142,13 +143,16 @@ module _ (holds : List ℕ → List ℕ → Type 0) (fails : List ℕ → Type 0
     abbrev pub IsStopped : Request → Fault → Type 0
     IsStopped r fault = (IsRefused r fault × unwritten) ⊎ ((fault ≡ SinkFailed) × unwritable × IsCut took (IsDone (λ skipped. Unit {0}) (λ line. Unit {0}) r))
 
-    -- Whether numbers of lines were told, which texts were told from first to last, and whether no file and no input was read.
+    -- Whether numbers of lines were told, which texts were told from first to last, and whether no file and no input
+    -- was read.
     module _ (counted : Skipped → Type 0) (tells : List ℕ → Type 0) (unread : Type 0) (words : List Text) where
-      -- the very text of the command that the words ask for, or a text of help where they ask for that, and nothing told
+      -- the very text of the command that the words ask for, or a text of help where they ask for that, and nothing
+      -- told
       abbrev pub IsDoneBy : Type 0
       IsDoneBy = ((r : Request) × Asks words r × IsShown took (IsDone counted (IsSaid tells (asks_why words)) r)) ⊎ (AsksForText words × unread × IsShown took (λ text. Unit {0}) × tells [])
 
-      -- the command that the words ask for stops so; or a text of help is not written; or there is no memory for the words
+      -- the command that the words ask for stops so; or a text of help is not written; or there is no memory for the
+      -- words
       abbrev pub IsRefusedBy : Fault → Type 0
       IsRefusedBy fault = ((r : Request) × Asks words r × IsStopped r fault × IsTold tells (asks_why words) r fault)
           ⊎ ((AsksForText words × unread × (fault ≡ SinkFailed) × unwritable × IsCut took (λ text. Unit {0}) × tells (fault_line fault))

@@ -9,8 +9,8 @@ use std::fmt;
 /// The most bytes that are shown.
 const MOST_SHOWN: usize = 40;
 
-/// Bytes, perhaps of no text. They are shown by the first 40, in which `?` stands for each byte that is no visible character of
-/// ASCII and no space, and `..` where there are more.
+/// Bytes, perhaps of no text. They are shown by the first 40, in which `?` stands for each byte that is no visible
+/// character of ASCII and no space, and `..` where there are more.
 #[derive(Clone, Copy, Debug)]
 pub struct Quoted<'a> {
     pub bytes: &'a [u8],

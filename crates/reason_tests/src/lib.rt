@@ -1,5 +1,5 @@
-//! Tests of the reasons for which modules and lines are refused. A crate with tests is proved twice, so they stand here, over
-//! what those crates offer.
+//! Tests of the reasons for which modules and lines are refused. A crate with tests is proved twice, so they stand
+//! here, over what those crates offer.
 #![tactic(auto)]
 
 #[cfg(test)]

@@ -9,8 +9,8 @@ use std::test::Fail;
 use thread_plan::{Plan, PlanFault};
 use validator::{Valid, validate};
 
-// A shared memory `m`, and functions: `i` takes an i32, `l` an i64, `two` both; one that takes nothing has the empty name,
-// `zwölf`, and a name with a carriage return.
+// A shared memory `m`, and functions: `i` takes an i32, `l` an i64, `two` both; one that takes nothing has the empty
+// name, `zwölf`, and a name with a carriage return.
 const MODULE: &str = "\
     0061736d01000000\
     01110460017f0060017e0060000060027f7e00\

@@ -31,8 +31,8 @@ pub record OthersStay (t : ℕ) (lists news : List (List Entry)) : Type 0 where
   pub len : length news ≡ length lists
 
 module _ {State Op Reply Value Fixed : Type 0} (space : Space Op Reply Value Fixed) (code : Code State Op Reply Fixed) (steps : ℕ) where
-  -- picks were tried in turn: those that are taken lead from one world to the other, their entries stand behind those of each
-  -- thread, and the others were counted
+  -- picks were tried in turn: those that are taken lead from one world to the other, their entries stand behind those
+  -- of each thread, and the others were counted
   pub record AreRecorded (ps : List Pick) (w v : WorldAt State Value Fixed) (lists news : List (List Entry)) (before after : ℕ) : Type 0 where
     pub world : v ≡ world_run space code w (picks_taken space code steps w ps)
     pub logs : (t : ℕ) → t < length lists → list_at news t ≡ list_at lists t ++ entries space code w (picks_taken space code steps w ps) t

@@ -28,8 +28,8 @@ module _ {State Op Reply Value Fixed : Type 0} (space : Space Op Reply Value Fix
   abbrev pub NoneGoes : ℕ → WorldAt State Value Fixed → Type 0
   NoneGoes steps w = (t : ℕ) → is_taken space code steps w (pick_of t Go) ≡ false
 
-  -- steps of threads that made fewer, none of them a time-out, lead from one world to another, and their entries stand behind
-  -- those of each thread
+  -- steps of threads that made fewer, none of them a time-out, lead from one world to another, and their entries stand
+  -- behind those of each thread
   pub record GoesBy (steps : ℕ) (w u : WorldAt State Value Fixed) (before after : List (List Entry)) : Type 0 where
     pub picks : List Pick
     pub run : IsRun space code w picks

@@ -19,8 +19,8 @@ use schedules::{Schedule, Stretch};
 use std::alloc::Global;
 use wasm_types::NoMemory;
 
-/// Makes the step of a pick, if it is enabled and its thread has made fewer steps, and notes the entry of an event. Answers
-/// whether it is made. An entry goes from the event into the log, and by no other value between them.
+/// Makes the step of a pick, if it is enabled and its thread has made fewer steps, and notes the entry of an event.
+/// Answers whether it is made. An entry goes from the event into the log, and by no other value between them.
 pub(crate) fn try_pick<M: Machine<S>, S: ObjectSpace>(
     world: &mut World<M, S>,
     logs: &mut Logs,
@@ -90,8 +90,8 @@ pub(crate) fn thread_logs<M: Machine<S>, S: ObjectSpace>(
     Ok(logs)
 }
 
-/// Makes steps of a thread, local ones and accesses, as many as come, but no more than `most`, and puts their entries behind
-/// those of the thread. Answers how many.
+/// Makes steps of a thread, local ones and accesses, as many as come, but no more than `most`, and puts their entries
+/// behind those of the thread. Answers how many.
 fn run_thread<M: Machine<S>, S: ObjectSpace>(
     world: &mut World<M, S>,
     logs: &mut Logs,
@@ -110,8 +110,8 @@ fn run_thread<M: Machine<S>, S: ObjectSpace>(
     Ok(made)
 }
 
-/// Makes steps by a pick that comes so many times, as many as come one behind the other and as the thread has left, and notes
-/// their entries. Answers how many. A step that comes alone is left to `try_pick`.
+/// Makes steps by a pick that comes so many times, as many as come one behind the other and as the thread has left, and
+/// notes their entries. Answers how many. A step that comes alone is left to `try_pick`.
 fn run_steps<M: Machine<S>, S: ObjectSpace>(
     world: &mut World<M, S>,
     logs: &mut Logs,
@@ -139,8 +139,8 @@ fn run_steps<M: Machine<S>, S: ObjectSpace>(
     run_thread(world, logs, thread, most)
 }
 
-/// Tries a pick that comes so many times: makes its step and notes it, or passes the pick over each time, since a pick that
-/// is passed over changes nothing. Answers how often the pick was tried.
+/// Tries a pick that comes so many times: makes its step and notes it, or passes the pick over each time, since a pick
+/// that is passed over changes nothing. Answers how often the pick was tried.
 fn try_stretch<M: Machine<S>, S: ObjectSpace>(
     world: &mut World<M, S>,
     logs: &mut Logs,
@@ -187,8 +187,8 @@ fn record_stretch<M: Machine<S>, S: ObjectSpace>(
     Ok(())
 }
 
-/// Records the run of those picks that are enabled in turn and whose thread has made fewer than `steps` steps; the others
-/// are passed over and counted. `steps` is at most 1,000,000,000; a larger number counts as that.
+/// Records the run of those picks that are enabled in turn and whose thread has made fewer than `steps` steps; the
+/// others are passed over and counted. `steps` is at most 1,000,000,000; a larger number counts as that.
 pub fn record<M: Machine<S> + Drop, S: ObjectSpace + Drop>(
     alloc: Global,
     mut world: World<M, S>,

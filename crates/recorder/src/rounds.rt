@@ -81,8 +81,8 @@ fn finish<M: Machine<S>, S: ObjectSpace, R: Wait>(
     unreachable!()
 }
 
-/// Records what threads that logged these entries, by thread, still have to do: steps of all that made fewer than `steps`
-/// steps, in rounds, until none can go on. No wait times out.
+/// Records what threads that logged these entries, by thread, still have to do: steps of all that made fewer than
+/// `steps` steps, in rounds, until none can go on. No wait times out.
 pub fn record_rest<M: Machine<S> + Drop, S: ObjectSpace + Drop, R: Wait>(
     rt: &R,
     alloc: Global,

@@ -93,8 +93,8 @@ module _ {State Op Reply Value Fixed : Type 0} (space : Space Op Reply Value Fix
       let none = untouched objects w.memory.counts v.memory.counts (space.touches op) x.object h x.among x.changed in
       x.changed (ap (λ (u : WorldAt State Value Fixed). (u.memory.counts x.object).version) is ∙ ap (λ o. (count_after_if o (w.memory.counts x.object)).version) none)
 
-  -- the marks tell what the turn writes: they are those of the step by which the thread goes on, and of its time-out, where the
-  -- turn is not that step
+  -- the marks tell what the turn writes: they are those of the step by which the thread goes on, and of its time-out,
+  -- where the turn is not that step
   pub record MarksTell (x : Turn) (marks : Marks) : Type 0 where
     pub goes : marks.goes ≡ marks_of_step space w.memory.counts (step_of_pick space code w (pick_of t Go))
     pub out : (marks.times_out ≡ marks_of_step space w.memory.counts (step_of_pick space code w (pick_of t TimeOut))) ⊎ ((marks.times_out ≡ []) × (x ≡ turn.Event Go))

@@ -33,8 +33,8 @@ module _ {State Op Reply Fixed : Type 0} (code : Code State Op Reply Fixed) {Val
   AreFree log w breaks free = (t : ℕ) → IsFree log w breaks t (slice_index free t)
 
 module _ {State Op Reply Value Fixed : Type 0} (space : Space Op Reply Value Fixed) (code : Code State Op Reply Fixed) (log : Log) (breaks : List Break) (t : ℕ) where
-  -- a free step leads from world w to world v: a local one, behind which no break holds, or an event, whose entry is held; or none
-  -- was made
+  -- a free step leads from world w to world v: a local one, behind which no break holds, or an event, whose entry is
+  -- held; or none was made
   abbrev pub GoesFreely : WorldAt State Value Fixed → Ready → Option (Flat Entry) → WorldAt State Value Fixed → Type 0
   GoesFreely w ready.Local held v = (turn_of space code log w t ≡ turn.Local) × NoneHits space code log w t breaks × (v ≡ world_after_turn space code w t turn.Local)
   GoesFreely w ready.Event held v = GoesOnByEvent space code log w t held v

@@ -16,8 +16,8 @@ module _ {State Op Reply Value Fixed : Type 0} (space : Space Op Reply Value Fix
     pub thread : ℕ
     pub held : turn_of space code log w thread ≡ Done → ⊥
 
-  -- in a round behind the order, where the turns of threads below this one were taken; if none made a step so far, none of
-  -- these threads has one, and all of them are done unless one was held
+  -- in a round behind the order, where the turns of threads below this one were taken; if none made a step so far, none
+  -- of these threads has one, and all of them are done unless one was held
   pub record IsInRound (log : Log) (start : WorldAt State Value Fixed) (order : List ℕ) (breaks : List Break) (thread : ℕ) (made held : Bool) (w : WorldAt State Value Fixed) : Type 0 where
     pub rounds : ℕ
     pub turn : IsBehind space code log start order breaks (length order + (rounds * length start.threads + thread)) w

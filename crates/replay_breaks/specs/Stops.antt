@@ -133,8 +133,8 @@ module _ {State Op Reply Value Fixed : Type 0} (space : Space Op Reply Value Fix
       pub still : (t : ℕ) → t < length start.threads → makes_step (turn_of space code log v t) ≡ false
       pub shut : (t : ℕ) → t < length start.threads → GoesOn (turn_of space code log v t)
 
-    -- the replay by the order stops so, at world v: at the first turn behind which a break holds, at the first that can't
-    -- be made for a fault, or where no turn makes a step any more
+    -- the replay by the order stops so, at world v: at the first turn behind which a break holds, at the first that
+    -- can't be made for a fault, or where no turn makes a step any more
     abbrev pub StopsAt : WorldAt State Value Fixed → Stopped → Type 0
     StopsAt v (stopped.Break index) = StopsInTurn v (stopped.Break index)
     StopsAt v stopped.Finished = RunsOut v × IsFinished code log v

@@ -20,15 +20,15 @@ module _ {State Op Reply Value Fixed : Type 0} (space : Space Op Reply Value Fix
     pub shut : (t : ℕ) → t < length w.threads → PassesOn (turn_of space code log w t)
     pub unfinished : IsFinished code log w → ⊥
 
-  -- some gated run from the log leads to a world at which the turn of a thread is refused so, and not by a shut gate, or
-  -- which is stuck
+  -- some gated run from the log leads to a world at which the turn of a thread is refused so, and not by a shut gate,
+  -- or which is stuck
   pub record IsGatedFault (log : Log) (opened : WorldAt State Value Fixed) (f : ReplayFault) : Type 0 where
     pub world : WorldAt State Value Fixed
     pub leads : Leads space code log opened world
     pub fault : ((t : ℕ) × TurnStops space code log world t f) ⊎ ((f ≡ fault.Stuck) × IsStuck log world)
 
-  -- the end of a finished gated run from the log: that of a run whose log is below this one, and of every run whose log this
-  -- one is below
+  -- the end of a finished gated run from the log: that of a run whose log is below this one, and of every run whose log
+  -- this one is below
   pub record IsReplayEnd (log : Log) (opened : WorldAt State Value Fixed) (end : RunEnd) : Type 0 where
     pub finished : IsEndOfRun space code log opened end
     pub vouches : IsVouchedEnd space code log opened end

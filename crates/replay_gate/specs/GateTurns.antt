@@ -34,7 +34,8 @@ module _ {State Op Reply Value Fixed : Type 0} (space : Space Op Reply Value Fix
     pub steps_left : (end : End) → log.end t ≡ Some (Known end) → code.steps thread.state < end.steps
     pub can : (item : Entry) → log.entry t thread.places ≡ Some (Known item) → can_give space (code.next thread.state) item ≡ true
 
-  -- the turn is the step by which thread t gives the entry at its place: the event, or divergence where that is not enabled
+  -- the turn is the step by which thread t gives the entry at its place: the event, or divergence where that is not
+  -- enabled
   pub record IsStepOfEntry (log : Log) (w : WorldAt State Value Fixed) (t place : ℕ) (x : Turn) : Type 0 where
     pub item : Entry
     pub is_known : log.entry t place ≡ Some (Known item)

@@ -56,7 +56,8 @@ module _ {V O R S : Type 0} (sys : System V O R S) where
     pub is_step : (answer ≡ Moved) ⊎ (answer ≡ Passed)
     pub turn : IsTurn sys log g thread answer
 
-  -- on a complete log below a run's: no clash, nothing missing and no divergence, and while it is not finished some turn makes a step
+  -- on a complete log below a run's: no clash, nothing missing and no divergence, and while it is not finished some
+  -- turn makes a step
   pub record IsFree (log : Log) (g : World V S) : Type 0 where
     pub turns : IsFinished sys log g ⊎ HasTurn log g
     pub no_clash : (t : ℕ) → IsTurn sys log g t Clashing → ⊥

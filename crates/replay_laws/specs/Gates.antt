@@ -67,7 +67,8 @@ module _ {Op Reply Value Fixed : Type 0} (space : Space Op Reply Value Fixed) wh
   MeetsLog logged place places m (step.Event op) = (place < places) × MeetsEntry logged m op
 
 module _ {State Op Reply Value Fixed : Type 0} (space : Space Op Reply Value Fixed) (code : Code State Op Reply Fixed) where
-  -- the log lets a pick pass: the end of its thread is known, the thread has made fewer steps, and the step meets the log
+  -- the log lets a pick pass: the end of its thread is known, the thread has made fewer steps, and the step meets the
+  -- log
   pub record LetsPass (log : Log) (w : WorldAt State Value Fixed) (p : Pick) : Type 0 where
     pub thread : ThreadAt State
     pub exists : slice_get w.threads p.thread ≡ Some thread

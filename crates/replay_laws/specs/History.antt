@@ -109,7 +109,8 @@ module _ {State Op Reply Value Fixed : Type 0} (space : Space Op Reply Value Fix
     pub parts : (t : ℕ) → t < length w.threads → calls_in t (own t) ≡ part t calls
     pub no_others : (t : ℕ) → length w.threads ≤ t → part t calls ≡ []
 
-  -- picks that are the run of an execution: its events are the calls, in their order, and threads time out only where they may
+  -- picks that are the run of an execution: its events are the calls, in their order, and threads time out only where
+  -- they may
   pub record IsRunOf (w : WorldAt State Value Fixed) (calls : List (Call Op Reply)) (ends : ℕ → State) : Type 0 where
     pub picks : List Pick
     pub run : IsRun space code w picks

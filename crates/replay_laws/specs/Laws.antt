@@ -72,7 +72,8 @@ module _ {State Op Reply Value Fixed : Type 0} (space : Space Op Reply Value Fix
       → (log : Log) → IsBelowLog log (run_log space code w ps)
       → (gs : List Pick) → IsGatedRun space code log w gs → IsRight log w ps (world_run space code w gs)
 
-  -- a world of a replay is free: it is finished, or the log lets some step pass, and no turn is refused but by a shut gate
+  -- a world of a replay is free: it is finished, or the log lets some step pass, and no turn is refused but by a shut
+  -- gate
   pub record IsFree (log : Log) (g : WorldAt State Value Fixed) : Type 0 where
     pub goes_on : IsFinished code log g ⊎ ((p : Pick) × LetsPass space code log g p)
     pub no_missing : (t : ℕ) → turn_of space code log g t ≢ Refused Missing
@@ -84,7 +85,8 @@ module _ {State Op Reply Value Fixed : Type 0} (space : Space Op Reply Value Fix
   CompleteReplaysAreFree = (w : WorldAt State Value Fixed) (ps : List Pick) → IsWholeRun w ps
       → (gs : List Pick) → IsGatedRun space code (run_log space code w ps) w gs → IsFree (run_log space code w ps) (world_run space code w gs)
 
-  -- a finished replay is a run whose log is below the one that it followed, and where that is complete the two are equal
+  -- a finished replay is a run whose log is below the one that it followed, and where that is complete the two are
+  -- equal
   pub record IsVouched (log : Log) (w : WorldAt State Value Fixed) (gs : List Pick) : Type 0 where
     pub run : IsRun space code w gs
     pub below : IsBelowLog (run_log space code w gs) log

@@ -1,4 +1,5 @@
--- The parts in which the keys of two runs differ, to stand behind other words. Of parts that are the same nothing is said.
+-- The parts in which the keys of two runs differ, to stand behind other words. Of parts that are the same nothing is
+-- said.
 use Rattle.std.specs.Prelude.{◌++◌, ◌^◌, ◌==◌, ℕ, List, [], cond, codes}
 use Rattle.std.specs.Fmt.{decimal}
 use Rattle.std.specs.Str.{bytes_eq}

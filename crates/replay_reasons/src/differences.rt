@@ -68,8 +68,8 @@ pub(crate) fn differences(
     Ok(format!(in alloc; "{digest}{number}{profile}")?)
 }
 
-/// Why the piece of a line, which has the first of these keys, does not belong to that of line 1, in words: the parts in which
-/// their keys differ.
+/// Why the piece of a line, which has the first of these keys, does not belong to that of line 1, in words: the parts
+/// in which their keys differ.
 pub fn other_line_reason(alloc: Global, own: &RunKey, first: &RunKey) -> Result<String, NoMemory>
     ensures { IfOk result (λ text. string_bytes text ≡ other_line own.now first.now) }
 {

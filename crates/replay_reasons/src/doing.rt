@@ -41,7 +41,8 @@ fn put_next<S: ObjectSpace>(
     Ok(())
 }
 
-/// How far a thread came, and what it does next, to stand behind other words; nothing where the world has no such thread.
+/// How far a thread came, and what it does next, to stand behind other words; nothing where the world has no such
+/// thread.
 pub(crate) fn doing(
     alloc: Global,
     world: &World<ThreadState<'_>, SharedSpace>,

@@ -156,9 +156,10 @@ fn gate_reason(
     }
 }
 
-/// Why the log of a module and a plan is refused by a replay with this fault, in words, without a line end: the keys of both
-/// runs and what differs in them, what pieces claim differently or don't claim, or first what the log has where a thread diverges.
-/// Where the fault is that threads diverge or wait, the replay is made again, as far as the log lets it.
+/// Why the log of a module and a plan is refused by a replay with this fault, in words, without a line end: the keys of
+/// both runs and what differs in them, what pieces claim differently or don't claim, or first what the log has where a
+/// thread diverges. Where the fault is that threads diverge or wait, the replay is made again, as far as the log lets
+/// it.
 pub fn replay_reason(
     alloc: Global,
     valid: &Valid,

@@ -22,7 +22,8 @@ fn make_turns(alloc: Global, replay: &mut WasmReplay<'_>) -> bool {
     made
 }
 
-/// Lets all threads go on until none makes a step. Rounds in which no thread makes one count among the local rounds, too.
+/// Lets all threads go on until none makes a step. Rounds in which no thread makes one count among the local rounds,
+/// too.
 fn settle(alloc: Global, replay: &mut WasmReplay<'_>) {
     for _ in 0..u64::MAX {
         replay.local_rounds(alloc, u32::MAX);
@@ -32,8 +33,8 @@ fn settle(alloc: Global, replay: &mut WasmReplay<'_>) {
     }
 }
 
-/// The replay of a log in which no thread goes on: where one diverges, or waits for a version, it stands there, whatever turns
-/// came before. None where the log is of no run of the module and plan.
+/// The replay of a log in which no thread goes on: where one diverges, or waits for a version, it stands there,
+/// whatever turns came before. None where the log is of no run of the module and plan.
 pub(crate) fn settled<'a>(
     alloc: Global,
     valid: &'a Valid,

@@ -1,5 +1,6 @@
--- What tests of replays are made of. A log of threads whose events are accesses of one object each: at a place of a thread
--- nothing, a clash or an access; and the sum with which a thread ends behind two events. And the opening world of scripts.
+-- What tests of replays are made of. A log of threads whose events are accesses of one object each: at a place of a
+-- thread nothing, a clash or an access; and the sum with which a thread ends behind two events. And the opening world
+-- of scripts.
 use Rattle.std.specs.Prelude.{◌≡◌, ℕ, ◌≤◌, List, [], ◌∷◌, length, Option, Some, None, slice_get, option_map, refl}
 use Rattle.std.specs.Option.{option_and_then}
 use Rattle.std.proofs.Common.{subst, arith}

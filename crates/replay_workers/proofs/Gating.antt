@@ -105,7 +105,8 @@ module _ {State Op Reply Value Fixed : Type 0} (space : Space Op Reply Value Fix
         | inr q ↦ steps_grow v ps t a b run.1 (m.others t q.1 ∙ e) f
       ]
 
-  -- what the log has of a thread that a run leads to: it made no step, or its entries are those of the log, up to its end
+  -- what the log has of a thread that a run leads to: it made no step, or its entries are those of the log, up to its
+  -- end
   abbrev pub HasLogged : Log → WorldAt State Value Fixed → List Pick → Type 0
   HasLogged log w ps = (t : ℕ) (th : ThreadAt State) → slice_get (world_run space code w ps).threads t ≡ Some th
       → (code.steps th.state ≡ 0)

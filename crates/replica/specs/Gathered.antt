@@ -53,7 +53,8 @@ pub record IsBadLine (ended : Type 0) (text : List ℕ) (number : ℕ) : Type 0 
   pub counted : number ≡ line_after (length pieces)
   pub bad : HasNoLine ended rest
 
--- the line of that number is the first whose piece is of another run, that of `own`, than the lines before it, those of `first`
+-- the line of that number is the first whose piece is of another run, that of `own`, than the lines before it, those of
+-- `first`
 pub record IsOtherRun (text : List ℕ) (number : ℕ) (own first : RunKey) : Type 0 where
   pub pieces : List PieceValue
   pub rest : List ℕ

@@ -57,7 +57,8 @@ AreKept (first ∷ pieces) kept = AreThoseOf first.key (first ∷ pieces) kept
 abbrev pub in_u64 : ℕ → ℕ
 in_u64 n = min n (2 ^ 64 - 1)
 
--- of these lines so many are bad, so many are of another run than the first good one, and the pieces of the others are kept
+-- of these lines so many are bad, so many are of another run than the first good one, and the pieces of the others are
+-- kept
 pub record IsSkipped (lines : List (Option PieceValue)) (skipped : Skipped) (kept : List PieceValue) : Type 0 where
   pub are_kept : AreKept (good lines) kept
   pub bad : skipped.bad ≡ in_u64 (length lines - length (good lines))
@@ -84,7 +85,8 @@ module _ {Source : Type 0} (brings : List ℕ → Source → Type 0) where
     pub judged : AreJudged text lines
     pub has_found : HasFound lines found skipped
 
-  -- the source brought a text, up to its end, and the listing of the pieces that are kept of its lines went where `takes` says
+  -- the source brought a text, up to its end, and the listing of the pieces that are kept of its lines went where
+  -- `takes` says
   pub record Skips (form : ListingForm) (ended : Type 0) (source : Source) (skipped : Skipped) (takes : List ℕ → Type 0) : Type 0 where
     pub text : List ℕ
     pub came : brings text source

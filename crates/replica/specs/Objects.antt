@@ -1,5 +1,5 @@
--- Which bytes of a memory the objects are that an entry touches. Object 0 is the memory's length, object 1 + 2b is block b,
--- and object 2 + 2b is the queue of those that wait in block b.
+-- Which bytes of a memory the objects are that an entry touches. Object 0 is the memory's length, object 1 + 2b is
+-- block b, and object 2 + 2b is the queue of those that wait in block b.
 use Rattle.std.specs.Prelude.{ℕ, ◌+◌, ◌-◌, ◌*◌, ◌/◌, ◌%◌, ◌^◌, ◌==◌, List, [], ◌++◌, Option, Some, None, codes, if◌then◌else◌}
 use Rattle.std.specs.List.{flat_map}
 use Rattle.std.specs.Fmt.{decimal}

@@ -77,8 +77,8 @@ fn item_counts(log: &ThreadLog, end: u32) -> ItemCounts
     }
 }
 
-/// What the claims of a thread come to: the places below the known end's places that have no item, the items that stand at or past
-/// them, and the items that were claimed differently, the end among them. It goes through the items once.
+/// What the claims of a thread come to: the places below the known end's places that have no item, the items that stand
+/// at or past them, and the items that were claimed differently, the end among them. It goes through the items once.
 pub(crate) fn thread_counts(log: &ThreadLog) -> ThreadCounts
     ensures missing { result.missing ≡ thread_missing log.now }
     ensures strays { result.strays ≡ thread_strays log.now }

@@ -19,8 +19,8 @@ pub enum ReplicaFault {
 /// greatest u64 stays there.
 #[derive(Clone, Copy, Debug, PartialEq, Eq, Error)]
 pub enum GatherFault {
-    /// Refusal 41: that line is the first whose piece is of another run than the lines before it. `own` is the key of its piece,
-    /// `first` that of line 1.
+    /// Refusal 41: that line is the first whose piece is of another run than the lines before it. `own` is the key of
+    /// its piece, `first` that of line 1.
     #[error("line {line} is of another run")]
     OtherRun {
         line: u64,

@@ -44,7 +44,8 @@ impl Chunk {
         })
     }
 
-    /// Moves the bytes up to the first line end behind the line, with that end, or all where there is none; answers whether there was one.
+    /// Moves the bytes up to the first line end behind the line, with that end, or all where there is none; answers
+    /// whether there was one.
     pub(crate) fn take_line(&mut self, line: &mut Vec<u8>) -> Result<bool, NoMemory>
         ensures whole { result ≡ Ok true → ((front : List ℕ) × HasNoEnd front × (self.old ≡ front ++ 10 ∷ self.new) × (line.new.items ≡ line.old.items ++ (front ++ 10 ∷ []))) }
         ensures open { result ≡ Ok false → (HasNoEnd self.old × (self.new ≡ []) × (line.new.items ≡ line.old.items ++ self.old)) }
@@ -137,7 +138,8 @@ pub(crate) fn next_line<R: Source>(
     }
 }
 
-/// Passes over the rest of a line: up to its end, and answers `true`, or to the end of the source. No byte of it is kept.
+/// Passes over the rest of a line: up to its end, and answers `true`, or to the end of the source. No byte of it is
+/// kept.
 pub(crate) fn pass_line<R: Source>(
     source: &mut R,
     chunk: &mut Chunk,

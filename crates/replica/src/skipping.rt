@@ -111,8 +111,8 @@ fn find<R: Source>(alloc: Global, source: &mut R) -> Result<Found, GatherFault>
     }
 }
 
-/// Gathers as `gather` does, but passes over lines that are no piece lines, and piece lines of another run than the first
-/// one's, and counts them. A line that is longer than any piece line is passed over without being kept.
+/// Gathers as `gather` does, but passes over lines that are no piece lines, and piece lines of another run than the
+/// first one's, and counts them. A line that is longer than any piece line is passed over without being kept.
 pub fn gather_skipping<R: Source, W: Sink>(
     alloc: Global,
     source: &mut R,
@@ -124,7 +124,8 @@ pub fn gather_skipping<R: Source, W: Sink>(
     // The sink took the listing of the log of the set of the pieces of the first piece line's run, and so many of the
     // lines that the source brought are no piece lines, so many of other runs.
     ensures listed { IfOk result (λ skipped. Skips (R.brings source.old) form (R.ended source.new) source.new skipped (λ listed. W.takes sink.old listed sink.new)) }
-    // Source and sink failed exactly where their counts of failures grew; after a failing sink a beginning of the listing was taken.
+    // Source and sink failed exactly where their counts of failures grew; after a failing sink a beginning of the
+    // listing was taken.
     ensures source_failed { result ≡ Err faults.SourceFailed → R.failed source.new ≡ R.failed source.old + 1 }
     ensures sink_failed { result ≡ Err faults.SinkFailed → ((skipped : Skipped) × Skips (R.brings source.old) form (R.ended source.new) source.new skipped (λ listed. (part rest : List ℕ) × (listed ≡ part ++ rest) × W.takes sink.old part sink.new)) × (W.failed sink.new ≡ W.failed sink.old + 1) }
     ensures source_worked { (result ≡ Err faults.SourceFailed → ⊥) → R.failed source.new ≡ R.failed source.old }

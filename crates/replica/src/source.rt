@@ -6,11 +6,12 @@ ghost use Rattle.std.specs.Prelude.{◌≡◌, ℕ, ◌+◌, ◌-◌, ◌^◌, �
 #[derive(Clone, Copy, Debug, PartialEq, Eq)]
 pub struct Failed;
 
-/// What bytes come from, as a file or standard input. A source counts its failing calls, and only finitely many calls bring bytes.
+/// What bytes come from, as a file or standard input. A source counts its failing calls, and only finitely many calls
+/// bring bytes.
 ///
 /// `brings` relates two states and the bytes that came between them. A source whose bytes no contract can know,
-/// as standard input, may have it hold always; a source over memory says exactly which bytes come, and a source of which no
-/// call fails says that no call failed between the two.
+/// as standard input, may have it hold always; a source over memory says exactly which bytes come, and a source of
+/// which no call fails says that no call failed between the two.
 pub trait Source {
     /// That these bytes came, from one state to another.
     ghost brings: { Self → List ℕ → Self → Type 0 };

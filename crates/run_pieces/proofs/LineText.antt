@@ -75,8 +75,8 @@ tail p = encode_lower (end_bytes p.end) ++ 10 ∷ []
 whole : (p : PieceValue) (bytes : List ℕ) → bytes ≡ flat_map entry_bytes p.entries → encode_lower (head_bytes p) ++ (encode_lower bytes ++ tail p) ≡ line_of p
 whole p bytes spelled = ap (λ l. encode_lower (head_bytes p) ++ (encode_lower l ++ tail p)) spelled ∙ sym (line_parts p)
 
--- The parts of a line, written one behind the other: what stands before the entries was put into the room, then the entries
--- are written, and what stands behind them is put into the room before this is written.
+-- The parts of a line, written one behind the other: what stands before the entries was put into the room, then the
+-- entries are written, and what stands behind them is put into the room before this is written.
 module _ {S : Type 0} {takes : S → List ℕ → S → Type 0} (more : (s t u : S) (xs ys : List ℕ) → takes s xs t → takes t ys u → takes s (xs ++ ys) u)
     (p : PieceValue) (bytes : List ℕ) (spelled : bytes ≡ flat_map entry_bytes p.entries) where
   pub entries_began : {old mid : S} {room now : List ℕ} → now ≡ room ++ encode_lower (head_bytes p) → Began takes old now (encode_lower bytes) mid → Began takes old room (line_of p) mid

@@ -14,8 +14,8 @@ pub fn covering_pieces_make_the_log()
     ensures { CoveringPiecesMakeTheLog }
 {}
 
-/// A gathered log is the whole log of a run of so many threads, as its `complete` answers, exactly where it is complete in
-/// the sense of the laws of replay.
+/// A gathered log is the whole log of a run of so many threads, as its `complete` answers, exactly where it is complete
+/// in the sense of the laws of replay.
 pub fn whole_logs_are_complete()
     ensures { WholeLogsAreComplete }
 {}

@@ -7,7 +7,8 @@ use std::alloc::Global;
 use std::marker::Model;
 use wasm_types::NoMemory;
 
-/// Room for lines that were not written yet. Contracts see what waits in it: lines, and perhaps digits of a beginning of one.
+/// Room for lines that were not written yet. Contracts see what waits in it: lines, and perhaps digits of a beginning
+/// of one.
 #[derive(Drop)]
 pub struct LineRoom {
     digits: Vec<u8>,
@@ -24,8 +25,8 @@ impl Model for LineRoom {
 }
 
 impl LineRoom {
-    /// Empty room, for as much as is written at once, with a part of a line behind it. No more memory is wanted for lines that
-    /// are written through it.
+    /// Empty room, for as much as is written at once, with a part of a line behind it. No more memory is wanted for
+    /// lines that are written through it.
     pub fn new(alloc: Global) -> Result<LineRoom, NoMemory>
         ensures { IfOk result (λ room. room ≡ []) }
     {

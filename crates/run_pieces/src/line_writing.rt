@@ -166,8 +166,8 @@ fn write_threads<W: Sink>(
     Ok(())
 }
 
-/// Writes the lines of a recorded run's pieces of `size` entries each, by rising thread and place, as they are made: the
-/// very lines of what `pieces` answers. No memory is wanted but the room.
+/// Writes the lines of a recorded run's pieces of `size` entries each, by rising thread and place, as they are made:
+/// the very lines of what `pieces` answers. No memory is wanted but the room.
 pub fn write_lines<W: Sink>(
     room: &mut LineRoom,
     sink: &mut W,

@@ -50,8 +50,8 @@ fn write_row(text: &mut String, memory: &[u8], row: usize) -> Result<(), NoMemor
     Ok(())
 }
 
-/// Writes a row: an address, of which the low 32 bits are shown in eight lower-case hexadecimal digits, a space, and bytes
-/// in two digits each.
+/// Writes a row: an address, of which the low 32 bits are shown in eight lower-case hexadecimal digits, a space, and
+/// bytes in two digits each.
 pub fn put_row(text: &mut String, address: u64, bytes: &[u8]) -> Result<(), NoMemory>
     ensures { OnOk result (string_bytes text.new ≡ string_bytes text.old ++ shown address bytes.now) }
 {

@@ -40,7 +40,8 @@ abbrev pub awaited_before : (ℕ → Count) → Option (Bor Entry) → Option Fo
 awaited_before here None = None
 awaited_before here (Some e) = first_shut e.now.found here
 
--- what seats wait for, once one of them waits for this. Where it waits for nothing, what it waited for last stands there
+-- what seats wait for, once one of them waits for this. Where it waits for nothing, what it waited for last stands
+-- there
 abbrev pub waiting : List (Option Found) → ℕ → Option Found → List (Option Found)
 waiting awaited seat None = awaited
 waiting awaited seat (Some f) = slice_set awaited seat (Some f)

@@ -1,5 +1,5 @@
--- How many calls have to be entered, at the least, before the objects of an entry are as it met them. A call raises the version
--- of an object by at most one, and its read total by at most one.
+-- How many calls have to be entered, at the least, before the objects of an entry are as it met them. A call raises the
+-- version of an object by at most one, and its read total by at most one.
 use Rattle.std.specs.Prelude.{ℕ, ◌+◌, ◌-◌, ◌^◌, ◌&&◌, ◌==◌, min, max, cond, nat_le, List, [], ◌∷◌, Option, Some, None}
 use Rattle.rw_objects.specs.declared.count.Count.{Count}
 use Rattle.rw_objects.specs.declared.touch.Found.{Found}
@@ -29,8 +29,8 @@ missing_from (Some most) (f ∷ fs) here = missing_from (greater_of most (missin
 abbrev pub missing_calls : List Found → (ℕ → Count) → Option ℕ
 missing_calls fs here = missing_from (Some 0) fs here
 
--- with how many calls a gate can open, where `length` were entered, and it was shut with `seen`. Where nothing is missing and none
--- was entered since, it stays shut
+-- with how many calls a gate can open, where `length` were entered, and it was shut with `seen`. Where nothing is
+-- missing and none was entered since, it stays shut
 abbrev pub opens_at : ℕ → ℕ → Option ℕ → Option ℕ
 opens_at length seen None = None
 opens_at length seen (Some calls) = cond (calls == 0 && nat_le length seen) None (Some (min (length + calls) (2 ^ 64 - 1)))

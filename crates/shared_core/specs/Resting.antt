@@ -1,6 +1,6 @@
--- Which seats can go on. A seat that rests enters no call before so many were entered by others, and one that has left enters none
--- any more. Each other seat can go on, also one whose thread has still to begin. No seat can go on where each has left, or rests until
--- there are more calls than were entered: then nobody enters one, so it stays so.
+-- Which seats can go on. A seat that rests enters no call before so many were entered by others, and one that has left
+-- enters none any more. Each other seat can go on, also one whose thread has still to begin. No seat can go on where
+-- each has left, or rests until there are more calls than were entered: then nobody enters one, so it stays so.
 use Rattle.std.specs.Prelude.{ℕ, ◌+◌, Bool, true, false, ◌==◌, nat_lt, cond, List, [], ◌∷◌}
 use Rattle.std.specs.List.{list_all}
 use Rattle.shared_core.specs.declared.resting.Standing.{Standing}

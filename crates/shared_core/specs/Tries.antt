@@ -37,8 +37,8 @@ module _ {Op Reply Value Fixed : Type 0} (space : Space Op Reply Value Fixed) (m
   WasNotReadyFor seat None = WasNotReady seat
   WasNotReadyFor seat (Some e) = WasNotReadyAt seat e.now
 
-  -- a seat's try, where an entry may be expected: it is entered behind the seat's other calls, with the entry that is expected, or
-  -- the seat stays as it was
+  -- a seat's try, where an entry may be expected: it is entered behind the seat's other calls, with the entry that is
+  -- expected, or the seat stays as it was
   pub record IsTry {E : Type 0} (expected : Option (Bor Entry)) (old new : Part Op Reply) (answer : Result (Tried Reply) E) : Type 0 where
     pub done : IfOk answer (λ t. IfDone t (λ r e. new.calls ≡ old.calls ++ call old.thread op r e ∷ []))
     pub entry : IfOk answer (λ t. IfDone t (λ r e. MatchOption expected (Unit {0}) (λ x. x.now ≡ e)))

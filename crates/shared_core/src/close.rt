@@ -87,8 +87,8 @@ struct Ended<S: Striped> {
     parts: Eight<Box<S::Part>>,
 }
 
-/// Takes in all seats, and the parts out of their locks. The journal is a legal history in which each seat's calls are those of its
-/// thread, and it leads to the parts.
+/// Takes in all seats, and the parts out of their locks. The journal is a legal history in which each seat's calls are
+/// those of its thread, and it leads to the parts.
 fn take_in<S: Striped, J: Opening<S, S::Value, S::Fixed>>(
     held: Held<S, J>,
     alloc: Global,

@@ -86,7 +86,8 @@ fn is_opened(awaited: &Option<Found>, touches: &[Touch], versions: &Versions) ->
 }
 
 impl Gates {
-    /// So many seats, none of which waits: as many as there are threads at the most. Of a seat with a greater number nothing is noted.
+    /// So many seats, none of which waits: as many as there are threads at the most. Of a seat with a greater number
+    /// nothing is noted.
     pub(crate) fn new(alloc: Global, seats: u8) -> Result<Gates, NoMemory>
         ensures { IfOk result (λ g. g.awaited.items ≡ replicate (min seats MOST_THREADS) None) }
     {
@@ -103,8 +104,8 @@ impl Gates {
         }
     }
 
-    /// Whether a call with these touches, behind which objects count this, opened gates, and of each seat whether its gate is one of
-    /// them.
+    /// Whether a call with these touches, behind which objects count this, opened gates, and of each seat whether its
+    /// gate is one of them.
     pub(crate) fn opened_by(
         &self,
         touches: &[Touch],

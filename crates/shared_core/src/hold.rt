@@ -1,7 +1,8 @@
 //! What keeps a try.
 
-/// What keeps a try of a call, for tests: it is told before the locks are asked for, while the locks of the touched parts
-/// are held where the call was entered, and after all locks were given back. `place` is how many calls the thread had.
+/// What keeps a try of a call, for tests: it is told before the locks are asked for, while the locks of the touched
+/// parts are held where the call was entered, and after all locks were given back. `place` is how many calls the thread
+/// had.
 pub trait Hold {
     /// Before the locks are asked for.
     fn before(&self, thread: u32, place: u64);

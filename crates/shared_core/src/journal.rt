@@ -29,7 +29,8 @@ impl<S: Striped, J: Opening<S, S::Value, S::Fixed>> Journal<S, J> {
         self.held.length() as u64
     }
 
-    /// Whether the call that was just entered with these touches opened gates, and of each seat whether its gate is one of them.
+    /// Whether the call that was just entered with these touches opened gates, and of each seat whether its gate is one
+    /// of them.
     pub(crate) fn opens(&self, touches: &Touches, opened: &mut Seats) -> bool
         ensures some { result ≡ list_any (is_opened touches.now (memory_after_calls S.meaning J.named.memory self.now.held).counts) self.now.gates.awaited.items }
         ensures seats { opened.new ≡ map (is_opened touches.now (memory_after_calls S.meaning J.named.memory self.now.held).counts) self.now.gates.awaited.items ++ drop (length self.now.gates.awaited.items) opened.old }
@@ -38,8 +39,8 @@ impl<S: Striped, J: Opening<S, S::Value, S::Fixed>> Journal<S, J> {
             .opened_by(touches.as_slice(), self.held.counts(), opened)
     }
 
-    /// Notes what a seat waits for before its next call, which is to have this entry, if one is known. Answers how many calls were
-    /// entered, where the gate of that call is shut.
+    /// Notes what a seat waits for before its next call, which is to have this entry, if one is known. Answers how many
+    /// calls were entered, where the gate of that call is shut.
     pub(crate) fn wait_before(&mut self, seat: u32, next: Option<&Entry>) -> Option<u64>
         ensures answer { result ≡ option_map (λ f. length self.old.held) (awaited_before (memory_after_calls S.meaning J.named.memory self.old.held).counts next.entry) }
         ensures noted { self.new.gates.awaited.items ≡ waiting self.old.gates.awaited.items seat (awaited_before (memory_after_calls S.meaning J.named.memory self.old.held).counts next.entry) }

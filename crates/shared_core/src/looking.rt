@@ -1,5 +1,6 @@
-//! Locks for which a thread looks for a while before it sleeps. What is done under the locks of a shared space takes less time than to
-//! sleep and to be woken, and the standard library's own locks look for some tens of nanoseconds only.
+//! Locks for which a thread looks for a while before it sleeps. What is done under the locks of a shared space takes
+//! less time than to sleep and to be woken, and the standard library's own locks look for some tens of nanoseconds
+//! only.
 
 use std::hint;
 use std::sync::{Mutex, MutexGuard, RwLock, RwLockReadGuard, RwLockWriteGuard, Wait};
@@ -10,8 +11,8 @@ const MOST_TRIES: u32 = 24;
 /// The longest pause between two tries, in the processor's pauses: for some microseconds.
 const LONGEST_PAUSE: u32 = 64;
 
-/// Tries a lock that was not free again. Between tries the thread pauses, twice as long each time, so that threads that wait leave the
-/// lock and what lies under it to the processor that has them.
+/// Tries a lock that was not free again. Between tries the thread pauses, twice as long each time, so that threads that
+/// wait leave the lock and what lies under it to the processor that has them.
 fn try_again<G, F: Fn() -> Option<G>>(attempt: F) -> Option<G>
     requires { F.IsAlwaysCallable attempt }
 {

@@ -26,8 +26,8 @@ fn missing_touch(found: &Found, here: Count) -> Option<u64>
     }
 }
 
-/// How many calls are missing until all objects of an entry are as it met them, at the least: none where one of them has
-/// passed that.
+/// How many calls are missing until all objects of an entry are as it met them, at the least: none where one of them
+/// has passed that.
 fn missing_calls(versions: &Versions, expected: &Entry) -> Option<u64>
     ensures { result ≡ missing_calls expected.now.found (count_at versions.now) }
 {
@@ -41,8 +41,8 @@ fn missing_calls(versions: &Versions, expected: &Entry) -> Option<u64>
     Some(most)
 }
 
-/// With how many calls a call can be entered whose entry is to be this one, where `length` were entered, and it could not be when
-/// `seen` were: none where it never can.
+/// With how many calls a call can be entered whose entry is to be this one, where `length` were entered, and it could
+/// not be when `seen` were: none where it never can.
 pub(crate) fn opens_at(versions: &Versions, length: u64, expected: &Entry, seen: u64) -> Option<u64>
     ensures { result ≡ opens_at length seen (missing_calls expected.now.found (count_at versions.now)) }
 {

@@ -6,8 +6,8 @@ use std::sync::atomic::{AtomicU64, Ordering};
 use std::{array, hint};
 use wasm_types::MOST_THREADS;
 
-/// How often a thread looks whether its gate was opened before it rests: for some ten to sixty microseconds, in which the others make a
-/// hundred calls or more.
+/// How often a thread looks whether its gate was opened before it rests: for some ten to sixty microseconds, in which
+/// the others make a hundred calls or more.
 const FEW_LOOKS: u32 = 1_000;
 
 /// How often it looks once in a while: for some milliseconds, in which a thread that rested wakes on a free processor.
@@ -16,8 +16,8 @@ const MANY_LOOKS: u32 = 100_000;
 /// How many looks in vain there are to one of many.
 const VAIN_IN_A_ROW: u64 = 128;
 
-/// Whose gates were opened, by the calls that gave back their locks. Each seat has a place of its own at which its thread alone looks, as
-/// in the queue lock of Mellor-Crummey and Scott (1991).
+/// Whose gates were opened, by the calls that gave back their locks. Each seat has a place of its own at which its
+/// thread alone looks, as in the queue lock of Mellor-Crummey and Scott (1991).
 #[derive(Drop)]
 pub(crate) struct Openings {
     /// With how many calls entered the gate of each seat was opened last.
@@ -44,11 +44,13 @@ impl Openings {
         }
     }
 
-    /// Looks for a while whether the gate of a seat was opened, which was shut with so many calls entered. Answers whether it was.
+    /// Looks for a while whether the gate of a seat was opened, which was shut with so many calls entered. Answers
+    /// whether it was.
     ///
-    /// A thread does not give up its turn between looks: beside a program that keeps the processor busy it would have it back after
-    /// milliseconds. Where many threads look in vain their processors are of more use to others, so they look for long only once in a
-    /// while: that ends what else would last, that each thread rests since the one before it is still waking.
+    /// A thread does not give up its turn between looks: beside a program that keeps the processor busy it would have
+    /// it back after milliseconds. Where many threads look in vain their processors are of more use to others, so they
+    /// look for long only once in a while: that ends what else would last, that each thread rests since the one before
+    /// it is still waking.
     pub(crate) fn look(&self, seat: u32, shut_at: u64) -> bool {
         let place = &self.places[seat as usize % MOST_THREADS];
         for _ in 0..self.looks() {

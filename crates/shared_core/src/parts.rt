@@ -1,5 +1,5 @@
-//! The parts of a shared space under their locks. What is said of each of the eight parts stands in eight rows, since the
-//! number of a part is in its type.
+//! The parts of a shared space under their locks. What is said of each of the eight parts stands in eight rows, since
+//! the number of a part is in its type.
 
 ghost use Rattle.std.specs.Prelude.{◌≡◌, ◌%◌, ◌<◌, ◌∷◌, [], box_value};
 ghost use Rattle.striped_objects.specs.Parts.{IsPart, AreParts};
@@ -59,7 +59,8 @@ fn wait_for<'a, S: Striped, J: Opening<S, S::Value, S::Fixed>, R: Wait, const I:
     }
 }
 
-/// Waits for the part of the one object that an operation touches: for reading where it reads the object, else for writing.
+/// Waits for the part of the one object that an operation touches: for reading where it reads the object, else for
+/// writing.
 fn wait_for_one<'a, S: Striped, J: Opening<S, S::Value, S::Fixed>, R: Wait, const I: u64>(
     rt: &R,
     lock: &'a RwLock<Stripe<S, J, I>>,

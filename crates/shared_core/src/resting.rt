@@ -96,8 +96,8 @@ impl Resting {
         })
     }
 
-    /// Which seats are to be woken, as they rest until just so many calls were entered as now are. Each call is told, so a seat is
-    /// woken once.
+    /// Which seats are to be woken, as they rest until just so many calls were entered as now are. Each call is told,
+    /// so a seat is woken once.
     pub(crate) fn entered(&self, length: u64) -> Wakes
         ensures { result ≡ wakes (awaiting length 0 self.now.seats.items) }
     {

@@ -24,7 +24,8 @@ use std::sync::{Mutex, Wait};
 use striped_objects::Striped;
 use wasm_types::{MOST_THREADS, NoMemory};
 
-/// A space shared by threads, each of which has a seat: its parts, the journal of all calls, and what wakes those that rest.
+/// A space shared by threads, each of which has a seat: its parts, the journal of all calls, and what wakes those that
+/// rest.
 #[derive(Drop)]
 pub struct Shared<S: Striped, J: Opening<S, S::Value, S::Fixed>> {
     pub(crate) parts: Parts<S, J>,
@@ -36,9 +37,10 @@ pub struct Shared<S: Striped, J: Opening<S, S::Value, S::Fixed>> {
 }
 
 impl<S: Striped, J: Opening<S, S::Value, S::Fixed>> Shared<S, J> {
-    /// Tries a call once, over the parts that it touches, which are kept until it is made, with what it decides by what they hold. The
-    /// journal's lock is given back before the parts. A seat that rests until just so many calls is woken, and those whose gates the
-    /// call opened are told. What the seat itself waits for next is noted, under the same lock.
+    /// Tries a call once, over the parts that it touches, which are kept until it is made, with what it decides by what
+    /// they hold. The journal's lock is given back before the parts. A seat that rests until just so many calls is
+    /// woken, and those whose gates the call opened are told. What the seat itself waits for next is noted, under the
+    /// same lock.
     fn try_over<K: Keeps<S, J> + Drop, R: Wait, H: Hold>(
         &self,
         rt: &R,
@@ -87,7 +89,8 @@ impl<S: Striped, J: Opening<S, S::Value, S::Fixed>> Shared<S, J> {
         answer
     }
 
-    /// Tries a call once that may touch several objects. Room for eight parts is made here alone, so that a call of one object makes none.
+    /// Tries a call once that may touch several objects. Room for eight parts is made here alone, so that a call of one
+    /// object makes none.
     #[inline(never)]
     fn try_several<R: Wait, H: Hold>(
         &self,
@@ -117,8 +120,8 @@ impl<S: Striped, J: Opening<S, S::Value, S::Fixed>> Shared<S, J> {
         )
     }
 
-    /// Tries a call once. The locks of the touched parts are asked for in rising order, and what it decides by what they hold is found
-    /// before the journal's lock is asked for.
+    /// Tries a call once. The locks of the touched parts are asked for in rising order, and what it decides by what
+    /// they hold is found before the journal's lock is asked for.
     fn try_call<R: Wait, H: Hold>(
         &self,
         rt: &R,
@@ -149,8 +152,9 @@ impl<S: Striped, J: Opening<S, S::Value, S::Fixed>> Shared<S, J> {
         answer
     }
 
-    /// Tries a call: where it is ready it is entered, behind the seat's other calls. It never answers `Shut`, and `NotReady` only where
-    /// a legal history that has the seat's calls leads to a space in which it is not ready: the journal as it was met.
+    /// Tries a call: where it is ready it is entered, behind the seat's other calls. It never answers `Shut`, and
+    /// `NotReady` only where a legal history that has the seat's calls leads to a space in which it is not ready: the
+    /// journal as it was met.
     pub fn access<R: Wait, H: Hold>(
         &self,
         rt: &R,
@@ -169,11 +173,11 @@ impl<S: Striped, J: Opening<S, S::Value, S::Fixed>> Shared<S, J> {
         self.try_call(rt, alloc, seat, op, None, None, hold)
     }
 
-    /// Tries a call whose entry is to be this one: where it is, and the call is ready, it is entered, behind the seat's other
-    /// calls. It answers `Shut` only where its entry would be another one in the space to which a legal history leads that has the
-    /// seat's calls, and `NotReady` only where it would have this entry and is not ready in such a space: the journal as it was met.
-    /// `next` is the entry of the call behind it, if it is known: where that one's gate is shut yet, the seat's next try waits for a
-    /// while until it is opened.
+    /// Tries a call whose entry is to be this one: where it is, and the call is ready, it is entered, behind the seat's
+    /// other calls. It answers `Shut` only where its entry would be another one in the space to which a legal history
+    /// leads that has the seat's calls, and `NotReady` only where it would have this entry and is not ready in such a
+    /// space: the journal as it was met. `next` is the entry of the call behind it, if it is known: where that one's
+    /// gate is shut yet, the seat's next try waits for a while until it is opened.
     pub fn access_at<R: Wait, H: Hold>(
         &self,
         rt: &R,
@@ -203,8 +207,8 @@ impl<S: Striped, J: Opening<S, S::Value, S::Fixed>> Shared<S, J> {
         lock(rt, &self.journal).length()
     }
 
-    /// Waits until so many calls were entered, or no seat can go on. Answers how many were entered: fewer where no seat can go
-    /// on. The seat then rests for good, so the others are told the same.
+    /// Waits until so many calls were entered, or no seat can go on. Answers how many were entered: fewer where no seat
+    /// can go on. The seat then rests for good, so the others are told the same.
     fn rest_until<R: Wait>(&self, rt: &R, seat: &Seat<S, J>, until: u64) -> u64 {
         let number = seat.thread();
         let mut journal = lock(rt, &self.journal);
@@ -229,16 +233,17 @@ impl<S: Striped, J: Opening<S, S::Value, S::Fixed>> Shared<S, J> {
         length
     }
 
-    /// Waits until more than `seen` calls were entered, or no seat can go on. Answers how many were entered: `seen` where no
-    /// seat can go on, since each rests until there are more, or has left. Once that was answered it stays so, as long as no seat that
-    /// was told it enters a call.
+    /// Waits until more than `seen` calls were entered, or no seat can go on. Answers how many were entered: `seen`
+    /// where no seat can go on, since each rests until there are more, or has left. Once that was answered it stays so,
+    /// as long as no seat that was told it enters a call.
     pub fn rest<R: Wait>(&self, rt: &R, seat: &Seat<S, J>, seen: u64) -> u64 {
         self.rest_until(rt, seat, seen.saturating_add(1))
     }
 
-    /// Waits before the gate of a call whose entry is to be this one, and which could not be entered when `seen` calls were.
-    /// Answers how many were entered then, at the least, where it is to be tried again: it is not where an object has passed what
-    /// the entry met, where nothing is missing and no call was entered since, or where no seat can go on.
+    /// Waits before the gate of a call whose entry is to be this one, and which could not be entered when `seen` calls
+    /// were. Answers how many were entered then, at the least, where it is to be tried again: it is not where an object
+    /// has passed what the entry met, where nothing is missing and no call was entered since, or where no seat can go
+    /// on.
     pub fn rest_before<R: Wait>(
         &self,
         rt: &R,

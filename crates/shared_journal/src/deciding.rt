@@ -8,8 +8,8 @@ use rw_objects::{ObjectSpace, Touch};
 use shared_parts::{Keeps, Opening};
 use striped_objects::Striped;
 
-/// What an operation that touches one object decides by what its part holds, whatever the space is of which it is a part. It takes no
-/// memory.
+/// What an operation that touches one object decides by what its part holds, whatever the space is of which it is a
+/// part. It takes no memory.
 pub fn decide_one<S: Striped, J: Opening<S, S::Value, S::Fixed>, K: Keeps<S, J>>(
     kept: &K,
     touch: Touch,

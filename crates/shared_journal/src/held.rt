@@ -20,8 +20,8 @@ use std::sync::ledger::{Book, Share};
 use striped_objects::Striped;
 use wasm_types::NoMemory;
 
-/// The versions of all objects and the journal. At run time the journal is the thread of each call, a byte each: what was
-/// asked and answered is known to proofs alone. Contracts see the list of its calls.
+/// The versions of all objects and the journal. At run time the journal is the thread of each call, a byte each: what
+/// was asked and answered is known to proofs alone. Contracts see the list of its calls.
 #[derive(Drop)]
 pub struct Held<S: Striped, J: Opening<S, S::Value, S::Fixed>> {
     pub versions: Versions,

@@ -8,7 +8,8 @@ use Rattle.shared_parts.specs.declared.call.Call.{Call}
 use Rattle.shared_parts.specs.Calls.{memory_after_calls}
 
 module _ {Op Reply Value Fixed Seen Decision : Type 0} (space : Space Op Reply Value Fixed) (cut : Cut Op Reply Value Fixed Seen Decision) (m : Memory Value Fixed) where
-  -- all calls are those before it and one call of this operation, which touches these objects, and decides so by their values
+  -- all calls are those before it and one call of this operation, which touches these objects, and decides so by their
+  -- values
   pub record IsStep (before all : List (Call Op Reply)) (ts : List Touch) (op : Op) (decision : Decision) : Type 0 where
     pub fits : Fits space m.fixed op
     pub touches : ts ≡ space.touches op

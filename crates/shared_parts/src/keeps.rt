@@ -16,8 +16,8 @@ use call_chain::{Latest, Reached};
 use rw_objects::{ObjectSpace, Touches};
 use striped_objects::Striped;
 
-/// The parts that an operation touches, each kept for reading or for writing: `KeptParts` for any operation, `OnePart` for one that
-/// touches one object.
+/// The parts that an operation touches, each kept for reading or for writing: `KeptParts` for any operation, `OnePart`
+/// for one that touches one object.
 pub trait Keeps<S: Striped, J: Opening<S, S::Value, S::Fixed>> {
     ghost covers: { Self → List TouchValue → Type 0 };
 

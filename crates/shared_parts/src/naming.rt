@@ -5,8 +5,8 @@ use rw_objects::ObjectSpace;
 use std::marker::PhantomData;
 use std::sync::ledger::Ledger;
 
-/// Names the opening space, the ledger and the numbers of one shared space `S`, with values `V` and fixed numbers `F`. Each call of a program
-/// picks it. That the parameters have no bounds is what lets it be picked.
+/// Names the opening space, the ledger and the numbers of one shared space `S`, with values `V` and fixed numbers `F`.
+/// Each call of a program picks it. That the parameters have no bounds is what lets it be picked.
 pub trait Opening<S, V, F>: Naming {
     ghost use Rattle.shared_parts.specs.Named.{Named};
 

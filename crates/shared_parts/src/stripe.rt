@@ -16,8 +16,8 @@ use std::boxed::Box;
 use std::marker::Model;
 use striped_objects::{Striped, change_lane};
 
-/// What one part of the space holds, with what shows that it is what the journal leads to: how often it was written, which
-/// the journal knows too, and the calls that led to it.
+/// What one part of the space holds, with what shows that it is what the journal leads to: how often it was written,
+/// which the journal knows too, and the calls that led to it.
 #[derive(Drop)]
 pub struct Stripe<S: Striped, J: Opening<S, S::Value, S::Fixed>, const I: u64> {
     pub part: Box<S::Part>,

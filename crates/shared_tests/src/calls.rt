@@ -17,8 +17,8 @@ use wasm_types::{Access, Action, Extent, Load, NoMemory, Op, Reply, RmwOp, ValTy
 /// All numbers of the tests have 64 bits.
 const NUMBER: Access = Access::Whole(ValType::I64);
 
-/// What a thread does at a turn: it changes a number that all share, loads it, stores a number of its own, and stores and
-/// loads a number over the border of two blocks, which all share too.
+/// What a thread does at a turn: it changes a number that all share, loads it, stores a number of its own, and stores
+/// and loads a number over the border of two blocks, which all share too.
 pub(crate) fn action(thread: u32, turn: u32) -> Action
     ensures { InBounds 65536 result }
 {

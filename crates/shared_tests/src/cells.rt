@@ -130,8 +130,8 @@ fn go_on(cells: &mut [u64], plain: &mut Plain, lines: &mut [Line], thread: u8) -
     true
 }
 
-/// Goes through a history over the cells: each call finds the versions that those before it leave, each thread was answered
-/// what plain numbers answer, and the cells hold these numbers.
+/// Goes through a history over the cells: each call finds the versions that those before it leave, each thread was
+/// answered what plain numbers answer, and the cells hold these numbers.
 fn compare_cells(
     rt: &impl Abort,
     alloc: Global,
@@ -159,8 +159,8 @@ fn compare_cells(
     Ok(())
 }
 
-/// The calls of four threads over cells, gone through once more in the order of the history, find what they found, answer what
-/// they answered, and lead to the same numbers.
+/// The calls of four threads over cells, gone through once more in the order of the history, find what they found,
+/// answer what they answered, and lead to the same numbers.
 #[test]
 fn calls_on_cells_are_one_history(rt: HostRuntime) -> Result<(), Fail> {
     let alloc = rt.alloc();

@@ -1,5 +1,5 @@
-//! Want of memory. `rt try --test --fail-alloc N` refuses the Nth growth; without it none is refused, and the test passes, too.
-//! What was refused is tried again, and all is then as without the refusal.
+//! Want of memory. `rt try --test --fail-alloc N` refuses the Nth growth; without it none is refused, and the test
+//! passes, too. What was refused is tried again, and all is then as without the refusal.
 
 ghost use Rattle.std.specs.Prelude.{◌≡◌};
 ghost use Rattle.block_objects.specs.Bounds.{InBounds};
@@ -22,8 +22,8 @@ use wasm_types::{Action, NoMemory, Reply};
 /// How many calls the thread makes.
 const CALLS: u32 = 300;
 
-/// Tries a call of the only thread. Where memory was wanted, journal and seat have no more calls than before, and the call is
-/// tried again.
+/// Tries a call of the only thread. Where memory was wanted, journal and seat have no more calls than before, and the
+/// call is tried again.
 fn enter_again<J: Opening<StripedMemory, ObjectValue, MemoryLimits>, R: Wait>(
     rt: &R,
     alloc: Global,
@@ -86,8 +86,8 @@ impl Work<StripedMemory> for Again {
     }
 }
 
-/// Each call that wanted memory is made once, when it is tried again. Where opening or closing wants memory, it says so, and all
-/// is done again.
+/// Each call that wanted memory is made once, when it is tried again. Where opening or closing wants memory, it says
+/// so, and all is done again.
 #[test]
 fn refused_growths_leave_seat_and_journal(rt: HostRuntime) -> Result<(), Fail> {
     let alloc = rt.alloc();

@@ -59,8 +59,8 @@ impl Work<StripedMemory> for Mix {
     }
 }
 
-/// The calls of four threads, gone through once more in the order of the history, find what they found, answer what they
-/// answered, and lead to the same bytes and versions.
+/// The calls of four threads, gone through once more in the order of the history, find what they found, answer what
+/// they answered, and lead to the same bytes and versions.
 #[test]
 fn calls_of_four_threads_are_one_history(rt: HostRuntime) -> Result<(), Fail> {
     let alloc = rt.alloc();

@@ -1,5 +1,5 @@
-//! Tests of a shared memory, and of shared cells, by threads that really run at once. A crate with tests is proved twice, so they stand here, over what
-//! those crates offer.
+//! Tests of a shared memory, and of shared cells, by threads that really run at once. A crate with tests is proved
+//! twice, so they stand here, over what those crates offer.
 #![tactic(auto)]
 
 #[cfg(test)]

@@ -16,7 +16,8 @@ use std::sync::Wait;
 use std::test::Fail;
 use striped_memory::StripedMemory;
 
-/// Each thread waits for the other, and then loads the same number; while it holds its part it waits for the other again.
+/// Each thread waits for the other, and then loads the same number; while it holds its part it waits for the other
+/// again.
 #[derive(Drop)]
 struct Readers {
     begun: Meeting,
@@ -55,7 +56,8 @@ impl Work<StripedMemory> for Readers {
     }
 }
 
-/// Two readers of one number are inside at once. Where no second thread runs there is nothing to see, and the test says so.
+/// Two readers of one number are inside at once. Where no second thread runs there is nothing to see, and the test says
+/// so.
 #[test]
 fn two_readers_are_inside_at_once(rt: HostRuntime) -> Result<(), Fail> {
     let alloc = rt.alloc();

@@ -200,7 +200,8 @@ fn both(calls: u64) -> Option<Rests> {
     })
 }
 
-/// The rest of a thread ends once the others have left, and has then seen all calls. Another rest ends at once, with as many.
+/// The rest of a thread ends once the others have left, and has then seen all calls. Another rest ends at once, with as
+/// many.
 #[test]
 fn a_rest_ends_when_the_others_leave(rt: HostRuntime) -> Result<(), Fail> {
     let parts = [
@@ -242,8 +243,8 @@ fn a_thread_that_leaves_early_ends_no_rest(rt: HostRuntime) -> Result<(), Fail> 
     Ok(())
 }
 
-/// A thread that rests until two calls were entered has seen both when it goes on. Its rest for a third ends too, without one,
-/// once the others have left.
+/// A thread that rests until two calls were entered has seen both when it goes on. Its rest for a third ends too,
+/// without one, once the others have left.
 #[test]
 fn a_rest_goes_on_with_the_last_call_awaited(rt: HostRuntime) -> Result<(), Fail> {
     let parts = [

@@ -65,8 +65,8 @@ fn compare_memory(
     Ok(())
 }
 
-/// Goes through a history: each call finds the versions that those before it leave, each thread was answered what plain bytes
-/// answer, and the memory has these bytes and versions.
+/// Goes through a history: each call finds the versions that those before it leave, each thread was answered what plain
+/// bytes answer, and the memory has these bytes and versions.
 pub(crate) fn compare(
     rt: &impl Abort,
     alloc: Global,

@@ -19,9 +19,9 @@ module _ {Op Reply State : Type 0} where
   AllLead leads b calls (s ∷ ss) [] = ⊥
   AllLead leads b calls (s ∷ ss) (t ∷ ts) = leads b s (part_of b calls) t × AllLead leads (b + 1) calls ss ts
 
--- threads with these states, over a space with this opening memory, left this: there is one legal history of their calls, and
--- of no others, which leads to the memory; the order has the thread of each call, the entries are those of each thread's calls,
--- and these lead each thread to the state that it has then
+-- threads with these states, over a space with this opening memory, left this: there is one legal history of their
+-- calls, and of no others, which leads to the memory; the order has the thread of each call, the entries are those of
+-- each thread's calls, and these lead each thread to the state that it has then
 pub record AreRun {Op Reply Value Fixed State : Type 0} (space : Space Op Reply Value Fixed) (leads : ℕ → State → List (Call Op Reply) → State → Type 0)
     (opening : Memory Value Fixed) (states : List State) (order : List ℕ) (entries : List (List Entry)) (memory : Memory Value Fixed) (after : List State) : Type 0 where
   pub calls : List (Call Op Reply)

@@ -6,7 +6,8 @@ use std::alloc::Global;
 use std::io;
 use std::io::{ErrorKind, Read, Write};
 
-/// Which calls of a stream are refused: each first one of two is interrupted, and the call of that number, from 1, fails.
+/// Which calls of a stream are refused: each first one of two is interrupted, and the call of that number, from 1,
+/// fails.
 #[derive(Drop)]
 pub(crate) struct Refusals {
     made: u64,

@@ -8,16 +8,16 @@ use crate::stop::Stop;
 use replica::{Failed, Sink};
 use std::io::{ErrorKind, Write};
 
-/// A stream to write, as a sink. A call that takes bytes adds exactly these to what the stream holds, in their order; a call
-/// that fails adds none, so that the next call goes on from there. Nothing is flushed: what a stream keeps back for later is
-/// part of what it holds.
+/// A stream to write, as a sink. A call that takes bytes adds exactly these to what the stream holds, in their order; a
+/// call that fails adds none, so that the next call goes on from there. Nothing is flushed: what a stream keeps back
+/// for later is part of what it holds.
 ///
-/// An interrupted call of the stream is made again, up to 2^64 - 1 calls in all. A call fails where none is left to make,
-/// at any other error of the stream, and where the stream takes no byte.
+/// An interrupted call of the stream is made again, up to 2^64 - 1 calls in all. A call fails where none is left to
+/// make, at any other error of the stream, and where the stream takes no byte.
 ///
 /// All this is proved for every stream, by its `contents`, as `Write` has them. Left to the stream is how many bytes it
-/// takes at a call, and which calls fail. Where its contract knows no bytes, as that of standard output, it is trusted that
-/// there are such bytes.
+/// takes at a call, and which calls fail. Where its contract knows no bytes, as that of standard output, it is trusted
+/// that there are such bytes.
 #[derive(Drop)]
 pub struct StandardSink<W> {
     stream: W,

@@ -8,15 +8,15 @@ use crate::stop::Stop;
 use replica::{Failed, Source};
 use std::io::{ErrorKind, Read};
 
-/// A stream to read, as a source. A call that brings bytes takes exactly the next ones of those that the stream has left;
-/// none come only where none are left; a call that fails takes none, so that the next call goes on from there.
+/// A stream to read, as a source. A call that brings bytes takes exactly the next ones of those that the stream has
+/// left; none come only where none are left; a call that fails takes none, so that the next call goes on from there.
 ///
-/// An interrupted call of the stream is made again, up to 2^64 - 1 calls in all. A call fails where none is left to make,
-/// and at any other error of the stream.
+/// An interrupted call of the stream is made again, up to 2^64 - 1 calls in all. A call fails where none is left to
+/// make, and at any other error of the stream.
 ///
-/// All this is proved for every stream, by its `remaining` bytes, as `Read` has them. Left to the stream is how many bytes
-/// come at a call, what stands behind them in the buffer, and which calls fail. Where its contract knows no bytes, as that
-/// of standard input, it is trusted that there are such bytes.
+/// All this is proved for every stream, by its `remaining` bytes, as `Read` has them. Left to the stream is how many
+/// bytes come at a call, what stands behind them in the buffer, and which calls fail. Where its contract knows no
+/// bytes, as that of standard input, it is trusted that there are such bytes.
 #[derive(Drop)]
 pub struct StandardSource<R> {
     stream: R,

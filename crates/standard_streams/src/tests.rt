@@ -34,8 +34,8 @@ fn put<W: Write>(sink: &mut StandardSink<W>, bytes: &[u8]) -> Result<(), Failed>
     write_all(sink, bytes)
 }
 
-/// What gathering one stream into another comes to, and the other stream. Where the bytes of both are known, it then holds
-/// what it held and the listing of what the first had left; unless it failed, an error leaves what it held.
+/// What gathering one stream into another comes to, and the other stream. Where the bytes of both are known, it then
+/// holds what it held and the listing of what the first had left; unless it failed, an error leaves what it held.
 fn gathered<R: Read + Drop, W: Write>(
     alloc: Global,
     input: R,

@@ -1,5 +1,6 @@
--- The eight parts of a shared memory: part 1 + 2 r holds the blocks 4 j + r, part 2 + 2 r the queues of those blocks for r
--- below 3, and part 0 the length and, behind it, the queues of the blocks 4 j + 3. Object 8 j + i is item j of part i.
+-- The eight parts of a shared memory: part 1 + 2 r holds the blocks 4 j + r, part 2 + 2 r the queues of those blocks
+-- for r below 3, and part 0 the length and, behind it, the queues of the blocks 4 j + 3. Object 8 j + i is item j of
+-- part i.
 use Rattle.std.specs.Prelude.{ℕ, ◌+◌, ◌-◌, ◌*◌, cond, ◌==◌, List}
 use Rattle.block_objects.specs.declared.limits.MemoryLimits.{MemoryLimits}
 use Rattle.block_objects.specs.Objects.{ObjectAt, Length, Bytes, Queue, QueueAt, block_bytes}

@@ -12,8 +12,8 @@ pub fn lines_are_of_their_text()
     ensures { (text : List ℕ) → IsTextOf text (lines text) }
 {}
 
-/// In the range of an i64's arguments, which has that of an i32's, an integer's text is the decimal text that `{}` writes
-/// of the integer. It does nothing.
+/// In the range of an i64's arguments, which has that of an i32's, an integer's text is the decimal text that `{}`
+/// writes of the integer. It does nothing.
 pub fn integers_are_decimal()
     ensures { (text : List ℕ) (number : ℤ) (bits : ℕ) → bits_of 64 number ≡ Some bits → (((is_decimal text ≡ true) × (signed_digits_value 10 text ≡ number)) ↔ (text ≡ signed_decimal number)) }
 {}

@@ -28,7 +28,8 @@ pub(crate) fn no_integer(mut texts: Parts<'_>) -> Option<u32>
     None
 }
 
-/// A value for each parameter, or what is wrong: there are more or fewer texts, or an integer is out of its type's range.
+/// A value for each parameter, or what is wrong: there are more or fewer texts, or an integer is out of its type's
+/// range.
 pub(crate) fn arguments_of(
     alloc: Global,
     params: &[ValType],

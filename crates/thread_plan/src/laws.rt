@@ -13,9 +13,9 @@ pub fn lines_are_spelled()
     ensures { (line name : List ℕ) (arguments : List (List ℕ)) → (form_of (words line) ≡ Some (name, arguments)) ↔ IsThreadLine line name arguments }
 {}
 
-/// A plan that is read for a module suits it: it has 1 to 16 threads, each a function of the module with a value for each
-/// parameter, a memory that may be shared if it has more than one, and segments that fit. So it opens a world wherever the
-/// module is well typed. It does nothing.
+/// A plan that is read for a module suits it: it has 1 to 16 threads, each a function of the module with a value for
+/// each parameter, a memory that may be shared if it has more than one, and segments that fit. So it opens a world
+/// wherever the module is well typed. It does nothing.
 pub fn read_plans_suit()
     ensures { (m : Module) (bytes : List ℕ) (plan : PlanValue) → plan_of m bytes ≡ Ok plan → IsPlanOf m plan }
 {}

@@ -41,11 +41,12 @@ impl Model for Plan {
 impl Plan {
     /// Reads the plan that these bytes spell for a module.
     ///
-    /// The first line is `wreplay plan 1`. Then come 1 to 16 lines `thread NAME ARG ..`: a function's export name in UTF-8
-    /// without a space, and an integer in decimal for each parameter, with a single space between two words. An integer
-    /// for a parameter of N bits is from -2^(N-1) to 2^N - 1, and stands for its value modulo 2^N. The last line may lack
-    /// its line end. The first faulty line is answered, numbered from 1; a line's form goes before its name, and its name
-    /// before its arguments. Where no line is faulty, a memory that is not shared goes before a segment out of bounds.
+    /// The first line is `wreplay plan 1`. Then come 1 to 16 lines `thread NAME ARG ..`: a function's export name in
+    /// UTF-8 without a space, and an integer in decimal for each parameter, with a single space between two words. An
+    /// integer for a parameter of N bits is from -2^(N-1) to 2^N - 1, and stands for its value modulo 2^N. The last
+    /// line may lack its line end. The first faulty line is answered, numbered from 1; a line's form goes before its
+    /// name, and its name before its arguments. Where no line is faulty, a memory that is not shared goes before a
+    /// segment out of bounds.
     pub fn read(alloc: Global, bytes: &[u8], valid: &Valid) -> Result<Plan, PlanFault>
         ensures ok { IfOk result (λ plan. plan_of valid.now bytes.now ≡ Ok plan) }
         ensures err { IfErr result (λ fault. IsFaultOf (plan_of valid.now bytes.now) fault) }

@@ -14,8 +14,8 @@ pub fn well_typed_is_never_stuck()
     ensures { NeverStuck }
 {}
 
-/// An activation that fits a function of a well typed module has at most as many operands as there are instructions before
-/// its place.
+/// An activation that fits a function of a well typed module has at most as many operands as there are instructions
+/// before its place.
 pub fn operands_are_few()
     ensures { OperandsAreFew }
 {}
@@ -25,8 +25,8 @@ pub fn threads_are_safe()
     ensures { ThreadsAreSafe }
 {}
 
-/// In a well typed module no thread of any exported function ever lacks a step, through its start function, its calls, its
-/// waits and its returns; and a thread that is done leaves the results of its function.
+/// In a well typed module no thread of any exported function ever lacks a step, through its start function, its calls,
+/// its waits and its returns; and a thread that is done leaves the results of its function.
 pub fn threads_go_on()
     ensures { ThreadsGoOn }
 {}

@@ -16,8 +16,8 @@ module _ (m : Module) (plan : PlanValue) (log : GatheredLog) where
   abbrev pub IsThreadsEnd : RunEnd → Type 0
   IsThreadsEnd end = (w : WasmWorld) → Opens m plan log w → IsReplayEnd shared_memory thread_code (gathered_log log) w end
 
-  -- the log is of no run of this module and plan; or memory is wanting, or it is the fault of some gated run from the opening
-  -- world, which comes only where none is finished
+  -- the log is of no run of this module and plan; or memory is wanting, or it is the fault of some gated run from the
+  -- opening world, which comes only where none is finished
   abbrev pub IsThreadsRefusal : WasmReplayFault → Type 0
   IsThreadsRefusal refusal.OtherRun = IsOfNoRun m plan log refusal.OtherRun
   IsThreadsRefusal refusal.OldProfile = IsOfNoRun m plan log refusal.OldProfile

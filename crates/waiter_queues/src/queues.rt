@@ -10,9 +10,9 @@ use std::alloc::Global;
 use std::marker::Model;
 use wasm_types::NoMemory;
 
-/// The waiter queue of each block. A queue is made once a thread comes to wait at its block, or at one behind it, in room that
-/// is had from the start: so a memory opens without a step for each block, and nothing later takes memory. Contracts see
-/// the list of all queues, by block.
+/// The waiter queue of each block. A queue is made once a thread comes to wait at its block, or at one behind it, in
+/// room that is had from the start: so a memory opens without a step for each block, and nothing later takes memory.
+/// Contracts see the list of all queues, by block.
 #[derive(Drop)]
 pub struct Queues {
     /// The queues that are made.

@@ -202,8 +202,8 @@ impl SharedSpace {
         Reply::Value(Value::I32(self.queues.notify(at, address, count)))
     }
 
-    /// Any operation: finds its touches and counts them, and makes it and its entry. It stays a function of its own, so that
-    /// the short ways can be compiled into the caller.
+    /// Any operation: finds its touches and counts them, and makes it and its entry. It stays a function of its own, so
+    /// that the short ways can be compiled into the caller.
     #[inline(never)]
     fn act_by_touches(&mut self, versions: &mut Versions, op: &Op) -> (Reply, Entry)
         requires { CanAct self.old.blocks self.old.queues versions.old op.now }
@@ -376,8 +376,8 @@ impl ObjectSpace for SharedSpace {
             && versions.finds(touches.as_slice(), entry.found.as_slice())
     }
 
-    /// A load or a store that lies in one block and within the initial length goes a short way: a test of its bounds, one
-    /// count, and the load or the store.
+    /// A load or a store that lies in one block and within the initial length goes a short way: a test of its bounds,
+    /// one count, and the load or the store.
     #[inline(always)]
     fn act(&mut self, versions: &mut Versions, op: &Op) -> (Reply, Entry) {
         let _from_initial = self.blocks.limits();

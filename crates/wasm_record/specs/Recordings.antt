@@ -37,8 +37,8 @@ pub record RecordsRun (m : Module) (plan : PlanValue) (profile : Profile) (picks
   pub end : recorded.end ≡ run_end shared_memory thread_code world (picks_taken shared_memory thread_code steps world picks)
   pub passed : recorded.passed ≡ picks_passed shared_memory thread_code steps world picks
 
--- from the opening world some picks are a run, of which the log and the end are recorded: no thread made more than so many
--- steps, none that made fewer can go on, and a thread timed out only where it may
+-- from the opening world some picks are a run, of which the log and the end are recorded: no thread made more than so
+-- many steps, none that made fewer can go on, and a thread timed out only where it may
 pub record RecordsThreads (m : Module) (plan : PlanValue) (profile : Profile) (may : ℕ → ThreadAt → Bool) (steps : ℕ) (recorded : RecordedAt) : Type 0 where
   pub world : WasmWorld
   pub opens : opening_world_of m plan profile ≡ Some world

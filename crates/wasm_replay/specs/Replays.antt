@@ -82,14 +82,15 @@ module _ (m : Module) (plan : PlanValue) (log : GatheredLog) where
   abbrev pub IsOrderedAnswer : List ℕ → RunEnd → Type 0
   IsOrderedAnswer order end = (w : WasmWorld) → Opens w → OrderedEnds shared_memory thread_code (gathered_log log) w order end
 
-  -- the end of each run of the module and plan whose log this one is below; and there is a run whose log is below this one
+  -- the end of each run of the module and plan whose log this one is below; and there is a run whose log is below this
+  -- one
   pub record EndsAsRecorded (end : RunEnd) : Type 0 where
     pub recorded : (w : WasmWorld) → Opens w → (picks : List Pick) → IsRun shared_memory thread_code w picks → IsBelowLog (gathered_log log) (run_log shared_memory thread_code w picks)
         → end ≡ run_end shared_memory thread_code w picks
     pub vouches : (w : WasmWorld) → Opens w → IsVouchedEnd shared_memory thread_code (gathered_log log) w end
 
-  -- the fault of the ordered replay from the opening world, or want of memory; want of memory alone where some gated run
-  -- comes to the log's ends
+  -- the fault of the ordered replay from the opening world, or want of memory; want of memory alone where some gated
+  -- run comes to the log's ends
   pub record IsReplayFault (order : List ℕ) (f : ReplayFault) : Type 0 where
     pub ordered : (w : WasmWorld) → Opens w → (f ≡ fault.NoMemory) ⊎ IsOrderedFault shared_memory thread_code (gathered_log log) w order f
     pub wanting : (w : WasmWorld) → Opens w → IsWantOfMemory shared_memory thread_code (gathered_log log) w f

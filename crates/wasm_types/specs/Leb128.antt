@@ -5,8 +5,8 @@ use Rattle.std.specs.Prelude.{◌≡◌, ℕ, ◌+◌, ◌-◌, ◌*◌, ◌^◌
 abbrev pub LastUnsigned : ℕ → ℕ → ℕ → List ℕ → Type 0
 LastUnsigned bits n b bs = (b < 128) × (b < 2 ^ bits) × (n ≡ b) × (bs ≡ [])
 
--- The bytes spell this unsigned number of so many bits: a byte below 128 is the last one; a byte from 128 on has the low
--- seven bits, and the bytes behind it spell the rest, of seven bits less.
+-- The bytes spell this unsigned number of so many bits: a byte below 128 is the last one; a byte from 128 on has the
+-- low seven bits, and the bytes behind it spell the rest, of seven bits less.
 abbrev pub unsigned : ℕ → ℕ → List ℕ → Type 0
 unsigned bits n [] = ⊥
 unsigned bits n (b ∷ bs) =

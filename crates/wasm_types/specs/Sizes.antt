@@ -1,7 +1,9 @@
--- The numbers of this project, and of the standard's pages. Definitions name them by the code's constants, which are proved to be these.
+-- The numbers of this project, and of the standard's pages. Definitions name them by the code's constants, which are
+-- proved to be these.
 use Rattle.std.specs.Prelude.{ℕ}
 
--- the bytes of a page, and the most pages that a memory may declare (WebAssembly Core 1.0, memory instances; validation, memory types)
+-- the bytes of a page, and the most pages that a memory may declare (WebAssembly Core 1.0, memory instances;
+-- validation, memory types)
 abbrev pub bytes_of_a_page : ℕ
 bytes_of_a_page = 65536
 

@@ -12,8 +12,8 @@ fn is_within(byte: u8, bits: u32) -> bool
     bits >= 7 || byte < 1 << bits
 }
 
-/// The unsigned number of so many bits at the front of the bytes, and the bytes behind it. It calls itself nine times at
-/// most.
+/// The unsigned number of so many bits at the front of the bytes, and the bytes behind it. It calls itself nine times
+/// at most.
 #[tactic(auto, unfolding(crate::specs::Leb128Reading::unsigned_at))]
 fn unsigned_front(bytes: &[u8], bits: u32) -> Option<(u64, &[u8])>
     requires { bits ≤ 64 }

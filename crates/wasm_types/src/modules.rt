@@ -66,8 +66,8 @@ pub struct Element {
     pub functions: Items<u32>,
 }
 
-/// So many locals of one type, which stand one behind the other (WebAssembly Core 1.0, binary format, code section). The
-/// count may be 0.
+/// So many locals of one type, which stand one behind the other (WebAssembly Core 1.0, binary format, code section).
+/// The count may be 0.
 #[derive(Clone, Copy, Debug, PartialEq, Eq)]
 pub struct LocalGroup {
     pub count: u32,

@@ -1,4 +1,5 @@
--- Views of gathered logs: where the replay from the opening world of a module and a plan stops, and what is shown there.
+-- Views of gathered logs: where the replay from the opening world of a module and a plan stops, and what is shown
+-- there.
 use Rattle.std.specs.Prelude.{◌≡◌, ◌⊎◌, ℕ, ◌+◌, ◌<◌, ◌≤◌, Bool, List, length}
 use Rattle.wasm_types.specs.declared.modules.Module.{Module}
 use Rattle.block_objects.specs.SharedMemory.{shared_memory}
@@ -35,7 +36,8 @@ module _ (m : Module) (plan : PlanValue) (log : GatheredLog) (order : List ℕ) 
     pub stops : Stops v s
     pub shown : IsShown s breaks
 
-  -- the view of the world at which the replay stops, which has the range, with where its threads stand if names are asked for; on a log below that of a run, that world is right by the run
+  -- the view of the world at which the replay stops, which has the range, with where its threads stand if names are
+  -- asked for; on a log below that of a run, that world is right by the run
   pub record IsViewOfLog (names : Bool) (from len : ℕ) (text : List ℕ) : Type 0 where
     pub world : WasmWorld
     pub stopped : Stopped

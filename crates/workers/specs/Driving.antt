@@ -30,8 +30,8 @@ abbrev pub driven : {M State Op Reply : Type 0} → (M → State) → Thread M �
 driven state thread seat = record { thread = thread_of state thread; seat = seat }
 
 module _ {State Op Reply Fixed : Type 0} (code : Code State Op Reply Fixed) where
-  -- own steps lead thread t from one state to another, and put their calls behind those that it made before; may tells in which
-  -- states it may time out
+  -- own steps lead thread t from one state to another, and put their calls behind those that it made before; may tells
+  -- in which states it may time out
   pub record Went (may : State → Bool) (t : ℕ) (s : State) (before : List (Call Op Reply)) (u : State) (after : List (Call Op Reply)) : Type 0 where
     pub own : List (OwnStep Op Reply)
     pub leads : Leads code s own u

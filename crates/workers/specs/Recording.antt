@@ -21,9 +21,9 @@ use Rattle.workers.specs.declared.worker.Worker.{Worker}
 use Rattle.workers.specs.Driving.{all_asked}
 use Rattle.workers.specs.Work.{HasWorked, opening_worker}
 
--- a run, with its log and its end: first the calls of a legal history, in its order, with the local steps of their threads, then
--- rounds in which no thread times out. No thread made more than so many steps, none that made fewer can go on, and a thread timed
--- out only where it may; no pick was passed over
+-- a run, with its log and its end: first the calls of a legal history, in its order, with the local steps of their
+-- threads, then rounds in which no thread times out. No thread made more than so many steps, none that made fewer can
+-- go on, and a thread timed out only where it may; no pick was passed over
 pub record IsRecording {State Op Reply Value Fixed : Type 0} (space : Space Op Reply Value Fixed) (code : Code State Op Reply Fixed) (may : ℕ → State → Bool) (steps : ℕ) (w : WorldAt State Value Fixed) (recorded : RecordedAt) : Type 0 where
   pub calls : List (Call Op Reply)
   pub legal : IsLegalHistory space w.memory calls
@@ -46,7 +46,8 @@ pub record IsRecordingOf {State Op Reply Value Fixed : Type 0} (space : Space Op
   pub recording : IsRecording space code may steps w recorded
   pub same : recording.calls ≡ calls
 
--- machines that made no step, each driven by a worker over a space that no thread had touched, left this history and these workers
+-- machines that made no step, each driven by a worker over a space that no thread had touched, left this history and
+-- these workers
 pub record HaveRun {M State Op Reply Value Fixed : Type 0} (space : Space Op Reply Value Fixed) (code : Code State Op Reply Fixed) (state : M → State) (steps : ℕ)
     (order : List ℕ) (entries : List (List Entry)) (memory : Memory Value Fixed) (workers : List (Worker M)) : Type 0 where
   pub machines : List M

@@ -17,8 +17,8 @@ use std::sync::Wait;
 use striped_objects::Striped;
 use wasm_types::NoMemory;
 
-/// Tries to enter a call of a thread, and gives it the reply. Answers whether the call was entered. The memory that the thread may
-/// want is had before.
+/// Tries to enter a call of a thread, and gives it the reply. Answers whether the call was entered. The memory that the
+/// thread may want is had before.
 pub(crate) fn enter<M: Machine<S>, S: Striped, J: Opening<S, S::Value, S::Fixed>, R: Wait, H: Hold>(
     rt: &R,
     alloc: Global,

@@ -8,9 +8,9 @@ use rw_objects::{Machine, ObjectSpace};
 use std::alloc::Global;
 use wasm_types::NoMemory;
 
-/// The same thread in memory for which the caller asks. A thread of the system that drives it so writes its local steps into lines
-/// of memory that no other thread writes: what one thread asks for lies one behind the other, and what two threads write into one
-/// line is handed from processor to processor at each step.
+/// The same thread in memory for which the caller asks. A thread of the system that drives it so writes its local steps
+/// into lines of memory that no other thread writes: what one thread asks for lies one behind the other, and what two
+/// threads write into one line is handed from processor to processor at each step.
 pub fn own_thread<S: ObjectSpace, M: Machine<S>>(
     alloc: Global,
     thread: &Thread<M>,

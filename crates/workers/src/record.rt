@@ -61,8 +61,9 @@ fn stopped_threads<M: Drop>(
     Ok(threads)
 }
 
-/// Records what workers did that made this history, in its order, and then in rounds what they left undone. Each of them drove a machine
-/// that had made no step, over a space that no thread had touched. Where memory was wanted for one of them, no recording is answered.
+/// Records what workers did that made this history, in its order, and then in rounds what they left undone. Each of
+/// them drove a machine that had made no step, over a space that no thread had touched. Where memory was wanted for one
+/// of them, no recording is answered.
 pub fn record_history<S: Striped + Drop, X, M: Machine<S, State = X> + Drop, R: Wait>(
     rt: &R,
     alloc: Global,
@@ -84,9 +85,9 @@ pub fn record_history<S: Striped + Drop, X, M: Machine<S, State = X> + Drop, R: 
     record_rest(rt, alloc, world, entries, steps)
 }
 
-/// Records a run by workers, each in a thread of its own, of machines that made no step, over a space that no thread has touched.
-/// Each thread makes no more than `steps` steps, at most 1,000,000,000. What the workers leave undone is done in rounds. Where
-/// memory is wanted for one of them all others end first, and no recording is answered.
+/// Records a run by workers, each in a thread of its own, of machines that made no step, over a space that no thread
+/// has touched. Each thread makes no more than `steps` steps, at most 1,000,000,000. What the workers leave undone is
+/// done in rounds. Where memory is wanted for one of them all others end first, and no recording is answered.
 pub fn record_workers<
     S: Striped + Drop + Send + Sync,
     X,

@@ -19,8 +19,8 @@ use std::sync::Wait;
 use striped_objects::Striped;
 use wasm_types::NoMemory;
 
-/// Where the thread sleeps with a limit of time and the timer says that it is over, tries to go on by a time-out. Answers
-/// whether the thread went on.
+/// Where the thread sleeps with a limit of time and the timer says that it is over, tries to go on by a time-out.
+/// Answers whether the thread went on.
 fn time_out<
     M: Machine<S>,
     S: Striped,
@@ -61,7 +61,8 @@ fn time_out<
     }
 }
 
-/// Sleeps until the thread goes on, since it was woken or by a time-out, or until no seat can go on. Answers whether it went on.
+/// Sleeps until the thread goes on, since it was woken or by a time-out, or until no seat can go on. Answers whether it
+/// went on.
 fn sleep<M: Machine<S>, S: Striped, J: Opening<S, S::Value, S::Fixed>, T: Timer, R: Wait, H: Hold>(
     rt: &R,
     alloc: Global,

@@ -7,8 +7,8 @@ pub trait Timer {
     /// Whether it can ever say so, of a thread and a number of nanoseconds.
     ghost can_expire: { ℕ → ℕ → Bool };
 
-    /// Whether a thread that sleeps has waited for so many nanoseconds. `changes` is how many calls were entered since it fell
-    /// asleep.
+    /// Whether a thread that sleeps has waited for so many nanoseconds. `changes` is how many calls were entered since
+    /// it fell asleep.
     fn expired(&self, thread: u32, nanos: u64, changes: u64) -> bool
         ensures { result ≡ true → can_expire thread nanos ≡ true };
 }

@@ -1,4 +1,5 @@
--- The double writes so far and those of the writes that are left are all; the map has where each version was written first.
+-- The double writes so far and those of the writes that are left are all; the map has where each version was written
+-- first.
 use Rattle.std.proofs.Common.{◌≡◌, ◌++◌, [], take, drop}
 use Rattle.std.specs.BTreeMap as tree
 use Rattle.log_divergence.specs.declared.writes.Written.{Written}

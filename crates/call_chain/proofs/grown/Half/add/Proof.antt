@@ -28,11 +28,13 @@ add_spec 𝓤 𝓛 𝓜 𝓡 wired =
     move ! (3 ∷ []) $ rewrite ! 0 (λ (γ : ℕ). ‵ (half_owns γ other.number)) (sym asked) refl $ move ! (2 ∷ 0 ∷ []) $
     use2 𝓛 (later (‵ (half_owns me.name (me.number + n)) ⊛ ‵ (half_owns me.name (other.number + n)))) (number_grows 𝓛 me.name me.number other.number n) $ await ! tt $ split ! $
     move ! (1 ∷ []) $ rewrite ! 0 (λ (γ : ℕ). ‵ (half_owns γ (other.number + n))) asked refl $
-    -- [the second's right; the first's; the first's fields; the second's fields; the second's cell and open borrow; the first's]
+    -- [the second's right; the first's; the first's fields; the second's fields; the second's cell and open borrow; the
+    -- first's]
     move ! (3 ∷ 0 ∷ []) $ fjoin ! $ move ! (3 ∷ 0 ∷ 4 ∷ 5 ∷ 6 ∷ []) $ closes ! tt Row other' ws b' o' $
     move ! (4 ∷ 3 ∷ []) $ fjoin ! $ move ! (4 ∷ 0 ∷ 5 ∷ 6 ∷ 7 ∷ []) $ closes ! tt Row me' vs b o $
     sets ! (of_opd ! (unit_lit !)) refl (tt, tt) $ feq_i ! (List Val) (vunit ∷ []) (vunit ∷ []) refl $
-    -- [the result; the first's last value's half; its borrow; its token; the second's last value's half; its borrow; its token]
+    -- [the result; the first's last value's half; its borrow; its token; the second's last value's half; its borrow;
+    -- its token]
     nothing ! $ move ! (7 ∷ 0 ∷ []) $ fjoin ! $ move ! (4 ∷ 0 ∷ []) $ fjoin ! $ nothing ! $ nothing ! $ fjoin ! $
     feq_i ! (List Val) (vptr b' o' ∷ []) (vptr b' o' ∷ []) refl $ move ! (0 ∷ 6 ∷ 7 ∷ []) $ fjoin3 ! $ fjoin ! $
     feq_i ! (List Val) (vptr b o ∷ []) (vptr b o ∷ []) refl $ move ! (0 ∷ 4 ∷ 5 ∷ []) $ fjoin3 ! $ fjoin ! $
