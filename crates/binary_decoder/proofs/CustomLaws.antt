@@ -152,10 +152,10 @@ fails_behind e (c ∷ cs) after b h f =
 
     fails_by : (e : DecodeFault) (r : Reading (List ℕ)) (total : Result (List ℕ) Fault) → total ≡ (r >>= λ x. skipped x.1) → Fails e (r >>= λ x. passed x.1) → Fails e total
     fails_by NoMemory r total s f = tt
-    fails_by TooLarge (Err d) total s f = s ∙ errs d Oversized f
-    fails_by TooLarge (Ok p) total s f = absurd cc
-    fails_by (Refused offset) (Err d) total s f = s ∙ errs d Malformed f
-    fails_by (Refused offset) (Ok p) total s f = absurd cc
+    fails_by (TooLarge limit count place) (Err d) total s f = s ∙ errs d Oversized f
+    fails_by (TooLarge limit count place) (Ok p) total s f = absurd cc
+    fails_by (Refused offset place cause) (Err d) total s f = s ∙ errs d Malformed f
+    fails_by (Refused offset place cause) (Ok p) total s f = absurd cc
 
 pub nothing_skipped : (bytes : List ℕ) → begins 0 bytes ≡ false → skipped bytes ≡ Ok bytes
 nothing_skipped [] b = skipped_settled [] tt
@@ -167,5 +167,5 @@ nothing_skipped (c ∷ cs) b = let k = eqb-false c 0 b in skipped_settled (c ∷
 
 pub fails_from : (e : DecodeFault) (bytes total : List ℕ) → skipped bytes ≡ skipped total → Fails e (skipped bytes) → Fails e (skipped total)
 fails_from NoMemory bytes total s f = tt
-fails_from TooLarge bytes total s f = sym s ∙ f
-fails_from (Refused offset) bytes total s f = sym s ∙ f
+fails_from (TooLarge limit count place) bytes total s f = sym s ∙ f
+fails_from (Refused offset place cause) bytes total s f = sym s ∙ f

@@ -54,11 +54,11 @@ pub ends : {X : Type 0} (item : List ℕ → Reading X) (e : DecodeFault) (front
     → with_front front (items_at item (count - i) bytes) ≡ total → Fails e total
 unfolding items_at
 ends item NoMemory front count i bytes total lt h so_far = tt
-ends item TooLarge front count i bytes total lt h so_far =
+ends item (TooLarge limit past place) front count i bytes total lt h so_far =
     let k : count - i ≡ suc (count - (i + 1)) = omega arith in
     let one : with_front front (items_at item (count - i) bytes) ≡ Err Oversized = rw (k, h) refl in
     sym so_far ∙ one
-ends item (Refused at) front count i bytes total lt h so_far =
+ends item (Refused at place cause) front count i bytes total lt h so_far =
     let k : count - i ≡ suc (count - (i + 1)) = omega arith in
     let one : with_front front (items_at item (count - i) bytes) ≡ Err Malformed = rw (k, h) refl in
     sym so_far ∙ one
@@ -122,8 +122,8 @@ fail_step : (e : DecodeFault) (front : List Instr) (labels : List ℕ) (blocks :
 unfolding instrs_at
 fail_step e front labels [] bytes n full h total so_far = absurd (omega arith)
 fail_step NoMemory front labels (o ∷ blocks) bytes n full h total so_far = tt
-fail_step TooLarge front labels (o ∷ blocks) bytes n full h total so_far = sym so_far ∙ rw h refl
-fail_step (Refused at) front labels (o ∷ blocks) bytes n full h total so_far = sym so_far ∙ rw h refl
+fail_step (TooLarge limit count place) front labels (o ∷ blocks) bytes n full h total so_far = sym so_far ∙ rw h refl
+fail_step (Refused at place cause) front labels (o ∷ blocks) bytes n full h total so_far = sym so_far ∙ rw h refl
 
 done_step : (front : List Instr) (labels : List ℕ) (n : ℕ) (bytes : List ℕ) → with_instrs front (instrs_at n labels [] bytes) ≡ Ok ((front, labels), bytes)
 unfolding instrs_at
@@ -170,8 +170,8 @@ full_when v e = let k : vec_len v ≡ 0 → ⊥ = eqb-false _ _ (sym e) in omega
 group_fails : (e : DecodeFault) (front : List LocalGroup) (used n : ℕ) (bytes : List ℕ) (total : Reading (List LocalGroup)) → with_front front (groups_at true used (suc n) bytes) ≡ total → Fails e (group_at true used bytes) → Fails e total
 unfolding groups_at
 group_fails NoMemory front used n bytes total so_far h = tt
-group_fails TooLarge front used n bytes total so_far h = sym so_far ∙ rw h refl
-group_fails (Refused at) front used n bytes total so_far h = sym so_far ∙ rw h refl
+group_fails (TooLarge limit count place) front used n bytes total so_far h = sym so_far ∙ rw h refl
+group_fails (Refused at place cause) front used n bytes total so_far h = sym so_far ∙ rw h refl
 
 module _ (front : List LocalGroup) (used len i : ℕ) (bytes : List ℕ) (total : Reading (List LocalGroup)) (so_far : with_front front (groups_at true used (len - i) bytes) ≡ total) where
   pub groups_go_on : (g : LocalGroup) (after : List ℕ) → i < len → group_at true used bytes ≡ Ok (g, after) → with_front (front ++ g ∷ []) (groups_at true (used + g.count) (len - (i + 1)) after) ≡ total
@@ -200,8 +200,8 @@ next_of fs i f lt is = rw (add-one, drop-cons fs i 0) (ap (λ (x : ℕ). x ∷ d
 body_fails : (e : DecodeFault) (front : List Body) (params : ℕ) (others : List ℕ) (bytes : List ℕ) (total : Reading (List Body)) → with_front front (bodies_at true (params ∷ others) bytes) ≡ total → Fails e (body_at true params bytes) → Fails e total
 unfolding bodies_at
 body_fails NoMemory front params others bytes total so_far h = tt
-body_fails TooLarge front params others bytes total so_far h = sym so_far ∙ rw h refl
-body_fails (Refused at) front params others bytes total so_far h = sym so_far ∙ rw h refl
+body_fails (TooLarge limit count place) front params others bytes total so_far h = sym so_far ∙ rw h refl
+body_fails (Refused at place cause) front params others bytes total so_far h = sym so_far ∙ rw h refl
 
 module _ (types : List FuncType) (functions : List ℕ) (front : List Body) (i : ℕ) (bytes : List ℕ) (total : Reading (List Body)) (so_far : with_front front (bodies_at true (map (params_of types) (drop i functions)) bytes) ≡ total) where
   pub bodies_go_on : (f : ℕ) (b : Body) (after : List ℕ) → i < length functions → f ≡ get_or functions i 0 → body_at true (params_of types f) bytes ≡ Ok (b, after) → with_front (front ++ b ∷ []) (bodies_at true (map (params_of types) (drop (i + 1) functions)) after) ≡ total

@@ -141,18 +141,18 @@ judged_large bytes e m s w = subst (λ (r : Result Parts Fault). ToldAll (Fits1 
 
 pub refused_when : (bytes : List ℕ) (e : DecodeFault) → Fails e (parts_at true bytes) → IsRefused (err e) → (m : Module) → Spells m bytes → ⊥
 refused_when bytes NoMemory f h = absurd h
-refused_when bytes TooLarge f h = absurd h
-refused_when bytes (Refused at) f h = judged_refused bytes f
+refused_when bytes (TooLarge limit count place) f h = absurd h
+refused_when bytes (Refused at place cause) f h = judged_refused bytes f
 
 pub large_when : (bytes : List ℕ) (e : DecodeFault) → Fails e (parts_at true bytes) → IsTooLarge (err e) → (m : Module) → Spells m bytes → Within m → ⊥
 large_when bytes NoMemory f h = absurd h
-large_when bytes TooLarge f h = judged_large bytes f
-large_when bytes (Refused at) f h = absurd h
+large_when bytes (TooLarge limit count place) f h = judged_large bytes f
+large_when bytes (Refused at place cause) f h = absurd h
 
 pub first_when : (bytes : List ℕ) (e : DecodeFault) → length bytes ≤ 1048576 → Fails e (parts_at true bytes) → IsFirst bytes e
 first_when bytes NoMemory le f = tt
-first_when bytes TooLarge le f = inr f
-first_when bytes (Refused at) le f = (le, f)
+first_when bytes (TooLarge limit count place) le f = inr f
+first_when bytes (Refused at place cause) le f = (le, f)
 
 -- ---- one module
 

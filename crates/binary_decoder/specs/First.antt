@@ -8,6 +8,6 @@ use Rattle.binary_decoder.specs.Reader.{parts_at}
 -- more than 1,048,576 bytes are too large, whatever they are; of others the first fault counts, be it of the grammar or
 -- of a limit
 abbrev pub IsFirst : List ℕ → DecodeFault → Type 0
-IsFirst bytes (Refused offset) = (length bytes ≤ 1048576) × (parts_at true bytes ≡ Err Malformed)
-IsFirst bytes TooLarge = (1048576 < length bytes) ⊎ (parts_at true bytes ≡ Err Oversized)
+IsFirst bytes (Refused offset place cause) = (length bytes ≤ 1048576) × (parts_at true bytes ≡ Err Malformed)
+IsFirst bytes (TooLarge limit count place) = (1048576 < length bytes) ⊎ (parts_at true bytes ≡ Err Oversized)
 IsFirst bytes NoMemory = Unit {0}

@@ -1,13 +1,13 @@
 //! The bodies of functions.
 
 ghost use Rattle.std.specs.Prelude.{◌≡◌, ◌+◌, ◌≤◌, ◌<◌, ◌^◌, map, length, IfOk, true};
-ghost use Rattle.byte_reader.specs.Moves.{Moves, MovesBy, IsRefusal};
+ghost use Rattle.byte_reader.specs.Moves.{Moves, MovesBy, IsRefusedAt};
 ghost use Rattle.wasm_types.specs.Limits.{params_of};
 ghost use Rattle.binary_decoder.specs.Reader.{group_at, groups_at, locals_at, inside_at, body_at, bodies_at, code_at};
 
 use crate::instructions::expr;
 use crate::parts::Spelled;
-use byte_reader::{Cursor, DecodeFault};
+use byte_reader::{Cause, Cursor, DecodeFault, Limit, Place, SectionFault, clamped};
 use std::alloc::Global;
 use wasm_types::{Body, Enclosing, FuncType, Items, LocalGroup, ValType};
 
@@ -21,7 +21,7 @@ fn group(alloc: Global, used: u32, cursor: &mut Cursor) -> Result<LocalGroup, De
     ensures value { Moves result cursor.new.rest.now (group_at true used cursor.old.rest.now) }
     ensures fits { IfOk result (λ group. used + group.count ≤ 1024) }
 {
-    let count = cursor.limited(MOST_LOCALS, used)?;
+    let count = cursor.limited(MOST_LOCALS, used, Limit::Locals)?;
     let val_type = ValType::read(alloc, cursor)?;
     Ok(LocalGroup { count, val_type })
 }
@@ -87,7 +87,11 @@ fn body(
     ensures { Moves result cursor.new.rest.now (body_at true params cursor.old.rest.now) }
 {
     if (MOST_LOCALS as usize) < params {
-        return Err(DecodeFault::TooLarge);
+        return Err(DecodeFault::TooLarge {
+            limit: Limit::Parameters,
+            count: params as u64,
+            place: Place::Unknown,
+        });
     }
     let mut content = cursor.sized()?;
     let body = inside(alloc, blocks, params as u32, &mut content)?;
@@ -118,28 +122,43 @@ fn bodies(
     // The blocks that are open in the body that is read.
     let mut blocks = Vec::new(alloc);
     for function in functions {
-        let body = body(alloc, &mut blocks, params_in(types, *function), cursor)?;
+        let body = match body(alloc, &mut blocks, params_in(types, *function), cursor) {
+            Ok(body) => body,
+            Err(fault) => return Err(fault.in_function(bodies.len())),
+        };
         bodies.push(body)?;
     }
     Ok(bodies)
 }
 
-/// The content of the code section: as many bodies as there are functions. Refused at the code section's id where it
-/// counts others.
+/// The refusal of a code section, the id of which has the offset `start`, that counts other bodies than there are
+/// functions.
+#[cold]
+fn other_count(start: usize, bodies: u32, functions: usize) -> DecodeFault
+    ensures { IsRefusedAt start result }
+{
+    let functions = clamped(functions);
+    DecodeFault::refused(
+        start,
+        Cause::Section(SectionFault::Bodies { bodies, functions }),
+    )
+}
+
+/// The content of the code section: as many bodies as there are functions. Refused at the code section's id, which has
+/// the offset `start`, where it counts others.
 #[tactic(auto, unfolding(crate::specs::Reader::code_at))]
 pub fn code(
     alloc: Global,
     types: &[FuncType],
     functions: &[u32],
-    refusal: DecodeFault,
+    start: usize,
     cursor: &mut Cursor,
 ) -> Result<Vec<Body>, DecodeFault>
-    requires { IsRefusal refusal }
     ensures { MovesBy (λ x. x.items) result cursor.new.rest.now (code_at true (map (params_of types.now) functions.now) cursor.old.rest.now) }
 {
     let count = cursor.unsigned_32()?;
     if count as usize != functions.len() {
-        return Err(refusal);
+        return Err(other_count(start, count, functions.len()));
     }
     bodies(alloc, types, functions, cursor)
 }

@@ -1,42 +1,48 @@
 //! Instructions.
 
 ghost use Rattle.std.specs.Prelude.{◌≡◌, ◌+◌, ◌<◌, ◌≤◌, ◌^◌, length, reverse, IfOk, Some, None, if◌then◌else◌};
-ghost use Rattle.byte_reader.specs.Moves.{Moves, MovesBy, IsRefusal};
+ghost use Rattle.byte_reader.specs.Moves.{Moves, MovesBy, IsRefusedAt};
 ghost use Rattle.wasm_types.specs.Nesting.{nesting_of, opened};
 ghost use Rattle.binary_decoder.specs.Reader.{atomic_operands_at, prefixed_at, simple_at, branch_table_at, operands_at, instr_at, expr_at};
 
 use crate::opcodes::{AtomicCode, Opcode, atomic_code, opcode_of_byte};
 use crate::parts::{block_type, constant, mem_arg, push_items};
-use byte_reader::{Cursor, DecodeFault};
+use byte_reader::{Cause, CodeFault, Cursor, DecodeFault, Expected, OpCode};
 use std::alloc::{AllocError, Global};
 use wasm_types::{Enclosing, Instr, LabelRange, Nesting};
 
-/// What stands behind the prefix: a number, and its operands.
+/// The refusal at an offset, where an instruction outside the profile begins.
+#[cold]
+fn outside(offset: usize, code: OpCode) -> DecodeFault
+    ensures { IsRefusedAt offset result }
+{
+    DecodeFault::refused(offset, Cause::Code(CodeFault::Outside(code)))
+}
+
+/// What stands behind the prefix: a number, and its operands. The prefix has the offset `start`.
 #[tactic(auto, unfolding(crate::specs::Reader::atomic_operands_at, crate::specs::Reader::prefixed_at))]
-fn prefixed(refusal: DecodeFault, cursor: &mut Cursor) -> Result<Instr, DecodeFault>
-    requires { IsRefusal refusal }
+fn prefixed(start: usize, cursor: &mut Cursor) -> Result<Instr, DecodeFault>
     ensures { Moves result cursor.new.rest.now (prefixed_at cursor.old.rest.now) }
 {
     let Ok(code) = cursor.unsigned_32() else {
-        return Err(refusal);
+        return Err(outside(start, OpCode::Byte(0xFE)));
     };
     match atomic_code(code) {
-        None => Err(refusal),
+        None => Err(outside(start, OpCode::Atomic(code))),
         Some(AtomicCode::Op(op)) => {
             let arg = mem_arg(cursor)?;
             Ok(Instr::Atomic(op, arg))
         }
         Some(AtomicCode::Fence) => {
-            cursor.expect(0x00)?;
+            cursor.expect(0x00, Expected::FenceByte)?;
             Ok(Instr::Fence)
         }
     }
 }
 
-/// The operands of an instruction that has no labels of its own.
+/// The operands of an instruction that has no labels of its own. The instruction has the offset `start`.
 #[tactic(auto, unfolding(crate::specs::Reader::simple_at))]
-fn simple(refusal: DecodeFault, opcode: Opcode, cursor: &mut Cursor) -> Result<Instr, DecodeFault>
-    requires { IsRefusal refusal }
+fn simple(start: usize, opcode: Opcode, cursor: &mut Cursor) -> Result<Instr, DecodeFault>
     ensures { Moves result cursor.new.rest.now (simple_at opcode cursor.old.rest.now) }
 {
     match opcode {
@@ -50,10 +56,10 @@ fn simple(refusal: DecodeFault, opcode: Opcode, cursor: &mut Cursor) -> Result<I
             let index = cursor.unsigned_32()?;
             Ok(Instr::Index(op, index))
         }
-        Opcode::BranchTable => Err(refusal),
+        Opcode::BranchTable => Err(outside(start, OpCode::Byte(0x0E))),
         Opcode::CallIndirect => {
             let index = cursor.unsigned_32()?;
-            cursor.expect(0x00)?;
+            cursor.expect(0x00, Expected::TableNumber)?;
             Ok(Instr::CallIndirect(index))
         }
         Opcode::Memory(op) => {
@@ -61,14 +67,14 @@ fn simple(refusal: DecodeFault, opcode: Opcode, cursor: &mut Cursor) -> Result<I
             Ok(Instr::Memory(op, arg))
         }
         Opcode::Pages(op) => {
-            cursor.expect(0x00)?;
+            cursor.expect(0x00, Expected::MemoryNumber)?;
             Ok(Instr::Pages(op))
         }
         Opcode::Const(val_type) => {
             let value = constant(val_type, cursor)?;
             Ok(Instr::Const(value))
         }
-        Opcode::Prefix => prefixed(refusal, cursor),
+        Opcode::Prefix => prefixed(start, cursor),
     }
 }
 
@@ -99,12 +105,14 @@ fn instruction(
     requires { length labels.now.items < 2 ^ 32 }
     ensures { MovesBy (λ i. (i, labels.new.items)) result cursor.new.rest.now (instr_at labels.old.items cursor.old.rest.now) }
 {
-    let refusal = cursor.refusal();
-    let code = cursor.byte()?;
+    let start = cursor.offset();
+    let Ok(code) = cursor.byte() else {
+        return Err(DecodeFault::refused(start, Cause::Code(CodeFault::NoEnd)));
+    };
     match opcode_of_byte(code) {
-        None => Err(refusal),
+        None => Err(outside(start, cursor.op_code(code))),
         Some(Opcode::BranchTable) => branch_table(alloc, cursor, labels),
-        Some(opcode) => simple(refusal, opcode, cursor),
+        Some(opcode) => simple(start, opcode, cursor),
     }
 }
 
@@ -155,15 +163,20 @@ pub fn expr(
         if blocks.is_empty() {
             return Ok((instrs, labels));
         }
-        let refusal = cursor.refusal();
-        let instr = instruction(alloc, cursor, &mut labels)?;
+        let start = cursor.offset();
+        let instr = match instruction(alloc, cursor, &mut labels) {
+            Ok(instr) => instr,
+            Err(fault) => return Err(fault.in_instruction(instrs.len())),
+        };
         if !follow(blocks, &instr)? {
-            return Err(refusal);
+            let fault = DecodeFault::refused(start, Cause::Code(CodeFault::Else));
+            return Err(fault.in_instruction(instrs.len()));
         }
         instrs.push(instr)?;
     }
     if blocks.is_empty() {
         return Ok((instrs, labels));
     }
-    Err(cursor.refusal())
+    let fault = cursor.refusal(Cause::Code(CodeFault::NoEnd));
+    Err(fault.in_instruction(instrs.len()))
 }

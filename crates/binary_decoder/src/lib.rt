@@ -3,9 +3,11 @@
 #![tactic(auto)]
 
 mod functions;
+mod header;
 mod instructions;
 mod module;
 mod opcodes;
+mod order;
 mod parts;
 mod sections;
 mod texts;

@@ -8,8 +8,10 @@ ghost use Rattle.wasm_types.specs.Limits.{Within};
 ghost use Rattle.binary_decoder.specs.First.{IsFirst};
 ghost use Rattle.binary_decoder.specs.Reader.{parts_at};
 
+use crate::header::header_refusal;
+use crate::order::ordered;
 use crate::sections::{Sections, read_sections};
-use byte_reader::{Cursor, DecodeFault};
+use byte_reader::{Cursor, DecodeFault, Limit, Place};
 use std::alloc::Global;
 use wasm_types::{Items, Module};
 
@@ -23,10 +25,15 @@ fn behind_preamble(alloc: Global, bytes: &[u8]) -> Result<Sections, DecodeFault>
 {
     match bytes {
         [0x00, 0x61, 0x73, 0x6D, 0x01, 0x00, 0x00, 0x00, rest @ ..] => {
-            read_sections(alloc, &mut Cursor::new(rest, 8))
+            let start = Cursor::new(rest, 8);
+            let mut cursor = start;
+            match read_sections(alloc, &mut cursor) {
+                Ok(sections) => Ok(sections),
+                Err(fault) => Err(ordered(fault, &start)),
+            }
         }
-        [0x00, 0x61, 0x73, 0x6D, ..] => Err(DecodeFault::Refused { offset: 4 }),
-        _ => Err(DecodeFault::Refused { offset: 0 }),
+        [0x00, 0x61, 0x73, 0x6D, ..] => Err(header_refusal(4, bytes)),
+        _ => Err(header_refusal(0, bytes)),
     }
 }
 
@@ -45,7 +52,11 @@ pub fn decode(alloc: Global, bytes: &[u8]) -> Result<Module, DecodeFault>
     ensures first { IfErr result (IsFirst bytes.now) }
 {
     if MOST_BYTES < bytes.len() {
-        return Err(DecodeFault::TooLarge);
+        return Err(DecodeFault::TooLarge {
+            limit: Limit::Bytes,
+            count: bytes.len() as u64,
+            place: Place::End,
+        });
     }
     let found = behind_preamble(alloc, bytes)?;
     let source = Vec::from_slice(alloc, bytes)?;

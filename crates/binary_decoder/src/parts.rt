@@ -3,10 +3,10 @@
 ghost use Rattle.std.specs.Prelude.{◌≡◌, List, ℕ, true};
 ghost use Rattle.byte_reader.specs.Fault.{Reading};
 ghost use Rattle.byte_reader.specs.Reading.{u32_at, items_at, vector_at, byte_vector_at, name_at};
-ghost use Rattle.byte_reader.specs.Moves.{Moves, MovesBy};
+ghost use Rattle.byte_reader.specs.Moves.{Moves, MovesBy, kind_of};
 ghost use Rattle.binary_decoder.specs.Reader.{with_front, val_type_at, func_type_at, block_type_at, flag_of, choice_at, sizes_at, table_type_at, memory_type_at, constant_at, const_expr_at, mem_arg_at, import_at, global_at, export_kind_of, export_at, element_at, data_at};
 
-use byte_reader::{Cursor, DecodeFault};
+use byte_reader::{Cause, CodeFault, Cursor, DecodeFault, Expected, ItemFault, Limit, TypeFault};
 use std::alloc::Global as Alloc;
 use wasm_types::{
     Data, Element, Export, ExportKind, FuncType, Global, Import, Items, Limits, MemArg, MemoryType,
@@ -29,6 +29,7 @@ pub trait Spelled: Sized + Drop {
 }
 
 /// Reads so many items, behind those that were read before.
+#[inline(always)]
 pub fn push_items<T: Spelled>(
     alloc: Alloc,
     count: u32,
@@ -38,7 +39,10 @@ pub fn push_items<T: Spelled>(
     ensures { MovesBy (λ _. items.new.items) result cursor.new.rest.now (with_front items.old.items (items_at T.reading count cursor.old.rest.now)) }
 {
     for _ in 0..count {
-        let item = T::read(alloc, cursor)?;
+        let item = match T::read(alloc, cursor) {
+            Ok(item) => item,
+            Err(fault) => return Err(fault.in_item(items.len())),
+        };
         items.push(item)?;
     }
     Ok(())
@@ -73,6 +77,7 @@ fn name(alloc: Alloc, cursor: &mut Cursor) -> Result<Items<u8>, DecodeFault>
 impl Spelled for u32 {
     ghost reading = { u32_at };
 
+    #[inline(always)]
     fn read(_alloc: Alloc, cursor: &mut Cursor) -> Result<u32, DecodeFault> {
         cursor.unsigned_32()
     }
@@ -81,13 +86,14 @@ impl Spelled for u32 {
 impl Spelled for ValType {
     ghost reading = { val_type_at };
 
+    #[inline(always)]
     #[tactic(auto, unfolding(crate::specs::Reader::val_type_at))]
     fn read(_alloc: Alloc, cursor: &mut Cursor) -> Result<ValType, DecodeFault> {
-        let refusal = cursor.refusal();
+        let start = cursor.offset();
         match cursor.byte()? {
             0x7F => Ok(ValType::I32),
             0x7E => Ok(ValType::I64),
-            _ => Err(refusal),
+            code => Err(DecodeFault::refused(start, Cause::Type(TypeFault::Value(code)))),
         }
     }
 }
@@ -97,7 +103,7 @@ impl Spelled for FuncType {
 
     #[tactic(auto, unfolding(crate::specs::Reader::func_type_at))]
     fn read(alloc: Alloc, cursor: &mut Cursor) -> Result<FuncType, DecodeFault> {
-        cursor.expect(0x60)?;
+        cursor.expect(0x60, Expected::Form)?;
         let params = vector::<ValType>(alloc, cursor)?;
         let results = vector::<ValType>(alloc, cursor)?;
         Ok(FuncType { params, results })
@@ -109,21 +115,26 @@ impl Spelled for FuncType {
 pub fn block_type(cursor: &mut Cursor) -> Result<Option<ValType>, DecodeFault>
     ensures { Moves result cursor.new.rest.now (block_type_at cursor.old.rest.now) }
 {
-    let refusal = cursor.refusal();
+    let start = cursor.offset();
     match cursor.byte()? {
         0x40 => Ok(None),
         0x7F => Ok(Some(ValType::I32)),
         0x7E => Ok(Some(ValType::I64)),
-        _ => Err(refusal),
+        code => Err(DecodeFault::refused(start, Cause::Type(TypeFault::Block(code)))),
     }
 }
 
 /// A least size that keeps the limit, and perhaps a greatest one.
 #[tactic(auto, unfolding(crate::specs::Reader::sizes_at))]
-fn sizes(most: u32, has_maximum: bool, cursor: &mut Cursor) -> Result<Limits, DecodeFault>
+fn sizes(
+    most: u32,
+    limit: Limit,
+    has_maximum: bool,
+    cursor: &mut Cursor,
+) -> Result<Limits, DecodeFault>
     ensures { Moves result cursor.new.rest.now (sizes_at true most has_maximum cursor.old.rest.now) }
 {
-    let minimum = cursor.limited(most, 0)?;
+    let minimum = cursor.limited(most, 0, limit)?;
     let maximum = if has_maximum {
         Some(cursor.unsigned_32()?)
     } else {
@@ -132,15 +143,34 @@ fn sizes(most: u32, has_maximum: bool, cursor: &mut Cursor) -> Result<Limits, De
     Ok(Limits { minimum, maximum })
 }
 
+/// What the byte `00` or `01` is of.
+#[derive(Clone, Copy)]
+enum Flag {
+    /// Whether a table has a greatest size.
+    TableLimits,
+    /// Whether a global is mutable.
+    Mutability,
+}
+
+impl Flag {
+    /// What is wrong with another byte.
+    fn cause(self, byte: u8) -> Cause {
+        match self {
+            Flag::TableLimits => Cause::Type(TypeFault::TableLimits(byte)),
+            Flag::Mutability => Cause::Type(TypeFault::Mutability(byte)),
+        }
+    }
+}
+
 /// The byte `00` or `01`.
-fn flag(cursor: &mut Cursor) -> Result<bool, DecodeFault>
+fn read_flag(flag: Flag, cursor: &mut Cursor) -> Result<bool, DecodeFault>
     ensures { Moves result cursor.new.rest.now (choice_at flag_of cursor.old.rest.now) }
 {
-    let refusal = cursor.refusal();
+    let start = cursor.offset();
     match cursor.byte()? {
         0x00 => Ok(false),
         0x01 => Ok(true),
-        _ => Err(refusal),
+        byte => Err(DecodeFault::refused(start, flag.cause(byte))),
     }
 }
 
@@ -150,9 +180,9 @@ impl Spelled for Limits {
 
     #[tactic(auto, unfolding(crate::specs::Reader::table_type_at))]
     fn read(_alloc: Alloc, cursor: &mut Cursor) -> Result<Limits, DecodeFault> {
-        cursor.expect(0x70)?;
-        let has_maximum = flag(cursor)?;
-        sizes(MOST_ELEMENTS, has_maximum, cursor)
+        cursor.expect(0x70, Expected::Table)?;
+        let has_maximum = read_flag(Flag::TableLimits, cursor)?;
+        sizes(MOST_ELEMENTS, Limit::Elements, has_maximum, cursor)
     }
 }
 
@@ -162,14 +192,17 @@ impl Spelled for MemoryType {
 
     #[tactic(auto, unfolding(crate::specs::Reader::memory_type_at, crate::specs::Reader::memory_sizes_at))]
     fn read(_alloc: Alloc, cursor: &mut Cursor) -> Result<MemoryType, DecodeFault> {
-        let refusal = cursor.refusal();
+        let start = cursor.offset();
         let (has_maximum, shared) = match cursor.byte()? {
             0x00 => (false, false),
             0x01 => (true, false),
             0x03 => (true, true),
-            _ => return Err(refusal),
+            flag => {
+                let cause = Cause::Type(TypeFault::MemoryLimits(flag));
+                return Err(DecodeFault::refused(start, cause));
+            }
         };
-        let limits = sizes(MOST_INITIAL_PAGES, has_maximum, cursor)?;
+        let limits = sizes(MOST_INITIAL_PAGES, Limit::Pages, has_maximum, cursor)?;
         Ok(MemoryType { limits, shared })
     }
 }
@@ -196,18 +229,23 @@ pub fn constant(val_type: ValType, cursor: &mut Cursor) -> Result<Value, DecodeF
 fn const_expr(cursor: &mut Cursor) -> Result<Value, DecodeFault>
     ensures { Moves result cursor.new.rest.now (const_expr_at cursor.old.rest.now) }
 {
-    let refusal = cursor.refusal();
+    let start = cursor.offset();
     let val_type = match cursor.byte()? {
         0x41 => ValType::I32,
         0x42 => ValType::I64,
-        _ => return Err(refusal),
+        byte => {
+            let code = cursor.op_code(byte);
+            let cause = Cause::Code(CodeFault::NotConstant(code));
+            return Err(DecodeFault::refused(start, cause));
+        }
     };
     let value = constant(val_type, cursor)?;
-    cursor.expect(0x0B)?;
+    cursor.expect(0x0B, Expected::ConstantEnd)?;
     Ok(value)
 }
 
 /// An alignment exponent and an offset.
+#[inline(always)]
 #[tactic(auto, unfolding(crate::specs::Reader::mem_arg_at))]
 pub fn mem_arg(cursor: &mut Cursor) -> Result<MemArg, DecodeFault>
     ensures { Moves result cursor.new.rest.now (mem_arg_at cursor.old.rest.now) }
@@ -222,9 +260,12 @@ impl Spelled for Import {
 
     #[tactic(auto, unfolding(crate::specs::Reader::import_at))]
     fn read(alloc: Alloc, cursor: &mut Cursor) -> Result<Import, DecodeFault> {
+        let names = cursor.offset();
         let module = name(alloc, cursor)?;
         let name = name(alloc, cursor)?;
-        cursor.expect(0x02)?;
+        if let Err(fault) = cursor.expect(0x02, Expected::Memory) {
+            return Err(fault.of_names(names));
+        }
         let memory = MemoryType::read(alloc, cursor)?;
         Ok(Import {
             module,
@@ -240,7 +281,7 @@ impl Spelled for Global {
     #[tactic(auto, unfolding(crate::specs::Reader::global_at))]
     fn read(alloc: Alloc, cursor: &mut Cursor) -> Result<Global, DecodeFault> {
         let val_type = ValType::read(alloc, cursor)?;
-        let mutable = flag(cursor)?;
+        let mutable = read_flag(Flag::Mutability, cursor)?;
         let value = const_expr(cursor)?;
         Ok(Global {
             val_type,
@@ -254,13 +295,13 @@ impl Spelled for Global {
 fn export_kind(cursor: &mut Cursor) -> Result<ExportKind, DecodeFault>
     ensures { Moves result cursor.new.rest.now (choice_at export_kind_of cursor.old.rest.now) }
 {
-    let refusal = cursor.refusal();
+    let start = cursor.offset();
     match cursor.byte()? {
         0x00 => Ok(ExportKind::Function),
         0x01 => Ok(ExportKind::Table),
         0x02 => Ok(ExportKind::Memory),
         0x03 => Ok(ExportKind::Global),
-        _ => Err(refusal),
+        kind => Err(DecodeFault::refused(start, Cause::Item(ItemFault::Export(kind)))),
     }
 }
 
@@ -276,13 +317,40 @@ impl Spelled for Export {
     }
 }
 
+/// The same fault, which says that a segment of this kind is not active, if it is of the offset's first byte, at
+/// `start`, and there is such a kind.
+#[cold]
+fn not_active(fault: DecodeFault, start: usize, kind: u32, cause: ItemFault) -> DecodeFault
+    ensures { kind_of result ≡ kind_of fault }
+{
+    match fault {
+        DecodeFault::Refused { offset, .. }
+            if offset as usize == start && (1..=7).contains(&kind) => {
+            fault.because(Cause::Item(cause))
+        }
+        _ => fault,
+    }
+}
+
+/// The offset of a segment, before which a number stands. Where no offset begins, that number is the segment's kind if
+/// it is from 1 to 7, and the fault is then this one.
+fn segment_offset(kind: u32, fault: ItemFault, cursor: &mut Cursor) -> Result<Value, DecodeFault>
+    ensures { Moves result cursor.new.rest.now (const_expr_at cursor.old.rest.now) }
+{
+    let start = cursor.offset();
+    match const_expr(cursor) {
+        Ok(value) => Ok(value),
+        Err(found) => Err(not_active(found, start, kind, fault)),
+    }
+}
+
 impl Spelled for Element {
     ghost reading = { element_at };
 
     #[tactic(auto, unfolding(crate::specs::Reader::element_at))]
     fn read(alloc: Alloc, cursor: &mut Cursor) -> Result<Element, DecodeFault> {
         let table = cursor.unsigned_32()?;
-        let offset = const_expr(cursor)?;
+        let offset = segment_offset(table, ItemFault::Element(table), cursor)?;
         let functions = vector::<u32>(alloc, cursor)?;
         Ok(Element {
             table,
@@ -298,7 +366,7 @@ impl Spelled for Data {
     #[tactic(auto, unfolding(crate::specs::Reader::data_at))]
     fn read(alloc: Alloc, cursor: &mut Cursor) -> Result<Data, DecodeFault> {
         let memory = cursor.unsigned_32()?;
-        let offset = const_expr(cursor)?;
+        let offset = segment_offset(memory, ItemFault::Data(memory), cursor)?;
         let bytes = byte_vector(alloc, cursor)?;
         Ok(Data {
             memory,

@@ -1,24 +1,49 @@
 //! The sections of a module.
 
-ghost use Rattle.std.specs.Prelude.{◌≡◌, [], None, IfOk, IfSome, map, option_map, true};
-ghost use Rattle.byte_reader.specs.Reading.{vector_at};
-ghost use Rattle.byte_reader.specs.Moves.{Moves, MovesBy, Gives, IsRefusal};
+ghost use Rattle.std.specs.Prelude.{◌≡◌, [], None, map, option_map, true};
+ghost use Rattle.byte_reader.specs.Reading.{vector_at, byte_vector_at, end_at};
+ghost use Rattle.byte_reader.specs.Moves.{Moves, MovesBy, Gives};
 ghost use Rattle.wasm_types.specs.Limits.{params_of};
 ghost use Rattle.binary_decoder.specs.Reader.{behind_custom_at, skipped, content_at, opening_at, section_at, start_at, code_at, end_sections_at, after_code_at, code_slot_at, after_start_at, after_memories_at, sections_at};
 
 use crate::functions::code;
+use crate::order::unexpected;
 use crate::parts::{Spelled, vector};
-use byte_reader::{Cursor, DecodeFault};
+use byte_reader::{Cause, Cursor, DecodeFault, Expected, Place, SectionFault, clamped};
 use std::alloc::Global as Alloc;
 use wasm_types::{
     Body, Data, Element, Export, FuncType, Global, Import, Items, Limits, MemoryType,
 };
 
-/// A section that was found: the refusal at its id, and its content.
+/// A section that was found: the offset of its id, and its content.
 #[derive(Clone, Copy)]
 struct Section<'a> {
-    refusal: DecodeFault,
+    start: usize,
     content: Cursor<'a>,
+}
+
+/// The content of the section of this id, behind the id.
+fn content<'a>(id: u8, cursor: &mut Cursor<'a>) -> Result<Cursor<'a>, DecodeFault>
+    ensures { MovesBy (λ c. c.rest.now) result cursor.new.rest.now (byte_vector_at cursor.old.rest.now) }
+{
+    match cursor.sized() {
+        Ok(content) => Ok(content),
+        Err(fault) => Err(fault.in_length_of(id)),
+    }
+}
+
+/// Nothing is left of the content of the section of this id.
+fn finish(id: u8, content: &Cursor) -> Result<(), DecodeFault>
+    ensures { Gives (λ _. tt) result (end_at content.now.rest.now) }
+{
+    match content.finish() {
+        Ok(()) => Ok(()),
+        Err(fault) => {
+            let left = clamped(content.rest().len());
+            let fault = fault.because(Cause::Section(SectionFault::LeftOver(left)));
+            Err(fault.in_section(id))
+        }
+    }
 }
 
 /// What stands behind the id of a custom section: a name, and any bytes.
@@ -26,9 +51,11 @@ struct Section<'a> {
 fn custom(cursor: &mut Cursor) -> Result<(), DecodeFault>
     ensures { MovesBy (λ _. tt) result cursor.new.rest.now (behind_custom_at cursor.old.rest.now) }
 {
-    let mut content = cursor.sized()?;
-    content.name()?;
-    Ok(())
+    let mut content = content(0, cursor)?;
+    match content.name() {
+        Ok(_) => Ok(()),
+        Err(fault) => Err(fault.in_section(0)),
+    }
 }
 
 /// Goes behind the custom sections.
@@ -36,7 +63,7 @@ fn skip_customs(cursor: &mut Cursor) -> Result<(), DecodeFault>
     ensures { Gives (λ _. cursor.new.rest.now) result (skipped cursor.old.rest.now) }
 {
     while cursor.is_at(0) {
-        cursor.expect(0)?;
+        cursor.expect(0, Expected::Section)?;
         custom(cursor)?;
     }
     Ok(())
@@ -45,17 +72,16 @@ fn skip_customs(cursor: &mut Cursor) -> Result<(), DecodeFault>
 /// Goes behind the custom sections, and into the section of this id, if it is there.
 #[tactic(auto, unfolding(crate::specs::Reader::opening_at, crate::specs::Reader::content_at))]
 fn opening<'a>(id: u8, cursor: &mut Cursor<'a>) -> Result<Option<Section<'a>>, DecodeFault>
-    ensures value { MovesBy (λ o. option_map (λ s. s.content.rest.now) o) result cursor.new.rest.now (opening_at id cursor.old.rest.now) }
-    ensures refusal { IfOk result (λ o. IfSome o (λ s. IsRefusal s.refusal)) }
+    ensures { MovesBy (λ o. option_map (λ s. s.content.rest.now) o) result cursor.new.rest.now (opening_at id cursor.old.rest.now) }
 {
     skip_customs(cursor)?;
     if !cursor.is_at(id) {
         return Ok(None);
     }
-    let refusal = cursor.refusal();
-    cursor.expect(id)?;
-    let content = cursor.sized()?;
-    Ok(Some(Section { refusal, content }))
+    let start = cursor.offset();
+    cursor.expect(id, Expected::Section)?;
+    let content = content(id, cursor)?;
+    Ok(Some(Section { start, content }))
 }
 
 /// The items of the section of this id, which is a vector; none where it is absent.
@@ -70,8 +96,11 @@ fn read_section<T: Spelled>(
     match opening(id, cursor)? {
         None => Ok(Items::from_vec(Vec::new(alloc))),
         Some(mut found) => {
-            let items = vector::<T>(alloc, &mut found.content)?;
-            found.content.finish()?;
+            let items = match vector::<T>(alloc, &mut found.content) {
+                Ok(items) => items,
+                Err(fault) => return Err(fault.in_section(id)),
+            };
+            finish(id, &found.content)?;
             Ok(items)
         }
     }
@@ -85,8 +114,11 @@ fn start_section(cursor: &mut Cursor) -> Result<Option<u32>, DecodeFault>
     match opening(8, cursor)? {
         None => Ok(None),
         Some(mut found) => {
-            let function = found.content.unsigned_32()?;
-            found.content.finish()?;
+            let function = match found.content.unsigned_32() {
+                Ok(function) => function,
+                Err(fault) => return Err(fault.in_section(8)),
+            };
+            finish(8, &found.content)?;
             Ok(Some(function))
         }
     }
@@ -105,8 +137,11 @@ fn code_section(
     match opening(10, cursor)? {
         None => Ok(Items::from_vec(Vec::new(alloc))),
         Some(mut found) => {
-            let bodies = code(alloc, types, functions, found.refusal, &mut found.content)?;
-            found.content.finish()?;
+            let bodies = match code(alloc, types, functions, found.start, &mut found.content) {
+                Ok(bodies) => bodies,
+                Err(fault) => return Err(fault.in_section(10)),
+            };
+            finish(10, &found.content)?;
             Ok(Items::from_vec(bodies))
         }
     }
@@ -118,12 +153,14 @@ fn end_sections(functions: usize, bodies: usize, cursor: &mut Cursor) -> Result<
     ensures { Gives (λ _. tt) result (end_sections_at functions bodies cursor.old.rest.now) }
 {
     skip_customs(cursor)?;
-    cursor.finish()?;
-    if functions == bodies {
-        Ok(())
-    } else {
-        Err(cursor.refusal())
+    if cursor.finish().is_err() {
+        return Err(unexpected(cursor));
     }
+    if functions == bodies {
+        return Ok(());
+    }
+    let fault = cursor.refusal(Cause::Section(SectionFault::NoCode(clamped(functions))));
+    Err(fault.at(Place::End))
 }
 
 /// The sections from the code section on.

@@ -8,6 +8,8 @@ use Rattle.wasm_types.specs.declared.modules.Module.{Module}
 use Rattle.wasm_types.specs.Limits.{Within}
 use Rattle.byte_reader.specs.declared.fault.DecodeFault.{DecodeFault}
 use Rattle.byte_reader.specs.declared.fault.DecodeFault.TheVariants.{Refused, TooLarge, NoMemory}
+use Rattle.byte_reader.specs.declared.cause.Limit.{Limit}
+use Rattle.byte_reader.specs.declared.place.Place.{Place}
 use Rattle.byte_reader.specs.Moves.{IsRefused, IsTooLarge}
 use Rattle.binary_decoder.specs.Grammar.{Spells}
 use Rattle.binary_decoder.specs.First.{IsFirst}
@@ -31,9 +33,9 @@ module _ (beginning bytes : List ℕ) (is : beginning ≡ take 1048577 bytes) wh
       omega (arith, many, same, length-take 1048577 bytes)
 
   -- so is one that passes a limit
-  too_large : IsFirst beginning TooLarge → IsFirst bytes TooLarge
-  too_large (inl many) = inl (long many)
-  too_large (inr over) = elim (cases_lt 1048576 (length beginning)) [
+  too_large : (limit : Limit) (count : ℕ) (place : Place) → IsFirst beginning (TooLarge limit count place) → IsFirst bytes (TooLarge limit count place)
+  too_large limit count place (inl many) = inl (long many)
+  too_large limit count place (inr over) = elim (cases_lt 1048576 (length beginning)) [
     | inl many ↦ inl (long many)
     | inr few ↦ inr (subst (λ (l : List ℕ). parts_at true l ≡ Err Oversized) (short few) over)
   ]
@@ -47,10 +49,10 @@ module _ (beginning bytes : List ℕ) (is : beginning ≡ take 1048577 bytes) wh
       → (IsRefused {X = Module} (Err fault) → (m : Module) → Spells m beginning → ⊥)
       → (IsTooLarge {X = Module} (Err fault) → (m : Module) → Spells m beginning → Within m → ⊥)
       → IsDecodeFault bytes fault
-  fault_of (Refused offset) first refused large =
-      (subst (λ (l : List ℕ). IsFirst l (Refused offset)) (short first.0) first, λ m s. refused tt m (subst (Spells m) (sym (short first.0)) s))
-  fault_of TooLarge first refused large = (
-    too_large first,
+  fault_of (Refused offset place cause) first refused large =
+      (subst (λ (l : List ℕ). IsFirst l (Refused offset place cause)) (short first.0) first, λ m s. refused tt m (subst (Spells m) (sym (short first.0)) s))
+  fault_of (TooLarge limit count place) first refused large = (
+    too_large limit count place first,
     λ m h.
         let few : length bytes ≤ 1048576 = subst (λ (l : List ℕ). length l ≤ 1048576) h.spells.source h.within.bytes in
         large tt m (subst (Spells m) (sym (few_stand few)) h.spells) h.within,

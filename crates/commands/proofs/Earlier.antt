@@ -20,8 +20,8 @@ module _ {holds later : List ℕ → Type 0} {fails breaks : Type 0} (held : (by
   file_earlier file.NoMemory h = tt
 
   pub plan_refused_earlier : (m : Module) (fault : Fault) → IsPlanRefused later breaks m fault → IsPlanRefused holds fails m fault
-  plan_refused_earlier m (File fault) h = file_earlier fault h
-  plan_refused_earlier m (Decode fault) h = h
+  plan_refused_earlier m (File fault of) h = (h.0, file_earlier fault h.1)
+  plan_refused_earlier m (Decode fault names) h = h
   plan_refused_earlier m (Valid fault) h = h
   plan_refused_earlier m (Plan fault quote) h = (h.0, held h.0 h.1, h.2)
   plan_refused_earlier m (Schedule fault quote) h = h
@@ -33,8 +33,8 @@ module _ {holds later : List ℕ → Type 0} {fails breaks : Type 0} (held : (by
   plan_refused_earlier m SinkFailed h = h
 
   pub lines_refused_earlier : (fault : Fault) → IsLinesRefused later breaks fault → IsLinesRefused holds fails fault
-  lines_refused_earlier (File fault) h = file_earlier fault h
-  lines_refused_earlier (Decode fault) h = h
+  lines_refused_earlier (File fault of) h = (h.0, file_earlier fault h.1)
+  lines_refused_earlier (Decode fault names) h = h
   lines_refused_earlier (Valid fault) h = h
   lines_refused_earlier (Plan fault quote) h = h
   lines_refused_earlier (Schedule fault quote) h = h
@@ -46,8 +46,8 @@ module _ {holds later : List ℕ → Type 0} {fails breaks : Type 0} (held : (by
   lines_refused_earlier SinkFailed h = h
 
   pub schedule_refused_earlier : (fault : Fault) → IsScheduleRefused later breaks fault → IsScheduleRefused holds fails fault
-  schedule_refused_earlier (File fault) h = file_earlier fault h
-  schedule_refused_earlier (Decode fault) h = h
+  schedule_refused_earlier (File fault of) h = (h.0, file_earlier fault h.1)
+  schedule_refused_earlier (Decode fault names) h = h
   schedule_refused_earlier (Valid fault) h = h
   schedule_refused_earlier (Plan fault quote) h = h
   schedule_refused_earlier (Schedule fault quote) h = (h.0, held h.0 h.1, h.2)

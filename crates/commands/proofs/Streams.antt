@@ -54,5 +54,5 @@ module _ {Stream : Type 0} {brings : Stream → List ℕ → Stream → Type 0} 
   fault_in gathering.SourceFailed may nothing bad other broke =
       let h : Refuses (brings stream) later IsCutText × (failed later ≡ failed stream + 1) = broke refl in
       let more : failed stream < failed later = omega (arith, h.1) in
-      opened.breaks h.0.0 later h.0.1 more
+      (refl, opened.breaks h.0.0 later h.0.1 more)
   fault_in gathering.SinkFailed may nothing bad other broke = absurd may

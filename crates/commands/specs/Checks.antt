@@ -9,6 +9,7 @@ use Rattle.wasm_types.specs.Limits.{Within}
 use Rattle.binary_decoder.specs.Summary.{summary_text}
 use Rattle.validator.specs.Valid.{WellTyped, Refuses}
 use Rattle.commands.specs.Files.{IsFileFault}
+use Rattle.commands.specs.declared.files.InputFile.TheVariants as input
 use Rattle.commands.specs.declared.fault.Fault.{Fault}
 use Rattle.commands.specs.declared.fault.Fault.TheVariants.{File, Decode, Valid, NoMemory}
 
@@ -19,8 +20,8 @@ pub record IsModule (bytes : List ℕ) (m : Module) : Type 0 where
 
 -- why no module is read from the bytes, be it the grammar or a limit that they pass first
 abbrev pub IsDecodeFault : List ℕ → DecodeFault → Type 0
-IsDecodeFault bytes (decoding.Refused offset) = IsFirst bytes (decoding.Refused offset) × ((m : Module) → Spells m bytes → ⊥)
-IsDecodeFault bytes decoding.TooLarge = IsFirst bytes decoding.TooLarge × ((m : Module) → IsModule bytes m → ⊥)
+IsDecodeFault bytes (decoding.Refused offset place cause) = IsFirst bytes (decoding.Refused offset place cause) × ((m : Module) → Spells m bytes → ⊥)
+IsDecodeFault bytes (decoding.TooLarge limit count place) = IsFirst bytes (decoding.TooLarge limit count place) × ((m : Module) → IsModule bytes m → ⊥)
 IsDecodeFault bytes decoding.NoMemory = Unit {0}
 
 module _ (holds : List ℕ → Type 0) where
@@ -33,8 +34,8 @@ module _ (holds : List ℕ → Type 0) where
 
   -- when each fault is answered for a module: the file is read, then decoded, then typed
   abbrev pub IsModuleRefused : Type 0 → Fault → Type 0
-  IsModuleRefused fails (File fault) = IsFileFault fails fault
-  IsModuleRefused fails (Decode fault) = (bytes : List ℕ) × holds bytes × IsDecodeFault bytes fault
+  IsModuleRefused fails (File fault of) = (of ≡ input.Module) × IsFileFault fails fault
+  IsModuleRefused fails (Decode fault names) = (bytes : List ℕ) × holds bytes × IsDecodeFault bytes fault
   IsModuleRefused fails (Valid fault) = (bytes : List ℕ) × (m : Module) × holds bytes × IsModule bytes m × Refuses m fault
   IsModuleRefused fails _ = ⊥
 

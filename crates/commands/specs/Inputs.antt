@@ -14,6 +14,7 @@ use Rattle.replica.specs.Gathered.{IsText, IsGathered, IsBadLine, IsOtherRun}
 use Rattle.wasm_record.specs.Recordings.{IsKeyOf}
 use Rattle.commands.specs.Files.{IsFileFault}
 use Rattle.commands.specs.declared.files.FileFault.TheVariants.{NotRead}
+use Rattle.commands.specs.declared.files.InputFile.TheVariants as input
 use Rattle.commands.specs.Checks.{IsValidFile, IsModuleRefused}
 use Rattle.commands.specs.declared.fault.Fault.{Fault}
 use Rattle.commands.specs.declared.fault.Fault.TheVariants.{File, Plan, Gather}
@@ -44,7 +45,7 @@ IsLinesFault text gathering.SinkFailed = ⊥
 
 -- the program's fault where the lines of a file are refused: a file of which a read failed is not read
 abbrev pub lines_fault : GatherFault → Fault
-lines_fault gathering.SourceFailed = File NotRead
+lines_fault gathering.SourceFailed = File NotRead input.Pieces
 lines_fault fault = Gather fault
 
 module _ (holds : List ℕ → Type 0) where
@@ -53,7 +54,7 @@ module _ (holds : List ℕ → Type 0) where
   IsPlanFile m plan = (bytes : List ℕ) × holds bytes × (plan_of m bytes ≡ Ok plan)
 
   abbrev pub IsPlanRefused : Type 0 → Module → Fault → Type 0
-  IsPlanRefused fails m (File fault) = IsFileFault fails fault
+  IsPlanRefused fails m (File fault of) = (of ≡ input.Plan) × IsFileFault fails fault
   IsPlanRefused fails m (Plan fault quote) = (bytes : List ℕ) × holds bytes × IsFaultOf (plan_of m bytes) fault
   IsPlanRefused fails m _ = ⊥
 
@@ -62,7 +63,7 @@ module _ (holds : List ℕ → Type 0) where
   IsLogFile m plan log = (bytes : List ℕ) × holds bytes × IsLogIn bytes m plan log
 
   abbrev pub IsLinesRefused : Type 0 → Fault → Type 0
-  IsLinesRefused fails (File fault) = IsFileFault fails fault
+  IsLinesRefused fails (File fault of) = (of ≡ input.Pieces) × IsFileFault fails fault
   IsLinesRefused fails (Gather fault) = (bytes : List ℕ) × holds bytes × IsLinesFault bytes fault
   IsLinesRefused fails _ = ⊥
 

@@ -20,6 +20,7 @@ use Rattle.command_words.specs.declared.requests.RecordOrder.{RecordOrder}
 use Rattle.command_words.specs.declared.requests.RecordOrder.TheVariants as order
 use Rattle.command_words.specs.declared.requests.RecordRequest.{RecordRequest}
 use Rattle.commands.specs.Files.{IsFileFault}
+use Rattle.commands.specs.declared.files.InputFile.TheVariants as input
 use Rattle.commands.specs.Inputs.{IsProgram, IsProgramRefused}
 use Rattle.commands.specs.declared.fault.Fault.{Fault}
 use Rattle.commands.specs.declared.fault.Fault.TheVariants.{File, Schedule, Pieces, NoMemory}
@@ -30,7 +31,7 @@ module _ (holds : List ℕ → Type 0) where
   IsScheduleFile picks = (bytes : List ℕ) × holds bytes × (schedule_of bytes ≡ Ok picks)
 
   abbrev pub IsScheduleRefused : Type 0 → Fault → Type 0
-  IsScheduleRefused fails (File fault) = IsFileFault fails fault
+  IsScheduleRefused fails (File fault of) = (of ≡ input.Schedule) × IsFileFault fails fault
   IsScheduleRefused fails (Schedule fault quote) = (bytes : List ℕ) × holds bytes × IsFaultOf (schedule_of bytes) fault
   IsScheduleRefused fails _ = ⊥
 

@@ -26,13 +26,13 @@ pub record IsReplayReport (m : Module) (plan : PlanValue) (log : Log) (order : L
 
 -- the log is refused by the replay, or there is no memory for a text
 abbrev pub IsReplayRefusal : Module → PlanValue → Log → List ℕ → Fault → Type 0
-IsReplayRefusal m plan log order (Replay fault) = IsRefusal m plan log order fault
+IsReplayRefusal m plan log order (Replay refused) = IsRefusal m plan log order refused.fault
 IsReplayRefusal m plan log order NoMemory = Unit {0}
 IsReplayRefusal m plan log order _ = ⊥
 
 -- the same where threads replay at once
 abbrev pub IsThreadsFault : Module → PlanValue → Log → Fault → Type 0
-IsThreadsFault m plan log (Replay fault) = IsThreadsRefusal m plan log fault
+IsThreadsFault m plan log (Replay refused) = IsThreadsRefusal m plan log refused.fault
 IsThreadsFault m plan log NoMemory = Unit {0}
 IsThreadsFault m plan log _ = ⊥
 

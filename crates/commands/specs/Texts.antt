@@ -39,13 +39,13 @@ file_text file.NotRead = codes "refused 44 SourceFailed"
 file_text file.NoMemory = codes "refused 23 NoMemory"
 
 abbrev pub decode_text : DecodeFault → List ℕ
-decode_text (decoding.Refused offset) = codes "refused 1 Refused " ++ decimal offset
-decode_text decoding.TooLarge = codes "refused 2 TooLarge"
+decode_text (decoding.Refused offset place cause) = codes "refused 1 Refused " ++ decimal offset
+decode_text (decoding.TooLarge limit count place) = codes "refused 2 TooLarge"
 decode_text decoding.NoMemory = codes "refused 3 NoMemory"
 
 abbrev pub valid_text : ValidFault → List ℕ
-valid_text (typing.Invalid None instruction) = codes "refused 11 Invalid module"
-valid_text (typing.Invalid (Some function) instruction) = placed (codes "refused 11 Invalid ") function instruction
+valid_text (typing.Invalid None instruction cause) = codes "refused 11 Invalid module"
+valid_text (typing.Invalid (Some function) instruction cause) = placed (codes "refused 11 Invalid ") function instruction
 valid_text typing.NoMemory = codes "refused 12 NoMemory"
 
 abbrev pub plan_text : PlanFault → List ℕ
@@ -90,14 +90,14 @@ view_text viewing.OutOfView = codes "refused 61 OutOfView"
 view_text viewing.NoMemory = codes "refused 62 NoMemory"
 
 abbrev pub fault_text : Fault → List ℕ
-fault_text (File fault) = file_text fault
-fault_text (Decode fault) = decode_text fault
+fault_text (File fault of) = file_text fault
+fault_text (Decode fault names) = decode_text fault
 fault_text (Valid fault) = valid_text fault
 fault_text (Plan fault quote) = plan_text fault
 fault_text (Schedule fault quote) = schedule_text fault
 fault_text (Pieces fault) = pieces_text fault
 fault_text (Gather fault) = gather_text fault
-fault_text (Replay fault) = refusal_text fault
+fault_text (Replay refused) = refusal_text refused.fault
 fault_text (View fault) = view_text fault
 fault_text NoMemory = codes "refused 23 NoMemory"
 fault_text SinkFailed = codes "refused 45 SinkFailed"

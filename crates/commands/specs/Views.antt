@@ -51,7 +51,7 @@ module _ (m : Module) (plan : PlanValue) (log : Log) (r : ViewRequest) where
     pub refused : IsNotViewed m plan log r.replay.order.items breaks r.range.from r.range.len fault
 
   abbrev pub IsViewRefusal : Fault → Type 0
-  IsViewRefusal (Replay fault) = IsViewFault (viewing.Replay fault)
+  IsViewRefusal (Replay refused) = IsViewFault (viewing.Replay refused)
   IsViewRefusal (View fault) = IsViewFault (viewing.View fault)
   IsViewRefusal _ = ⊥
 

@@ -2,8 +2,8 @@
 
 ghost use Rattle.std.specs.Prelude.{◌≡◌};
 
-use crate::files::FileFault;
-use crate::quotes::Quote;
+use crate::files::{FileFault, InputFile};
+use crate::quotes::{ImportNames, Quote};
 use byte_reader::DecodeFault;
 use debug_views::ViewFault;
 use pick_schedule::ScheduleFault;
@@ -12,16 +12,17 @@ use run_pieces::PiecesFault;
 use thiserror::Error;
 use thread_plan::PlanFault;
 use validator::ValidFault;
-use wasm_replay::WasmReplayFault;
+use wasm_replay::Unreplayed;
 use wasm_types::NoMemory;
 
 /// Why a command is refused. `text` is the line that the program writes, without its end.
 #[derive(Clone, Copy, Debug, PartialEq, Eq, Error)]
 pub enum Fault {
-    /// A file was not read.
-    File(FileFault),
-    /// The bytes of the module spell none of the integer profile within the limits.
-    Decode(DecodeFault),
+    /// This file was not read.
+    File(FileFault, InputFile),
+    /// The bytes of the module spell none of the integer profile within the limits. The reason names an import that is no
+    /// memory.
+    Decode(DecodeFault, ImportNames),
     /// The module is not well typed.
     Valid(ValidFault),
     /// The text of the plan spells none for the module. The reason quotes that of it.
@@ -33,7 +34,7 @@ pub enum Fault {
     /// The piece lines give no log.
     Gather(GatherFault),
     /// The log is not replayed to its end, or to where it stops.
-    Replay(WasmReplayFault),
+    Replay(Unreplayed),
     /// The bytes of the view can't be shown.
     View(ViewFault),
     /// Refusal 23: memory for the command line or for a text could not be had.

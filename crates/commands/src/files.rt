@@ -19,6 +19,16 @@ pub enum FileFault {
     NoMemory,
 }
 
+/// Which of its files a command was to read.
+#[derive(Clone, Copy, Debug, PartialEq, Eq)]
+pub enum InputFile {
+    Module,
+    Plan,
+    Schedule,
+    /// The piece lines.
+    Pieces,
+}
+
 /// What stands at a path, as far as it can be told without reading it.
 #[derive(Clone, Copy, Debug, PartialEq, Eq)]
 pub enum FileState {

@@ -9,7 +9,7 @@ ghost use Rattle.commands.specs.declared.fault.Fault.TheVariants as faults;
 ghost use Rattle.replica.specs.declared.replica.Replica.{Replica};
 
 use crate::fault::Fault;
-use crate::files::{FileFault, Files, open_file};
+use crate::files::{FileFault, Files, InputFile, open_file};
 use crate::program::{Program, read_program};
 use command_words::ReplayRequest;
 use log::Log;
@@ -22,7 +22,7 @@ fn lines_fault(fault: GatherFault) -> Fault
     ensures { result ≡ lines_fault fault }
 {
     match fault {
-        GatherFault::SourceFailed => Fault::File(FileFault::NotRead),
+        GatherFault::SourceFailed => Fault::File(FileFault::NotRead, InputFile::Pieces),
         other => Fault::Gather(other),
     }
 }
@@ -40,7 +40,7 @@ fn collect_file<L: Log, F: Files>(
 {
     let mut stream = match open_file(rt, alloc, files, path) {
         Ok(stream) => stream,
-        Err(fault) => return Err(Fault::File(fault)),
+        Err(fault) => return Err(Fault::File(fault, InputFile::Pieces)),
     };
     match collect(alloc, &mut stream) {
         Ok(found) => Ok(found),

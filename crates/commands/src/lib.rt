@@ -19,11 +19,11 @@ mod viewing;
 
 pub use checking::check;
 pub use fault::Fault;
-pub use files::{FileFault, FileState, Files};
+pub use files::{FileFault, FileState, Files, InputFile};
 pub use gathered::{ReplayInput, read_replay_input};
 pub use memory::{MemoryFile, MemoryFiles};
-pub use program::{MODULE_BEGINNING, Program};
-pub use quotes::{Quote, plan_quote, schedule_quote};
+pub use program::Program;
+pub use quotes::{ImportNames, Quote, import_names, plan_quote, schedule_quote};
 pub use record_answer::RecordAnswer;
 pub use recording::record;
 pub use replaying::replay;

@@ -6,8 +6,8 @@ ghost use Rattle.commands.specs.Checks.{IsModule, IsDecodeFault, IsValidFile, Is
 ghost use Rattle.commands.specs.Inputs.{IsPlanFile, IsPlanRefused, IsProgram, IsProgramRefused};
 
 use crate::fault::Fault;
-use crate::files::{Files, read_file};
-use crate::quotes::plan_quote;
+use crate::files::{Files, InputFile, read_file};
+use crate::quotes::{import_names, plan_quote};
 use binary_decoder::decode;
 use byte_reader::DecodeFault;
 use log::Log;
@@ -17,7 +17,7 @@ use validator::{Valid, validate};
 use wasm_types::Module;
 
 /// How many bytes of a module's file are read at most: one more than a module can have.
-pub const MODULE_BEGINNING: usize = 1_048_577;
+pub(crate) const MODULE_BEGINNING: usize = 1_048_577;
 
 /// The module that the bytes of a file spell, of which this is the beginning.
 fn decode_beginning(alloc: Global, beginning: &[u8]) -> Result<Module, DecodeFault>
@@ -41,11 +41,11 @@ pub(crate) fn read_module<L: Log, F: Files>(
 {
     let beginning = match read_file(rt, alloc, files, path, Some(MODULE_BEGINNING)) {
         Ok(beginning) => beginning,
-        Err(fault) => return Err(Fault::File(fault)),
+        Err(fault) => return Err(Fault::File(fault, InputFile::Module)),
     };
     let module = match decode_beginning(alloc, &beginning) {
         Ok(module) => module,
-        Err(fault) => return Err(Fault::Decode(fault)),
+        Err(fault) => return Err(Fault::Decode(fault, import_names(&beginning, &fault))),
     };
     match validate(alloc, module) {
         Ok(valid) => Ok(valid),
@@ -69,7 +69,7 @@ fn read_plan<L: Log, F: Files>(
 {
     let bytes = match read_file(rt, alloc, files, path, None) {
         Ok(bytes) => bytes,
-        Err(fault) => return Err(Fault::File(fault)),
+        Err(fault) => return Err(Fault::File(fault, InputFile::Plan)),
     };
     match Plan::read(alloc, &bytes, valid) {
         Ok(plan) => Ok(plan),

@@ -1,6 +1,7 @@
 //! What the words of a reason quote of a text.
 
 use arrayvec::ArrayString;
+use byte_reader::{Cause, Cursor, DecodeFault, ItemFault};
 use pick_schedule::{ScheduleCause, ScheduleFault};
 use quoted_bytes::Quoted;
 use text_lines::{Parts, without_end};
@@ -8,6 +9,52 @@ use thread_plan::{PlanCause, PlanFault};
 
 /// Quoted bytes of a text, at most 40, and `..` where there are more; nothing where nothing is quoted.
 pub type Quote = ArrayString<42>;
+
+/// What is quoted of an import: its two names; nothing where none is refused.
+#[derive(Clone, Copy, Debug, PartialEq, Eq)]
+pub struct ImportNames {
+    pub module: Quote,
+    pub name: Quote,
+}
+
+impl ImportNames {
+    /// Of no import.
+    fn none() -> ImportNames {
+        ImportNames {
+            module: Quote::new(),
+            name: Quote::new(),
+        }
+    }
+}
+
+/// The names of the import that stands at the beginning of these bytes.
+fn names_in(bytes: &[u8]) -> ImportNames {
+    let mut cursor = Cursor::new(bytes, 0);
+    let Ok(module) = cursor.name() else {
+        return ImportNames::none();
+    };
+    let Ok(name) = cursor.name() else {
+        return ImportNames::none();
+    };
+    ImportNames {
+        module: Quoted { bytes: module }.text(),
+        name: Quoted { bytes: name }.text(),
+    }
+}
+
+/// What the words of a fault quote of the bytes of a module: the names of an import that is no memory.
+pub fn import_names(bytes: &[u8], fault: &DecodeFault) -> ImportNames {
+    match *fault {
+        DecodeFault::Refused {
+            cause: Cause::Item(ItemFault::Import { names, .. }),
+            ..
+        } if (names as usize) < bytes.len() => {
+            let (_, import) = bytes.split_at(names as usize);
+            names_in(import)
+        }
+        _ => ImportNames::none(),
+    }
+}
 
 /// What is quoted of a line.
 #[derive(Clone, Copy)]

@@ -77,7 +77,7 @@ fn report_at_once<T: Threads + Wait + Sync>(
             let text = report(alloc, &ended)?;
             Ok(text)
         }
-        Err(fault) => Err(Fault::Replay(fault)),
+        Err(refused) => Err(Fault::Replay(refused)),
     }
 }
 
@@ -110,6 +110,6 @@ fn replay_input(alloc: Global, input: &ReplayInput, order: &[u32]) -> Result<Str
     let log = input.replica.log();
     match replay_gathered(alloc, &input.program.valid, &input.program.plan, log, order) {
         Ok(ended) => Ok(report(alloc, &ended)?),
-        Err(fault) => Err(Fault::Replay(fault)),
+        Err(refused) => Err(Fault::Replay(refused)),
     }
 }

@@ -4,7 +4,7 @@ ghost use Rattle.std.specs.Prelude.{ℕ, List, IfOk, IfErr};
 ghost use Rattle.commands.specs.Records.{IsScheduleFile, IsScheduleRefused};
 
 use crate::fault::Fault;
-use crate::files::{Files, read_file};
+use crate::files::{Files, InputFile, read_file};
 use crate::quotes::schedule_quote;
 use log::Log;
 use pick_schedule::{SCHEDULE_BEGINNING, schedule};
@@ -23,7 +23,7 @@ pub(crate) fn read_schedule<L: Log, F: Files>(
 {
     let beginning = match read_file(rt, alloc, files, path, Some(SCHEDULE_BEGINNING)) {
         Ok(beginning) => beginning,
-        Err(fault) => return Err(Fault::File(fault)),
+        Err(fault) => return Err(Fault::File(fault, InputFile::Schedule)),
     };
     match schedule(alloc, &beginning) {
         Ok(picks) => Ok(picks),

@@ -97,8 +97,8 @@ fn text_of_decode(fault: &DecodeFault) -> ArrayString<64>
     ensures short { array_string_len result ≤ 63 }
 {
     match *fault {
-        DecodeFault::Refused { offset } => numbered("refused 1 Refused ", offset as u64),
-        DecodeFault::TooLarge => plain("refused 2 TooLarge"),
+        DecodeFault::Refused { offset, .. } => numbered("refused 1 Refused ", u64::from(offset)),
+        DecodeFault::TooLarge { .. } => plain("refused 2 TooLarge"),
         DecodeFault::NoMemory => plain("refused 3 NoMemory"),
     }
 }
@@ -112,6 +112,7 @@ fn text_of_valid(fault: &ValidFault) -> ArrayString<64>
         ValidFault::Invalid {
             function: Some(function),
             instruction,
+            ..
         } => at_place("refused 11 Invalid ", function, instruction),
         ValidFault::NoMemory => plain("refused 12 NoMemory"),
     }
@@ -207,14 +208,14 @@ impl Fault {
         ensures short { array_string_len result ≤ 63 }
     {
         match self {
-            Fault::File(fault) => text_of_file(fault),
-            Fault::Decode(fault) => text_of_decode(fault),
+            Fault::File(fault, _) => text_of_file(fault),
+            Fault::Decode(fault, _) => text_of_decode(fault),
             Fault::Valid(fault) => text_of_valid(fault),
             Fault::Plan(fault, _) => text_of_plan(fault),
             Fault::Schedule(fault, _) => text_of_schedule(fault),
             Fault::Pieces(fault) => text_of_pieces(fault),
             Fault::Gather(fault) => text_of_gather(fault),
-            Fault::Replay(fault) => text_of_refusal(fault),
+            Fault::Replay(refused) => text_of_refusal(&refused.fault),
             Fault::View(fault) => text_of_view(fault),
             Fault::NoMemory => plain("refused 23 NoMemory"),
             Fault::SinkFailed => plain("refused 45 SinkFailed"),

@@ -69,7 +69,7 @@ fn view_input(
         range.len,
     ) {
         Ok(text) => Ok(text),
-        Err(WasmViewFault::Replay(fault)) => Err(Fault::Replay(fault)),
+        Err(WasmViewFault::Replay(refused)) => Err(Fault::Replay(refused)),
         Err(WasmViewFault::View(fault)) => Err(Fault::View(fault)),
     }
 }

@@ -19,7 +19,9 @@ use Rattle.replay_gate.specs.declared.answers.ReplayFault.{ReplayFault}
 use Rattle.replay_gate.specs.declared.answers.ReplayFault.TheVariants as replaying
 use Rattle.wasm_replay.specs.declared.replaying.WasmReplayFault.{WasmReplayFault}
 use Rattle.wasm_replay.specs.declared.replaying.WasmReplayFault.TheVariants as refusal
-use Rattle.replay_reasons.specs.Differences.{other_line}
+use Rattle.explanations.specs.Differences.{other_line}
+use Rattle.commands.specs.declared.files.InputFile.{InputFile}
+use Rattle.commands.specs.declared.files.InputFile.TheVariants as input
 use Rattle.commands.specs.declared.fault.Fault.{Fault}
 use Rattle.commands.specs.declared.fault.Fault.TheVariants as fault
 use Rattle.explanations.specs.Places.{at_byte, at_line, at_instruction, at_event}
@@ -52,12 +54,18 @@ pieces_path (Replay r by_threads) = r.pieces.now
 pieces_path (View v) = v.replay.pieces.now
 pieces_path r = codes "standard input"
 
+abbrev pub path_of : Request → InputFile → List ℕ
+path_of r input.Module = module_path r
+path_of r input.Plan = plan_path r
+path_of r input.Schedule = schedule_path r
+path_of r input.Pieces = pieces_path r
+
 abbrev pub in_module : List ℕ → DecodeFault → List ℕ
-in_module file (decoding.Refused offset) = at_byte file offset
+in_module file (decoding.Refused offset place cause) = at_byte file offset
 in_module file fault = file
 
 abbrev pub in_functions : List ℕ → ValidFault → List ℕ
-in_functions file (typing.Invalid (Some function) instruction) = at_instruction file function instruction
+in_functions file (typing.Invalid (Some function) instruction cause) = at_instruction file function instruction
 in_functions file fault = file
 
 abbrev pub in_plan : List ℕ → PlanFault → List ℕ
@@ -85,14 +93,15 @@ abbrev pub in_log : List ℕ → WasmReplayFault → List ℕ
 in_log file (refusal.Replay fault) = in_events file fault
 in_log file fault = file
 
--- where the cause of a refusal stands; of a file that is not read, or where memory is wanted, nothing is promised
+-- where the cause of a refusal stands; where memory is wanted, or an option is at fault, nothing is promised
 abbrev pub BeginsWith : Request → Fault → List ℕ → Type 0
-BeginsWith r (fault.Decode f) place = place ≡ in_module (module_path r) f
+BeginsWith r (fault.File f file) place = place ≡ path_of r file
+BeginsWith r (fault.Decode f names) place = place ≡ in_module (module_path r) f
 BeginsWith r (fault.Valid f) place = place ≡ in_functions (module_path r) f
 BeginsWith r (fault.Plan f quote) place = place ≡ in_plan (plan_path r) f
 BeginsWith r (fault.Schedule f quote) place = place ≡ in_schedule (schedule_path r) f
 BeginsWith r (fault.Gather f) place = place ≡ in_lines (pieces_path r) f
-BeginsWith r (fault.Replay f) place = place ≡ in_log (pieces_path r) f
+BeginsWith r (fault.Replay refused) place = place ≡ in_log (pieces_path r) refused.fault
 BeginsWith r f place = Unit {0}
 
 -- what is said of a piece line of another run: in which parts its key differs from that of the first line

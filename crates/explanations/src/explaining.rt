@@ -4,13 +4,12 @@ ghost use Rattle.std.specs.Prelude.{◌≡◌, IfOk, string_bytes};
 ghost use Rattle.explanations.specs.Places.{place_text};
 ghost use Rattle.explanations.specs.Explained.{IsExplanation, BeginsWith, in_module, in_functions, in_plan, in_schedule, in_lines, in_events, in_log};
 
-use crate::paths::{module_path, pieces_path, plan_path, schedule_path};
+use crate::paths::{module_path, path_of, pieces_path, plan_path, schedule_path};
 use crate::place::Place;
-use crate::reasons::{blamed_file, reason_of};
+use crate::reasons::reason_of;
 use byte_reader::DecodeFault;
 use command_words::Request;
 use commands::{Fault, Files};
-use log::Log;
 use pick_schedule::ScheduleFault;
 use replay_gate::ReplayFault;
 use replica::GatherFault;
@@ -24,9 +23,9 @@ fn in_module<'a>(file: &'a str, fault: &DecodeFault) -> Place<'a>
     ensures { place_text result ≡ in_module file.now fault.now }
 {
     match *fault {
-        DecodeFault::Refused { offset } => Place::Byte {
+        DecodeFault::Refused { offset, .. } => Place::Byte {
             file,
-            offset: offset as u64,
+            offset: u64::from(offset),
         },
         _ => Place::Whole(file),
     }
@@ -39,6 +38,7 @@ fn in_functions<'a>(file: &'a str, fault: &ValidFault) -> Place<'a>
         ValidFault::Invalid {
             function: Some(function),
             instruction,
+            ..
         } => Place::Instruction {
             file,
             function,
@@ -111,34 +111,27 @@ fn in_log<'a>(file: &'a str, fault: &WasmReplayFault) -> Place<'a>
 }
 
 /// Where the cause of a refusal stands.
-fn place_of<'a, F: Files>(
-    alloc: Global,
-    files: &mut F,
-    request: &Request<'a>,
-    fault: &Fault,
-) -> Place<'a>
+fn place_of<'a>(request: &Request<'a>, fault: &Fault) -> Place<'a>
     ensures { BeginsWith request.now fault.now (place_text result) }
 {
     match fault {
-        Fault::File(_) => Place::Whole(blamed_file(alloc, files, request)),
-        Fault::Decode(fault) => in_module(module_path(request), fault),
+        Fault::File(_, file) => Place::Whole(path_of(request, *file)),
+        Fault::Decode(fault, _) => in_module(module_path(request), fault),
         Fault::Valid(fault) => in_functions(module_path(request), fault),
         Fault::Plan(fault, _) => in_plan(plan_path(request), fault),
         Fault::Schedule(fault, _) => in_schedule(schedule_path(request), fault),
         Fault::Pieces(_) => Place::Whole("--size"),
         Fault::Gather(fault) => in_lines(pieces_path(request), fault),
-        Fault::Replay(fault) => in_log(pieces_path(request), fault),
+        Fault::Replay(refused) => in_log(pieces_path(request), &refused.fault),
         Fault::View(_) => Place::Whole("--from and --len"),
         Fault::NoMemory => Place::Whole("memory"),
         Fault::SinkFailed => Place::Whole("standard output"),
     }
 }
 
-/// Why a request is refused with this fault, in words, without a line end: the file, where in it, and the reason. The
-/// files are read again as far as the reason needs it; where they can't be, or have changed, the reason says less. It
-/// refuses for want of memory alone.
-pub fn explain<L: Log, F: Files>(
-    rt: &L,
+/// Why a request is refused with this fault, in words, without a line end: the file, where in it, and the reason. No file
+/// is read again. It refuses for want of memory alone.
+pub fn explain<F: Files>(
     alloc: Global,
     files: &mut F,
     request: &Request<'_>,
@@ -146,7 +139,7 @@ pub fn explain<L: Log, F: Files>(
 ) -> Result<String, NoMemory>
     ensures { IfOk result (λ text. IsExplanation request.now fault.now (string_bytes text)) }
 {
-    let place = place_of(alloc, files, request, fault);
-    let reason = reason_of(rt, alloc, files, request, fault)?;
+    let place = place_of(request, fault);
+    let reason = reason_of(alloc, files, request, fault)?;
     Ok(format!(in alloc; "{place}: {reason}")?)
 }

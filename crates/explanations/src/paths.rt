@@ -1,9 +1,10 @@
 //! The files that a request names.
 
 ghost use Rattle.std.specs.Prelude.{◌≡◌};
-ghost use Rattle.explanations.specs.Explained.{module_path, plan_path, schedule_of, schedule_path, pieces_path};
+ghost use Rattle.explanations.specs.Explained.{module_path, plan_path, schedule_of, schedule_path, pieces_path, path_of};
 
-use command_words::{RecordOrder, ReplayRequest, Request};
+use command_words::{RecordOrder, Request};
+use commands::InputFile;
 
 /// What is said in place of a file where the lines come from standard input.
 const STANDARD_INPUT: &str = "standard input";
@@ -65,35 +66,14 @@ pub(crate) fn pieces_path<'a>(request: &Request<'a>) -> &'a str
     }
 }
 
-/// The replay that a request asks for, or of which it asks for a view.
-pub(crate) fn replay_of<'r, 'a>(request: &'r Request<'a>) -> Option<&'r ReplayRequest<'a>> {
-    match request {
-        Request::Replay { replay, .. } => Some(replay),
-        Request::View(view) => Some(&view.replay),
-        _ => None,
-    }
-}
-
-/// The paths of all files that a request names, in the order in which they are read.
-pub(crate) fn files_of<'a>(request: &Request<'a>) -> [Option<&'a str>; 3] {
-    match request {
-        Request::Gather { .. } => [None, None, None],
-        Request::Check(path) => [Some(path), None, None],
-        Request::Record(record) => {
-            let schedule = match record.order {
-                RecordOrder::Schedule(path) => Some(path),
-                RecordOrder::Threads { .. } => None,
-            };
-            [Some(record.module), Some(record.plan), schedule]
-        }
-        Request::Replay { replay, .. } => [
-            Some(replay.module),
-            Some(replay.plan),
-            Some(replay.pieces),
-        ],
-        Request::View(view) => {
-            let replay = &view.replay;
-            [Some(replay.module), Some(replay.plan), Some(replay.pieces)]
-        }
+/// The path of a file that a request names.
+pub(crate) fn path_of<'a>(request: &Request<'a>, file: InputFile) -> &'a str
+    ensures { result.now ≡ path_of request.now file }
+{
+    match file {
+        InputFile::Module => module_path(request),
+        InputFile::Plan => plan_path(request),
+        InputFile::Schedule => schedule_path(request),
+        InputFile::Pieces => pieces_path(request),
     }
 }

@@ -8,8 +8,8 @@ use Rattle.function_names.specs.Names.{with_next, whole_items, part_at, content_
 use Rattle.function_names.specs.declared.parts.Wanted.{Wanted}
 
 malformed : {X : Type 0} (e : DecodeFault) (r : Reading X) → IsRefusal e → Fails e r → r ≡ Err Malformed
-malformed (Refused offset) r refusal fails = fails
-malformed TooLarge r refusal fails = absurd refusal
+malformed (Refused offset place cause) r refusal fails = fails
+malformed (TooLarge limit count place) r refusal fails = absurd refusal
 malformed NoMemory r refusal fails = absurd refusal
 
 more_by : {X : Type 0} (item : List ℕ → Reading X) (n m : ℕ) (bytes : List ℕ) (r : Reading X) → n ≡ suc m → item bytes ≡ r → whole_items item n bytes ≡ with_next r (whole_items item m)

@@ -4,7 +4,7 @@ ghost use Rattle.std.specs.Prelude.{IfErr};
 ghost use Rattle.byte_reader.specs.Moves.{MovesBy, IsRefusal};
 ghost use Rattle.function_names.specs.Names.{entry_at};
 
-use byte_reader::{Cursor, DecodeFault};
+use byte_reader::{Cause, Cursor, DecodeFault, SpellingFault};
 
 /// A function's index, and its name.
 #[derive(Clone, Copy)]
@@ -23,6 +23,6 @@ pub(crate) fn next_entry<'a>(cursor: &mut Cursor<'a>) -> Result<Entry<'a>, Decod
     let content = cursor.sized()?;
     match str::from_utf8(content.rest()) {
         Ok(name) => Ok(Entry { function, name }),
-        Err(_) => Err(cursor.refusal()),
+        Err(_) => Err(cursor.refusal(Cause::Spelling(SpellingFault::NotText))),
     }
 }

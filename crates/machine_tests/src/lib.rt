@@ -17,6 +17,8 @@ mod passing;
 #[cfg(test)]
 mod replays;
 #[cfg(test)]
+mod standings;
+#[cfg(test)]
 mod threads;
 #[cfg(test)]
 mod trials;

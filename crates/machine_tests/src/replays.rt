@@ -13,20 +13,46 @@ use wasm_replay::open_replay;
 use wasm_types::{Block, Outcome, Profile, RunKey, Value};
 
 /// A function `r` that loads at address 0, and a function `w` that stores there.
-const READERS: &str = "\
+pub(crate) const READERS: &str = "\
     0061736d010000000108026000017f600000030302000105040103010107090201720000017700010a13\
     02070041002802000b0900410041073602000b";
 
 /// Two threads that read, and one that writes.
-const THREE: &str = "wreplay plan 1\nthread r\nthread r\nthread w\n";
+pub(crate) const THREE: &str = "wreplay plan 1\nthread r\nthread r\nthread w\n";
+
+/// What a reader finds before the writer, and how it ends.
+pub(crate) const READ: (Found, End) = (
+    Found::Read {
+        object: 1,
+        version: 0,
+    },
+    End {
+        steps: 3,
+        places: 1,
+        outcome: Outcome::Done(Some(Value::I32(0))),
+    },
+);
+
+/// What the writer finds behind both readers, and how it ends.
+pub(crate) const WRITTEN: (Found, End) = (
+    Found::Write {
+        object: 1,
+        version: 0,
+        reads: 2,
+    },
+    End {
+        steps: 4,
+        places: 1,
+        outcome: Outcome::Done(None),
+    },
+);
 
 /// Delivers a thread's one entry and its end.
-fn deliver(
+pub(crate) fn deliver(
     alloc: Global,
     replica: &mut Replica,
     thread: u32,
-    found: Found,
-    end: End,
+    (found, end): (Found, End),
 ) -> Result<(), Fail> {
     let mut entries = Vec::new(alloc);
     entries.push(Entry {
@@ -41,28 +67,9 @@ fn deliver(
 /// What is gathered of a run in which both readers come before the writer.
 fn readers_first(alloc: Global, key: RunKey) -> Result<Replica, Fail> {
     let mut replica = Replica::new(alloc, key);
-    let read = Found::Read {
-        object: 1,
-        version: 0,
-    };
-    let ended = End {
-        steps: 3,
-        places: 1,
-        outcome: Outcome::Done(Some(Value::I32(0))),
-    };
-    deliver(alloc, &mut replica, 0, read, ended)?;
-    deliver(alloc, &mut replica, 1, read, ended)?;
-    let write = Found::Write {
-        object: 1,
-        version: 0,
-        reads: 2,
-    };
-    let ended = End {
-        steps: 4,
-        places: 1,
-        outcome: Outcome::Done(None),
-    };
-    deliver(alloc, &mut replica, 2, write, ended)?;
+    deliver(alloc, &mut replica, 0, READ)?;
+    deliver(alloc, &mut replica, 1, READ)?;
+    deliver(alloc, &mut replica, 2, WRITTEN)?;
     Ok(replica)
 }
 

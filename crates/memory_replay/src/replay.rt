@@ -8,7 +8,7 @@ ghost use Rattle.event_core.specs.Opening.{AllFresh, opening_world};
 ghost use Rattle.replay_gate.specs.Finished.{IsReplayEnd, IsReplayFault};
 
 use event_core::Ended;
-use replay_gate::{ReadLog, ReplayFault};
+use replay_gate::{ReadLog, Refused};
 use replay_workers::replay_by_threads;
 use rw_objects::Machine;
 use shared_core::{Hold, Opened};
@@ -35,11 +35,11 @@ pub fn replay_memory<
     machines: Vec<M>,
     log: &L,
     hold: &H,
-) -> Result<Ended, ReplayFault>
+) -> Result<Ended, Refused<M, StripedMemory>>
     requires few { length machines.items ≤ MOST_THREADS }
     requires fresh { AllFresh M.code M.state space.blocks.limits machines.items }
     ensures ended { IfOk result (IsReplayEnd shared_memory M.code (L.log log.now) (opening_world M.state space.blocks.limits (shared_values space.blocks space.queues) machines.items)) }
-    ensures refused { IfErr result (IsReplayFault shared_memory M.code (L.log log.now) (opening_world M.state space.blocks.limits (shared_values space.blocks space.queues) machines.items)) }
+    ensures refused { IfErr result (λ r. IsReplayFault shared_memory M.code (L.log log.now) (opening_world M.state space.blocks.limits (shared_values space.blocks space.queues) machines.items) r.fault) }
 {
     let opened = Opened::new(StripedMemory { space }, machines.len() as u8);
     replay_by_threads::<StripedMemory, X, M, Brand, Z, L, H, R>(

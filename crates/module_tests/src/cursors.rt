@@ -1,6 +1,6 @@
 //! A cursor's calls.
 
-use byte_reader::{Cursor, DecodeFault};
+use byte_reader::{Cause, Cursor, DecodeFault, Expected, Integer, Limit, SpellingFault};
 
 static BYTES: [u8; 16] = [
     7, 0xE5, 0x8E, 0x26, 0x7F, 0x7E, 3, 2, 0xC3, 0xA9, 1, 0xFF, 9, 1, 5, 0x80,
@@ -20,9 +20,19 @@ fn goes_on(cursor: &mut Cursor<'_>) -> bool {
         && cursor.unsigned_32() == Ok(624485)
         && cursor.signed_32() == Ok(-1)
         && cursor.signed_64() == Ok(-2)
-        && cursor.limited(3, 0) == Ok(3)
+        && cursor.limited(3, 0, Limit::Pages) == Ok(3)
         && is_accented(cursor.name())
         && cursor.offset() == 110
+}
+
+/// Whether a reading was refused at an offset, for this cause.
+fn is_refused<T: Drop>(found: Result<T, DecodeFault>, at: u32, why: SpellingFault) -> bool {
+    match found {
+        Err(DecodeFault::Refused { offset, cause, .. }) => {
+            offset == at && cause == Cause::Spelling(why)
+        }
+        _ => false,
+    }
 }
 
 /// What is said of the end of the next part.
@@ -33,13 +43,13 @@ fn part_end(cursor: &mut Cursor<'_>) -> Result<(), DecodeFault> {
 /// Whether the others are refused where they stand: a name, another byte, what is left of a part, and a number without
 /// its end.
 fn refuses(cursor: &mut Cursor<'_>) -> bool {
+    let past_end = SpellingFault::NumberPastEnd(Integer::Unsigned32);
     cursor.name().is_err()
-        && cursor.expect(8) == Err(DecodeFault::Refused { offset: 112 })
-        && cursor.expect(9) == Ok(())
-        && part_end(cursor) == Err(DecodeFault::Refused { offset: 114 })
-        && cursor.unsigned_32() == Err(DecodeFault::Refused { offset: 115 })
-        && cursor.limited(2, 0) == Err(DecodeFault::Refused { offset: 115 })
-        && cursor.refusal() == DecodeFault::Refused { offset: 115 }
+        && cursor.expect(8, Expected::FenceByte).is_err()
+        && cursor.expect(9, Expected::FenceByte) == Ok(())
+        && is_refused(part_end(cursor), 114, SpellingFault::LeftOver(1))
+        && is_refused(cursor.unsigned_32(), 115, past_end)
+        && is_refused(cursor.limited(2, 0, Limit::Pages), 115, past_end)
         && cursor.rest().len() == 1
 }
 

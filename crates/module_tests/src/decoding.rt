@@ -1,8 +1,10 @@
 //! Modules from bytes: their summaries, where others are refused, and the limits. A module begins with a preamble of
 //! eight bytes.
 
-use binary_decoder::DecodeFault::Refused;
+use crate::fault_kinds::DecodeKind;
+use crate::fault_kinds::DecodeKind::Refused;
 use binary_decoder::{DecodeFault, decode, summary};
+use byte_reader::{Limit, Place};
 use std::alloc::Global;
 use std::process::Abort;
 use std::test::Fail;
@@ -91,10 +93,10 @@ static SUMMARIES: &[(&str, &str)] = &[
     ),
 ];
 
-const TOO_LARGE: DecodeFault = DecodeFault::TooLarge;
+const TOO_LARGE: DecodeKind = DecodeKind::TooLarge;
 
 /// Bytes that are no modules, with their faults.
-static FAULTS: &[(&str, DecodeFault)] = &[
+static FAULTS: &[(&str, DecodeKind)] = &[
     // Preambles.
     ("", Refused { offset: 0 }),
     ("0061736e01000000", Refused { offset: 0 }),
@@ -263,9 +265,13 @@ pub(crate) fn has_summary(alloc: Global, digits: &str, wanted: &str) -> Result<b
 fn same(
     rt: &impl Abort,
     found: Result<bool, DecodeFault>,
-    want: Result<bool, DecodeFault>,
+    want: Result<bool, DecodeKind>,
     digits: &str,
 ) {
+    let found = match found {
+        Ok(found) => Ok(found),
+        Err(fault) => Err(DecodeKind::of(fault)),
+    };
     assert_eq!(rt; found, want, "{digits}");
 }
 
@@ -327,7 +333,10 @@ static LARGEST: [u8; 13] = [
 fn only_these_decode(alloc: Global, digits: &str, lengths: &[usize]) -> Result<bool, Fail> {
     let bytes = hex::decode(alloc, digits)?;
     for len in 0..=bytes.len() {
-        let is_refused = matches!(decode(alloc, &bytes[..len]), Err(Refused { .. }));
+        let is_refused = matches!(
+            decode(alloc, &bytes[..len]),
+            Err(DecodeFault::Refused { .. })
+        );
         if is_refused == lengths.contains(&len) {
             return Ok(false);
         }
@@ -348,6 +357,15 @@ fn a_module_has_at_most_1_048_576_bytes(rt: HostRuntime) -> Result<(), Fail> {
     bytes.resize(1_048_576, 0)?;
     assert!(rt; decode(rt.alloc(), &bytes).is_ok());
     bytes.push(0)?;
-    assert!(rt; decode(rt.alloc(), &bytes).err() == Some(TOO_LARGE));
+    assert!(rt;
+        matches!(
+            decode(rt.alloc(), &bytes),
+            Err(DecodeFault::TooLarge {
+                limit: Limit::Bytes,
+                count: 1_048_577,
+                place: Place::End,
+            })
+        )
+    );
     Ok(())
 }

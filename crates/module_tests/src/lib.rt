@@ -13,6 +13,8 @@ mod cursors;
 #[cfg(test)]
 mod decoding;
 #[cfg(test)]
+mod fault_kinds;
+#[cfg(test)]
 mod group_rows;
 #[cfg(test)]
 mod plans;

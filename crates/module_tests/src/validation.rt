@@ -1,6 +1,7 @@
 //! What `validate` says of modules, and what valid ones answer.
 
 use crate::decoding::module_of;
+use crate::fault_kinds::ValidKind;
 use crate::group_rows::GROUPED;
 use crate::validation_rows::{DROP, END, FAULTY, WELL_TYPED};
 use std::alloc::Global;
@@ -62,14 +63,18 @@ fn check(alloc: Global, digits: &str, code: &[Instr]) -> Result<(), ValidFault> 
     }
 }
 
-fn invalid(function: Option<u32>, instruction: u32) -> Result<(), ValidFault> {
-    Err(ValidFault::Invalid {
+fn invalid(function: Option<u32>, instruction: u32) -> Result<(), ValidKind> {
+    Err(ValidKind::Invalid {
         function,
         instruction,
     })
 }
 
-fn same(rt: &impl Abort, found: Result<(), ValidFault>, want: Result<(), ValidFault>, row: u64) {
+fn same(rt: &impl Abort, found: Result<(), ValidFault>, want: Result<(), ValidKind>, row: u64) {
+    let found = match found {
+        Ok(()) => Ok(()),
+        Err(fault) => Err(ValidKind::of(fault)),
+    };
     assert_eq!(rt; found, want, "{row}");
 }
 

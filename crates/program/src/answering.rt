@@ -298,7 +298,7 @@ pub fn run<L: Log, T: Threads + Wait + Sync, F: Files, R: Source, W: Sink, E: Si
                 rt, threads, alloc, &request, why, files, source, output, errors,
             ) {
                 Ok(()) => 0,
-                Err(fault) => refuse_request(rt, alloc, files, &request, why, errors, &fault),
+                Err(fault) => refuse_request(alloc, files, &request, why, errors, &fault),
             }
         }
         Ok(Asked::Text(text)) => match show(output, text.as_str().as_bytes()) {

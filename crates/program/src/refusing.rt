@@ -8,7 +8,6 @@ use arrayvec::ArrayString;
 use command_words::Request;
 use commands::{Fault, Files};
 use explanations::explain;
-use log::Log;
 use replica::{Sink, write_all};
 use std::alloc::Global;
 use wasm_types::NoMemory;
@@ -103,8 +102,7 @@ fn refuse_in_words<E: Sink>(alloc: Global, errors: &mut E, fault: &Fault, words:
 
 /// Refuses a request: writes the line of the fault and, where the reason is asked for, the line of the reason, and
 /// answers the exit status.
-pub(crate) fn refuse_request<L: Log, F: Files, E: Sink>(
-    rt: &L,
+pub(crate) fn refuse_request<F: Files, E: Sink>(
     alloc: Global,
     files: &mut F,
     request: &Request<'_>,
@@ -119,7 +117,7 @@ pub(crate) fn refuse_request<L: Log, F: Files, E: Sink>(
     if !why {
         return refuse(errors, fault);
     }
-    match explain(rt, alloc, files, request, fault) {
+    match explain(alloc, files, request, fault) {
         Ok(words) => refuse_in_words(alloc, errors, fault, words.as_str()),
         Err(NoMemory) => refuse_without_words(errors, fault),
     }

@@ -104,5 +104,5 @@ module _ {State Op Reply Value Fixed : Type 0} (space : Space Op Reply Value Fix
     right_fault f e = let h = fault_behind f e in record { is = h; wants = want_of_memory f h }
 
   -- where the workers wanted memory
-  pub starved_fault : IsReplayFault space code log w fault.NoMemory
-  starved_fault = record { is = inl refl; wants = λ picks run. refl }
+  pub starved_fault : (f : ReplayFault) → f ≡ fault.NoMemory → IsReplayFault space code log w f
+  starved_fault f e = record { is = inl e; wants = λ picks run. e }

@@ -4,13 +4,14 @@ ghost use Rattle.std.specs.Prelude.{◌≡◌, ◌⊎◌, [], IfOk, IfErr};
 ghost use Rattle.event_core.specs.Opening.{IsOpeningWorld};
 ghost use Rattle.event_core.specs.World.{WorldAt, world_of};
 ghost use Rattle.replay_laws.specs.Finishing.{OrderedEnds};
+ghost use Rattle.replay_gate.specs.declared.answers.ReplayFault.{ReplayFault};
 ghost use Rattle.replay_gate.specs.Answers.{IsOrderedFault};
 ghost use Rattle.replay_gate.specs.Finished.{IsReplayEnd, IsReplayFault};
 ghost use Rattle.replay_gate.specs.Leads.{Leads};
 
-use crate::answers::ReplayFault;
 use crate::ordered::run_ordered;
 use crate::read_log::ReadLog;
+use crate::refused::Refused;
 use event_core::{Ended, World};
 use rw_objects::{Machine, ObjectSpace};
 use std::alloc::Global;
@@ -23,17 +24,20 @@ pub fn finish<M: Machine<S> + Drop, S: ObjectSpace + Drop, L: ReadLog>(
     alloc: Global,
     world: World<M, S>,
     log: &L,
-) -> Result<Ended, ReplayFault>
+) -> Result<Ended, Refused<M, S>>
     ensures ordered { IfOk result (λ ended. OrderedEnds S.meaning M.code (L.log log.now) (world_of world) [] ended) }
-    ensures ordered_fault { IfErr result (λ f. (f ≡ ReplayFault.NoMemory) ⊎ IsOrderedFault S.meaning M.code (L.log log.now) (world_of world) [] f) }
+    ensures ordered_fault { IfErr result (λ r. (r.fault ≡ ReplayFault.NoMemory) ⊎ IsOrderedFault S.meaning M.code (L.log log.now) (world_of world) [] r.fault) }
     ensures ended { IfOk result (λ ended. (w : WorldAt M.State S.Value S.Fixed) → IsOpeningWorld M.code w → Leads S.meaning M.code (L.log log.now) w (world_of world) → IsReplayEnd S.meaning M.code (L.log log.now) w ended) }
-    ensures refused { IfErr result (λ f. (w : WorldAt M.State S.Value S.Fixed) → Leads S.meaning M.code (L.log log.now) w (world_of world) → IsReplayFault S.meaning M.code (L.log log.now) w f) }
+    ensures refused { IfErr result (λ r. (w : WorldAt M.State S.Value S.Fixed) → Leads S.meaning M.code (L.log log.now) w (world_of world) → IsReplayFault S.meaning M.code (L.log log.now) w r.fault) }
 {
     let mut world = world;
     match run_ordered(alloc, &mut world, log, &[]) {
-        Err(fault) => Err(fault),
+        Err(fault) => Err(Refused {
+            fault,
+            world: Some(world),
+        }),
         Ok(()) => match world.end(alloc) {
-            Err(_) => Err(ReplayFault::NoMemory),
+            Err(_) => Err(Refused::no_memory()),
             Ok(ended) => Ok(ended),
         },
     }

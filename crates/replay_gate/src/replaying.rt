@@ -10,6 +10,7 @@ use crate::answers::ReplayFault;
 use crate::freely::run_freely;
 use crate::ordered::run_ordered;
 use crate::read_log::ReadLog;
+use crate::refused::Refused;
 use event_core::{Ended, World};
 use rw_objects::{Machine, ObjectSpace};
 use std::alloc::Global;
@@ -58,18 +59,21 @@ fn replay_in_order<M: Machine<S> + Drop, S: ObjectSpace + Drop, L: ReadLog, O: O
     opens: &O,
     log: &L,
     order: &[u32],
-) -> Result<Ended, ReplayFault>
+) -> Result<Ended, Refused<M, S>>
     requires { O.suits opens.now }
     ensures ended { IfOk result (λ ended. OrderedEnds S.meaning M.code (L.log log.now) (O.opened opens.now) order.now ended) }
-    ensures refused { IfErr result (λ f. (f ≡ ReplayFault.NoMemory) ⊎ IsOrderedFault S.meaning M.code (L.log log.now) (O.opened opens.now) order.now f) }
+    ensures refused { IfErr result (λ r. (r.fault ≡ ReplayFault.NoMemory) ⊎ IsOrderedFault S.meaning M.code (L.log log.now) (O.opened opens.now) order.now r.fault) }
 {
     let Ok(mut world) = opens.open(alloc) else {
-        return Err(ReplayFault::NoMemory);
+        return Err(Refused::no_memory());
     };
     match run_ordered(alloc, &mut world, log, order) {
-        Err(fault) => Err(fault),
+        Err(fault) => Err(Refused {
+            fault,
+            world: Some(world),
+        }),
         Ok(()) => match world.end(alloc) {
-            Err(_) => Err(ReplayFault::NoMemory),
+            Err(_) => Err(Refused::no_memory()),
             Ok(ended) => Ok(ended),
         },
     }
@@ -85,16 +89,16 @@ pub fn replay<M: Machine<S> + Drop, S: ObjectSpace + Drop, L: ReadLog, O: OpenWo
     opens: &O,
     log: &L,
     order: &[u32],
-) -> Result<Ended, ReplayFault>
+) -> Result<Ended, Refused<M, S>>
     requires { O.suits opens.now }
     ensures ended { IfOk result (λ ended. OrderedEnds S.meaning M.code (L.log log.now) (O.opened opens.now) order.now ended) }
     ensures vouches { IfOk result (IsVouchedEnd S.meaning M.code (L.log log.now) (O.opened opens.now)) }
     ensures recorded { IfOk result (IsEndOfRuns S.meaning M.code (L.log log.now) (O.opened opens.now)) }
-    ensures refused { IfErr result (λ f. (f ≡ ReplayFault.NoMemory) ⊎ IsOrderedFault S.meaning M.code (L.log log.now) (O.opened opens.now) order.now f) }
-    ensures finishes { IfErr result (IsWantOfMemory S.meaning M.code (L.log log.now) (O.opened opens.now)) }
+    ensures refused { IfErr result (λ r. (r.fault ≡ ReplayFault.NoMemory) ⊎ IsOrderedFault S.meaning M.code (L.log log.now) (O.opened opens.now) order.now r.fault) }
+    ensures finishes { IfErr result (λ r. IsWantOfMemory S.meaning M.code (L.log log.now) (O.opened opens.now) r.fault) }
 {
     match replay_freely(alloc, opens, log) {
-        Err(_) => Err(ReplayFault::NoMemory),
+        Err(_) => Err(Refused::no_memory()),
         Ok(Some(ended)) => Ok(ended),
         Ok(None) => replay_in_order(alloc, opens, log, order),
     }

@@ -144,7 +144,7 @@ fn log_of(alloc: Global, row: &Row) -> ClaimedLog {
 fn end_by(alloc: Global, row: &Row, order: &[u32]) -> Result<String, Fail> {
     let scripts = [&SCRIPTS[0][..], &SCRIPTS[1][..], &SCRIPTS[2][..]];
     let opens = Scripts { scripts: &scripts };
-    let ended = replay(alloc, &opens, &log_of(alloc, row), order)?;
+    let ended = replay(alloc, &opens, &log_of(alloc, row), order).map_err(|refused| refused.fault)?;
     told_end(alloc, &ended)
 }
 
@@ -271,7 +271,10 @@ fn refusal(alloc: Global, row: &Fault) -> Option<ReplayFault> {
         accesses,
         sums: row.sums,
     };
-    replay(alloc, &opens, &log, &row.order).err()
+    match replay(alloc, &opens, &log, &row.order) {
+        Ok(_) => None,
+        Err(refused) => Some(refused.fault),
+    }
 }
 
 #[test]

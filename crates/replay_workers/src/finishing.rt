@@ -8,7 +8,7 @@ ghost use Rattle.replay_gate.specs.Finished.{IsReplayEnd, IsReplayFault};
 
 use crate::replaying::replay_workers;
 use event_core::Ended;
-use replay_gate::{ReadLog, ReplayFault, finish};
+use replay_gate::{ReadLog, Refused, finish};
 use rw_objects::Machine;
 use shared_core::{Hold, Opened};
 use shared_parts::Opening;
@@ -36,7 +36,7 @@ pub fn replay_by_threads<
     machines: Vec<M>,
     log: &L,
     hold: &H,
-) -> Result<Ended, ReplayFault>
+) -> Result<Ended, Refused<M, S>>
 where
     S::Op: Send + Sync,
     S::Reply: Send + Sync,
@@ -51,10 +51,10 @@ where
     requires few { length machines.items ≤ MOST_THREADS }
     requires fresh { AllFresh M.code M.state (S.fixed opened.space) machines.items }
     ensures ended { IfOk result (IsReplayEnd S.meaning M.code (L.log log.now) (opening_world M.state (S.fixed opened.space) (S.values opened.space) machines.items)) }
-    ensures refused { IfErr result (IsReplayFault S.meaning M.code (L.log log.now) (opening_world M.state (S.fixed opened.space) (S.values opened.space) machines.items)) }
+    ensures refused { IfErr result (λ r. IsReplayFault S.meaning M.code (L.log log.now) (opening_world M.state (S.fixed opened.space) (S.values opened.space) machines.items) r.fault) }
 {
     match replay_workers::<S, X, M, J, Z, L, H, R>(rt, alloc, opened, machines, log, hold) {
-        Err(_) => Err(ReplayFault::NoMemory),
+        Err(_) => Err(Refused::no_memory()),
         Ok(world) => finish(alloc, world, log),
     }
 }

@@ -22,8 +22,8 @@ use Rattle.wasm_replay.specs.declared.replaying.WasmReplayFault.TheVariants as r
 use Rattle.wasm_world.specs.Opening.{WasmWorld, opening_world_of}
 use Rattle.threaded_replay.specs.Threaded.{IsThreadsEnd, IsThreadsRefusal}
 
-pub no_memory : (log : Log) (w : WasmWorld) → IsReplayFault shared_memory thread_code log w fault.NoMemory
-no_memory log w = record { is = inl refl; wants = λ picks finished. refl }
+pub no_memory : (log : Log) (w : WasmWorld) (f : ReplayFault) → f ≡ fault.NoMemory → IsReplayFault shared_memory thread_code log w f
+no_memory log w f e = record { is = inl e; wants = λ picks finished. e }
 
 module _ (m : Module) (plan : PlanValue) (profile : Profile) (log read : GatheredLog) (v : WasmWorld) (opens : opening_world_of m plan profile ≡ Some v) (same : read ≡ log) where
   is_opened : (w : WasmWorld) → opening_world_of m plan profile ≡ Some w → v ≡ w

@@ -16,16 +16,17 @@ ghost use Rattle.wasm_world.specs.Opening.{WasmWorld, opening_world_of};
 
 use event_core::Ended;
 use memory_replay::replay_memory;
-use replay_gate::ReplayFault;
+use replay_gate::Refused;
 use replica::Log;
 use shared_core::Hold;
 use std::alloc::Global;
 use std::sync::Wait;
 use std::thread::Threads;
+use striped_memory::StripedMemory;
 use thread_plan::Plan;
 use validator::Valid;
 use waiter_queues::SharedSpace;
-use wasm_replay::{Gathered, WasmReplayFault, opener_of};
+use wasm_replay::{Gathered, Standing, Unreplayed, WasmReplayFault, opener_of};
 use wasm_threads::{StripedThread, striped_threads};
 use wasm_types::{NoMemory, Profile};
 use wasm_world::open_parts;
@@ -61,23 +62,23 @@ fn begin<'a>(
 
 /// Replays a log from the opening world of a module and a plan in a profile, each thread of the plan in a thread of the
 /// system.
-fn replay_in<H: Hold + Sync, R: Threads + Wait + Sync>(
+fn replay_in<'a, H: Hold + Sync, R: Threads + Wait + Sync>(
     rt: &R,
     alloc: Global,
-    valid: &Valid,
+    valid: &'a Valid,
     plan: &Plan,
     profile: Profile,
     log: &Log,
     hold: &H,
-) -> Result<Ended, ReplayFault>
+) -> Result<Ended, Refused<StripedThread<'a>, StripedMemory>>
     requires plan { IsPlanOf valid.now plan.now }
     requires fits { fits_profile valid.now profile ≡ true }
     ensures ended { IfOk result (λ end. (w : WasmWorld) → opening_world_of valid.now plan.now profile ≡ Some w → IsReplayEnd shared_memory thread_code (gathered_log log.now) w end) }
-    ensures refused { IfErr result (λ f. (w : WasmWorld) → opening_world_of valid.now plan.now profile ≡ Some w → IsReplayFault shared_memory thread_code (gathered_log log.now) w f) }
+    ensures refused { IfErr result (λ r. (w : WasmWorld) → opening_world_of valid.now plan.now profile ≡ Some w → IsReplayFault shared_memory thread_code (gathered_log log.now) w r.fault) }
 {
     let Beginning { threads, space } = match begin(alloc, valid, plan, profile) {
         Ok(beginning) => beginning,
-        Err(NoMemory) => return Err(ReplayFault::NoMemory),
+        Err(NoMemory) => return Err(Refused::no_memory()),
     };
     replay_memory(rt, alloc, space, threads, &Gathered::new(log), hold)
 }
@@ -96,7 +97,7 @@ pub fn replay_threads<H: Hold + Sync, R: Threads + Wait + Sync>(
     plan: &Plan,
     log: &Log,
     hold: &H,
-) -> Result<Ended, WasmReplayFault>
+) -> Result<Ended, Unreplayed>
     requires { IsPlanOf valid.now plan.now }
     ensures of_run { OnOk result (IsOfRun valid.now plan.now log.now) }
     // There is a world from which the runs of the log begin; of it speak the clauses below.
@@ -104,14 +105,20 @@ pub fn replay_threads<H: Hold + Sync, R: Threads + Wait + Sync>(
     ensures ended { IfOk result (IsThreadsEnd valid.now plan.now log.now) }
     ensures ordered { IfOk result (λ end. (order : List ℕ) → IsOrderedAnswer valid.now plan.now log.now order end) }
     ensures recorded { IfOk result (EndsAsRecorded valid.now plan.now log.now) }
-    ensures refused { IfErr result (IsThreadsRefusal valid.now plan.now log.now) }
+    ensures refused { IfErr result (λ u. IsThreadsRefusal valid.now plan.now log.now u.fault) }
 {
     let profile = match opener_of(valid, plan, log) {
         Ok(opener) => opener.profile(),
-        Err(fault) => return Err(fault),
+        Err(fault) => {
+            let standing = Standing::unopened(valid, plan, log, fault);
+            return Err(Unreplayed { fault, standing });
+        }
     };
     match replay_in(rt, alloc, valid, plan, profile, log, hold) {
         Ok(ended) => Ok(ended),
-        Err(fault) => Err(WasmReplayFault::Replay(fault)),
+        Err(refused) => Err(Unreplayed {
+            fault: WasmReplayFault::Replay(refused.fault),
+            standing: Standing::of(alloc, log, refused.fault, refused.world.as_ref()),
+        }),
     }
 }

@@ -4,6 +4,7 @@ pub mod Complete
 pub mod Reach
 pub mod CheckedNests
 pub mod Popping
+pub mod Places
 pub mod Stacking
 pub mod Classes
 pub mod Walking

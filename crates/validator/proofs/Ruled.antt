@@ -147,7 +147,7 @@ body_there bodies slice function body e l h = slice_get-get_or bodies function b
 
 pub located : (m : Module) (function : ℕ) (kind : FuncType) (body : Body) (fault : CheckFault) → ((g : ℕ) → g < function → TypedAt m g) → function_type m function ≡ Some kind
     → slice_get m.bodies function ≡ Some body → FaultOf (context_of m kind body) body.code fault → IsOfFunction m (fault_in function fault)
-located m function kind body (IllTyped at) before t b f = (
+located m function kind body (IllTyped at cause) before t b f = (
   record { kind = kind; body = body; has_type = t; has_body = b; first_fault = f; before = before },
   λ w. fault_refutes (context_of m kind body) body.code at f (complete (context_of m kind body) body.code (w.functions_typed function kind body t b)),
 )

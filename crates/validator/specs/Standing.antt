@@ -1,7 +1,8 @@
 -- The validator's two stacks, which have the operands and the open blocks of all frames one behind the other.
-use Rattle.std.specs.Prelude.{◌≡◌, ℕ, Bool, true, false, List, [], ◌∷◌, ◌++◌, Option, Some, None, reverse, length, map, MatchOption}
+use Rattle.std.specs.Prelude.{◌≡◌, ℕ, Bool, true, false, List, [], ◌∷◌, ◌++◌, Option, Some, None, reverse, take, length, map, MatchOption}
 use Rattle.wasm_types.specs.declared.value.ValType.{ValType}
 use Rattle.wasm_types.specs.declared.nesting.Enclosing.{Enclosing}
+use Rattle.validator.specs.declared.stacks.Next.{Next}
 use Rattle.validator.specs.declared.stacks.OpenBlock.{OpenBlock}
 use Rattle.validator.specs.declared.stacks.Stacks.{Stacks}
 use Rattle.validator.specs.Table.{Class, seq}
@@ -58,6 +59,16 @@ Pops pop height false old new = (os below : List Operand) → reverse old ≡ os
 abbrev pub PopsAny : Bool → ℕ → Option Operand → List Operand → List Operand → Type 0
 PopsAny unreachable height popped old new = (os below : List Operand) → reverse old ≡ os ++ below → length below ≡ height
     → MatchOption popped (pop_any unreachable os ≡ None) (λ o. (left : List Operand) × (pop_any unreachable os ≡ Some (o, left)) × (reverse new ≡ left ++ below))
+
+-- what is popped from so many of the lower operands leaves so many of them
+abbrev pub PopsTo : (List Operand → Option (List Operand)) → ℕ → List Operand → ℕ → Option ℕ → Type 0
+PopsTo pop height operands count None = Pops pop height false (take count operands) []
+PopsTo pop height operands count (Some left) = Pops pop height true (take count operands) (take left operands)
+
+-- the same of one operand of any type
+abbrev pub PopsAnyTo : Bool → ℕ → List Operand → ℕ → Option Next → Type 0
+PopsAnyTo unreachable height operands count None = PopsAny unreachable height None (take count operands) []
+PopsAnyTo unreachable height operands count (Some next) = PopsAny unreachable height (Some next.operand) (take count operands) (take next.left operands)
 
 -- the result of a block is popped, and it was all that stood above the block's height
 abbrev pub TakesResult : OpenBlock → Bool → List Operand → List Operand → Type 0

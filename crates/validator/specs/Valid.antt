@@ -57,17 +57,17 @@ Located m (Some function) at = KeepsRules m × FaultAt m function at
 
 -- a refusal names a fault, and the module isn't well typed
 abbrev pub Refuses : Module → ValidFault → Type 0
-Refuses m (Invalid function at) = Located m function at × (WellTyped m → ⊥)
+Refuses m (Invalid function at cause) = Located m function at × (WellTyped m → ⊥)
 Refuses m NoMemory = Unit {0}
 
 -- the same of a fault that is no fault of the module as a whole
 abbrev pub IsOfFunction : Module → ValidFault → Type 0
-IsOfFunction m (Invalid None at) = ⊥
-IsOfFunction m (Invalid (Some function) at) = FaultAt m function at × ((WellTyped m) → ⊥)
+IsOfFunction m (Invalid None at cause) = ⊥
+IsOfFunction m (Invalid (Some function) at cause) = FaultAt m function at × ((WellTyped m) → ⊥)
 IsOfFunction m NoMemory = Unit {0}
 
 abbrev pub fault_in : ℕ → CheckFault → ValidFault
-fault_in function (check.IllTyped at) = Invalid (Some function) at
+fault_in function (check.IllTyped at cause) = Invalid (Some function) at cause
 fault_in function check.NoMemory = NoMemory
 
 -- the targets of each function

@@ -1,25 +1,26 @@
 //! The names of a module's exports.
 
-ghost use Rattle.std.specs.Prelude.{◌≡◌, true, false, is_none, IfOk, OnOk, IfNone, IfSome};
+ghost use Rattle.std.specs.Prelude.{◌≡◌, true, false, is_none, IfOk, OnOk, OnErr};
 ghost use Rattle.indexmap.specs.IndexMap.{hasher_of};
 ghost use Rattle.validator.specs.Exports.{distinct, function_index, value_of, AreNames, PutsNumber};
 
+use crate::module_cause::{ModuleCause, numbered};
 use crate::name_hasher::NameHasher;
 use indexmap::{IndexMap, IndexSet};
 use std::alloc::Global;
 use wasm_types::{Export, ExportKind, NoMemory};
 
-/// The number of each export whose name is UTF-8, by the name; None where two exports have one name. Each name is
-/// hashed once, by the module's own hasher, so no names make it slow.
+/// The number of each export whose name is UTF-8, by the name; or the first two exports that have one name. Each name
+/// is hashed once, by the module's own hasher, so no names make it slow.
 pub(crate) fn names_of(
     alloc: Global,
     hasher: NameHasher,
     exports: &[Export],
-) -> Result<Option<IndexMap<String, u32, NameHasher>>, NoMemory>
-    ensures twice { IfOk result (λ found. IfNone found (distinct exports.now ≡ false)) }
-    ensures distinct { IfOk result (λ found. IfSome found (λ names. distinct exports.now ≡ true)) }
-    ensures names { IfOk result (λ found. IfSome found (λ names. AreNames names.entries exports.now)) }
-    ensures hasher { IfOk result (λ found. IfSome found (λ names. hasher_of names ≡ hasher)) }
+) -> Result<Result<IndexMap<String, u32, NameHasher>, ModuleCause>, NoMemory>
+    ensures twice { IfOk result (λ found. OnErr found (distinct exports.now ≡ false)) }
+    ensures distinct { IfOk result (λ found. OnOk found (distinct exports.now ≡ true)) }
+    ensures names { IfOk result (λ found. IfOk found (λ names. AreNames names.entries exports.now)) }
+    ensures hasher { IfOk result (λ found. IfOk found (λ names. hasher_of names ≡ hasher)) }
 {
     let mut names = IndexMap::with_capacity_and_hasher(alloc, exports.len(), hasher)?;
     // The names that are not UTF-8. A decoded module has none, and the set then takes no memory.
@@ -31,10 +32,28 @@ pub(crate) fn names_of(
             Err(_) => others.insert(name)?,
         };
         if !is_new {
-            return Ok(None);
+            return Ok(Err(same_name(exports, name, number)));
         }
     }
-    Ok(Some(names))
+    Ok(Ok(names))
+}
+
+// The first export of the name of a later one.
+#[cold]
+fn same_name(exports: &[Export], name: &[u8], later: usize) -> ModuleCause {
+    let second = numbered(later);
+    for (number, export) in exports.iter().enumerate() {
+        if export.name.as_slice() == name {
+            return ModuleCause::SameName {
+                first: numbered(number),
+                second,
+            };
+        }
+    }
+    ModuleCause::SameName {
+        first: second,
+        second,
+    }
 }
 
 // Puts the number of an export at its name; whether the name is new. The map has no room for more than `u32` numbers.

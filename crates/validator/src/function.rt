@@ -6,10 +6,11 @@ ghost use Rattle.validator.specs.Table.{seq};
 ghost use Rattle.validator.specs.Walk.{Checked};
 ghost use Rattle.validator.specs.Faults.{FaultOf};
 
-use crate::fault::{CheckFault, StepFault};
+use crate::fault::{CheckFault, StepFault, ValidCause};
 use crate::instruction::step;
 use crate::locals::note_ends;
 use crate::stacks::Stacks;
+use crate::step_cause::StepCause;
 use wasm_types::{Body, FuncType, Module, ValType};
 
 /// Types a function's instructions from left to right. What stood in the stacks and the ends is given up.
@@ -32,16 +33,20 @@ pub(crate) fn check_function(
     for at in 0..code.len() {
         // Nothing stands behind the function's last `end`.
         if stacks.is_closed() {
-            return Err(CheckFault::IllTyped(at as u32));
+            let cause = ValidCause::Instruction(code[at], StepCause::BehindEnd);
+            return Err(CheckFault::IllTyped(at as u32, cause));
         }
         match step(stacks, module, kind, body, ends, code[at]) {
             Ok(()) => {}
-            Err(StepFault::IllTyped) => return Err(CheckFault::IllTyped(at as u32)),
+            Err(StepFault::IllTyped(cause)) => {
+                let cause = ValidCause::Instruction(code[at], cause);
+                return Err(CheckFault::IllTyped(at as u32, cause));
+            }
             Err(StepFault::NoMemory) => return Err(CheckFault::NoMemory),
         }
     }
     if !stacks.is_closed() {
-        return Err(CheckFault::IllTyped(code.len() as u32));
+        return Err(CheckFault::IllTyped(code.len() as u32, ValidCause::NoEnd));
     }
     Ok(())
 }

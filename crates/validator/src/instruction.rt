@@ -1,18 +1,20 @@
 //! The check of one instruction.
 
-ghost use Rattle.std.specs.Prelude.{◌≡◌, ◌++◌, [], ◌∷◌, Err, OnOk, slice_get};
+ghost use Rattle.std.specs.Prelude.{◌≡◌, ◌++◌, [], ◌∷◌, OnOk, slice_get};
 ghost use Rattle.wasm_types.specs.declared.value.ValType.TheVariants.{I32};
 ghost use Rattle.validator.specs.Context.{context_of, has_memory, has_table, labels_in, function_type};
 ghost use Rattle.validator.specs.Table.{Fixed, Leaves, if_some, if_true, numeric_class, plain_class, block_class, index_class, table_class, memory_class, pages_class, atomic_class, atomic_operands, class_of, seq};
 ghost use Rattle.validator.specs.Ends.{ends_from};
 ghost use Rattle.validator.specs.Walk.{at_frames, labels_of};
 ghost use Rattle.validator.specs.Standing.{Goes, Stops};
+ghost use Rattle.validator.specs.Faults.{IsIllTyped};
 
 use crate::fault::StepFault;
-use crate::labels::{each_takes, labels_of_range};
-use crate::locals::local_type;
+use crate::labels::{labels_of_range, other_label};
+use crate::locals::{local_type, no_local};
 use crate::stacks::Stacks;
-use crate::table::{is_memory_there, type_of_function};
+use crate::step_cause::{Named, StepCause};
+use crate::table::{is_memory_there, no_function, type_of_function};
 use wasm_types::{
     AtomicOp, BlockKind, Body, Enclosing, FuncType, IndexOp, Instr, LabelRange, MemArg, MemoryOp,
     Module, Numeric, PagesOp, Plain, ValType,
@@ -29,7 +31,7 @@ pub(crate) fn step(
 ) -> Result<(), StepFault>
     requires { ends.now ≡ ends_from 0 body.now.locals }
     ensures goes { OnOk result (Goes (λ fs. class_of (at_frames (context_of module.now kind.now body.now) fs) instr) stacks.old stacks.new) }
-    ensures stops { result ≡ Err StepFault.IllTyped → Stops (λ fs. class_of (at_frames (context_of module.now kind.now body.now) fs) instr) stacks.old }
+    ensures stops { IsIllTyped result → Stops (λ fs. class_of (at_frames (context_of module.now kind.now body.now) fs) instr) stacks.old }
 {
     match instr {
         Instr::Plain(plain) => step_plain(stacks, module, kind, body, plain),
@@ -56,7 +58,7 @@ fn step_plain(
     plain: Plain,
 ) -> Result<(), StepFault>
     ensures goes { OnOk result (Goes (λ fs. plain_class (at_frames (context_of module.now kind.now body.now) fs) plain) stacks.old stacks.new) }
-    ensures stops { result ≡ Err StepFault.IllTyped → Stops (λ fs. plain_class (at_frames (context_of module.now kind.now body.now) fs) plain) stacks.old }
+    ensures stops { IsIllTyped result → Stops (λ fs. plain_class (at_frames (context_of module.now kind.now body.now) fs) plain) stacks.old }
 {
     match plain {
         Plain::Unreachable => stacks.leave(&[]),
@@ -71,7 +73,7 @@ fn step_plain(
 
 fn step_numeric(stacks: &mut Stacks, numeric: Numeric) -> Result<(), StepFault>
     ensures goes { OnOk result (Goes (λ _. numeric_class numeric) stacks.old stacks.new) }
-    ensures stops { result ≡ Err StepFault.IllTyped → Stops (λ _. numeric_class numeric) stacks.old }
+    ensures stops { IsIllTyped result → Stops (λ _. numeric_class numeric) stacks.old }
 {
     match numeric {
         Numeric::IsZero(of) => stacks.fixed(&[of], &[ValType::I32]),
@@ -93,7 +95,7 @@ fn step_block(
     leaves: Option<ValType>,
 ) -> Result<(), StepFault>
     ensures goes { OnOk result (Goes (λ _. block_class block (seq leaves)) stacks.old stacks.new) }
-    ensures stops { result ≡ Err StepFault.IllTyped → Stops (λ _. block_class block (seq leaves)) stacks.old }
+    ensures stops { IsIllTyped result → Stops (λ _. block_class block (seq leaves)) stacks.old }
 {
     match block {
         BlockKind::Block => stacks.enter(&[], Enclosing::Whole, leaves, leaves),
@@ -114,33 +116,33 @@ fn step_index(
 ) -> Result<(), StepFault>
     requires { ends.now ≡ ends_from 0 body.now.locals }
     ensures goes { OnOk result (Goes (λ fs. index_class (at_frames (context_of module.now kind.now body.now) fs) op index) stacks.old stacks.new) }
-    ensures stops { result ≡ Err StepFault.IllTyped → Stops (λ fs. index_class (at_frames (context_of module.now kind.now body.now) fs) op index) stacks.old }
+    ensures stops { IsIllTyped result → Stops (λ fs. index_class (at_frames (context_of module.now kind.now body.now) fs) op index) stacks.old }
 {
     match op {
         IndexOp::Branch => step_branch(stacks, index),
         IndexOp::BranchIf => step_branch_if(stacks, index),
         IndexOp::Call => step_call(stacks, module, index),
         IndexOp::LocalGet => match local_type(kind, body, ends, index) {
-            None => Err(StepFault::IllTyped),
+            None => Err(no_local(kind, ends, index)),
             Some(of) => stacks.fixed(&[], &[of]),
         },
         IndexOp::LocalSet => match local_type(kind, body, ends, index) {
-            None => Err(StepFault::IllTyped),
+            None => Err(no_local(kind, ends, index)),
             Some(of) => stacks.fixed(&[of], &[]),
         },
         IndexOp::LocalTee => match local_type(kind, body, ends, index) {
-            None => Err(StepFault::IllTyped),
+            None => Err(no_local(kind, ends, index)),
             Some(of) => stacks.fixed(&[of], &[of]),
         },
         IndexOp::GlobalGet => match module.globals.as_slice().get(index as usize) {
-            None => Err(StepFault::IllTyped),
+            None => Err(no_global(module, index)),
             Some(global) => stacks.fixed(&[], &[global.val_type]),
         },
         IndexOp::GlobalSet => match module.globals.as_slice().get(index as usize) {
-            None => Err(StepFault::IllTyped),
+            None => Err(no_global(module, index)),
             Some(global) => {
                 if !global.mutable {
-                    return Err(StepFault::IllTyped);
+                    return Err(StepFault::IllTyped(StepCause::Immutable(index)));
                 }
                 stacks.fixed(&[global.val_type], &[])
             }
@@ -148,22 +150,48 @@ fn step_index(
     }
 }
 
+// The fault of a global that is not there.
+#[cold]
+fn no_global(module: &Module, index: u32) -> StepFault {
+    StepFault::IllTyped(StepCause::Missing {
+        what: Named::Global,
+        index,
+        count: module.globals.as_slice().len(),
+    })
+}
+
+// The fault of a type that is not there.
+#[cold]
+fn no_type(module: &Module, index: u32) -> StepFault {
+    StepFault::IllTyped(StepCause::Missing {
+        what: Named::Type,
+        index,
+        count: module.types.as_slice().len(),
+    })
+}
+
+// The fault of an alignment above that of the width.
+#[cold]
+fn misaligned(exponent: u32, most: u32) -> StepFault {
+    StepFault::IllTyped(StepCause::Alignment { exponent, most })
+}
+
 fn step_branch(stacks: &mut Stacks, label: u32) -> Result<(), StepFault>
     ensures goes { OnOk result (Goes (λ fs. if_some (slice_get (labels_of fs) label) (λ takes. Leaves takes)) stacks.old stacks.new) }
-    ensures stops { result ≡ Err StepFault.IllTyped → Stops (λ fs. if_some (slice_get (labels_of fs) label) (λ takes. Leaves takes)) stacks.old }
+    ensures stops { IsIllTyped result → Stops (λ fs. if_some (slice_get (labels_of fs) label) (λ takes. Leaves takes)) stacks.old }
 {
     let Some(target) = stacks.block_at(label) else {
-        return Err(StepFault::IllTyped);
+        return Err(stacks.no_label(label));
     };
     stacks.branch(target.label)
 }
 
 fn step_branch_if(stacks: &mut Stacks, label: u32) -> Result<(), StepFault>
     ensures goes { OnOk result (Goes (λ fs. if_some (slice_get (labels_of fs) label) (λ takes. Fixed (takes ++ I32 ∷ []) takes)) stacks.old stacks.new) }
-    ensures stops { result ≡ Err StepFault.IllTyped → Stops (λ fs. if_some (slice_get (labels_of fs) label) (λ takes. Fixed (takes ++ I32 ∷ []) takes)) stacks.old }
+    ensures stops { IsIllTyped result → Stops (λ fs. if_some (slice_get (labels_of fs) label) (λ takes. Fixed (takes ++ I32 ∷ []) takes)) stacks.old }
 {
     let Some(target) = stacks.block_at(label) else {
-        return Err(StepFault::IllTyped);
+        return Err(stacks.no_label(label));
     };
     stacks.branch_if(target.label)
 }
@@ -177,26 +205,26 @@ fn step_table(
     default: u32,
 ) -> Result<(), StepFault>
     ensures goes { OnOk result (Goes (λ fs. table_class (at_frames (context_of module.now kind.now body.now) fs) (labels_in body.now.labels range) default) stacks.old stacks.new) }
-    ensures stops { result ≡ Err StepFault.IllTyped → Stops (λ fs. table_class (at_frames (context_of module.now kind.now body.now) fs) (labels_in body.now.labels range) default) stacks.old }
+    ensures stops { IsIllTyped result → Stops (λ fs. table_class (at_frames (context_of module.now kind.now body.now) fs) (labels_in body.now.labels range) default) stacks.old }
 {
     let Some(labels) = labels_of_range(body.labels.as_slice(), range) else {
-        return Err(StepFault::IllTyped);
+        return Err(StepFault::IllTyped(StepCause::TableRange));
     };
     let Some(target) = stacks.block_at(default) else {
-        return Err(StepFault::IllTyped);
+        return Err(stacks.no_label(default));
     };
-    if !each_takes(stacks, target.label, labels) {
-        return Err(StepFault::IllTyped);
+    if let Some(label) = other_label(stacks, target.label, labels) {
+        return Err(StepFault::IllTyped(StepCause::TableLabel { label, default }));
     }
     stacks.branch_by_index(target.label)
 }
 
 fn step_call(stacks: &mut Stacks, module: &Module, function: u32) -> Result<(), StepFault>
     ensures goes { OnOk result (Goes (λ _. if_some (function_type module.now function) (λ kind. Fixed kind.params kind.results)) stacks.old stacks.new) }
-    ensures stops { result ≡ Err StepFault.IllTyped → Stops (λ _. if_some (function_type module.now function) (λ kind. Fixed kind.params kind.results)) stacks.old }
+    ensures stops { IsIllTyped result → Stops (λ _. if_some (function_type module.now function) (λ kind. Fixed kind.params kind.results)) stacks.old }
 {
     let Some(callee) = type_of_function(module, function) else {
-        return Err(StepFault::IllTyped);
+        return Err(no_function(module, function));
     };
     stacks.fixed(callee.params.as_slice(), callee.results.as_slice())
 }
@@ -204,13 +232,13 @@ fn step_call(stacks: &mut Stacks, module: &Module, function: u32) -> Result<(), 
 // The index of the table's element is above the parameters.
 fn step_call_indirect(stacks: &mut Stacks, module: &Module, index: u32) -> Result<(), StepFault>
     ensures goes { OnOk result (Goes (λ _. if_true (has_table module.now) (if_some (slice_get module.now.types index) (λ kind. Fixed (kind.params ++ I32 ∷ []) kind.results))) stacks.old stacks.new) }
-    ensures stops { result ≡ Err StepFault.IllTyped → Stops (λ _. if_true (has_table module.now) (if_some (slice_get module.now.types index) (λ kind. Fixed (kind.params ++ I32 ∷ []) kind.results))) stacks.old }
+    ensures stops { IsIllTyped result → Stops (λ _. if_true (has_table module.now) (if_some (slice_get module.now.types index) (λ kind. Fixed (kind.params ++ I32 ∷ []) kind.results))) stacks.old }
 {
     if module.tables.as_slice().is_empty() {
-        return Err(StepFault::IllTyped);
+        return Err(StepFault::IllTyped(StepCause::NoTable));
     }
     let Some(callee) = module.types.as_slice().get(index as usize) else {
-        return Err(StepFault::IllTyped);
+        return Err(no_type(module, index));
     };
     stacks.fixed_above(
         ValType::I32,
@@ -226,22 +254,24 @@ fn step_memory(
     argument: MemArg,
 ) -> Result<(), StepFault>
     ensures goes { OnOk result (Goes (λ _. if_true (has_memory module.now) (memory_class op argument.align)) stacks.old stacks.new) }
-    ensures stops { result ≡ Err StepFault.IllTyped → Stops (λ _. if_true (has_memory module.now) (memory_class op argument.align)) stacks.old }
+    ensures stops { IsIllTyped result → Stops (λ _. if_true (has_memory module.now) (memory_class op argument.align)) stacks.old }
 {
     if !is_memory_there(module) {
-        return Err(StepFault::IllTyped);
+        return Err(StepFault::IllTyped(StepCause::NoMemory));
     }
     match op {
         MemoryOp::Load(load) => {
             let access = load.access();
-            if argument.align > access.width().exponent() {
-                return Err(StepFault::IllTyped);
+            let most = access.width().exponent();
+            if argument.align > most {
+                return Err(misaligned(argument.align, most));
             }
             stacks.fixed(&[ValType::I32], &[access.val_type()])
         }
         MemoryOp::Store(access) => {
-            if argument.align > access.width().exponent() {
-                return Err(StepFault::IllTyped);
+            let most = access.width().exponent();
+            if argument.align > most {
+                return Err(misaligned(argument.align, most));
             }
             stacks.fixed(&[ValType::I32, access.val_type()], &[])
         }
@@ -250,10 +280,10 @@ fn step_memory(
 
 fn step_pages(stacks: &mut Stacks, module: &Module, op: PagesOp) -> Result<(), StepFault>
     ensures goes { OnOk result (Goes (λ _. if_true (has_memory module.now) (pages_class op)) stacks.old stacks.new) }
-    ensures stops { result ≡ Err StepFault.IllTyped → Stops (λ _. if_true (has_memory module.now) (pages_class op)) stacks.old }
+    ensures stops { IsIllTyped result → Stops (λ _. if_true (has_memory module.now) (pages_class op)) stacks.old }
 {
     if !is_memory_there(module) {
-        return Err(StepFault::IllTyped);
+        return Err(StepFault::IllTyped(StepCause::NoMemory));
     }
     match op {
         PagesOp::Size => stacks.fixed(&[], &[ValType::I32]),
@@ -268,20 +298,24 @@ fn step_atomic(
     argument: MemArg,
 ) -> Result<(), StepFault>
     ensures goes { OnOk result (Goes (λ _. if_true (has_memory module.now) (atomic_class op argument.align)) stacks.old stacks.new) }
-    ensures stops { result ≡ Err StepFault.IllTyped → Stops (λ _. if_true (has_memory module.now) (atomic_class op argument.align)) stacks.old }
+    ensures stops { IsIllTyped result → Stops (λ _. if_true (has_memory module.now) (atomic_class op argument.align)) stacks.old }
 {
     if !is_memory_there(module) {
-        return Err(StepFault::IllTyped);
+        return Err(StepFault::IllTyped(StepCause::NoMemory));
     }
-    if argument.align != op.width().exponent() {
-        return Err(StepFault::IllTyped);
+    let width = op.width().exponent();
+    if argument.align != width {
+        return Err(StepFault::IllTyped(StepCause::AtomicAlignment {
+            exponent: argument.align,
+            width,
+        }));
     }
     step_aligned(stacks, op)
 }
 
 fn step_aligned(stacks: &mut Stacks, op: AtomicOp) -> Result<(), StepFault>
     ensures goes { OnOk result (Goes (λ _. atomic_operands op) stacks.old stacks.new) }
-    ensures stops { result ≡ Err StepFault.IllTyped → Stops (λ _. atomic_operands op) stacks.old }
+    ensures stops { IsIllTyped result → Stops (λ _. atomic_operands op) stacks.old }
 {
     match op {
         AtomicOp::Notify => stacks.fixed(&[ValType::I32, ValType::I32], &[ValType::I32]),

@@ -1,6 +1,6 @@
 //! The labels of branch tables.
 
-ghost use Rattle.std.specs.Prelude.{◌≡◌, List, option_map, option_copied};
+ghost use Rattle.std.specs.Prelude.{◌≡◌, List, is_none, option_map, option_copied};
 ghost use Rattle.validator.specs.Context.{labels_in};
 ghost use Rattle.validator.specs.Table.{all_take, takes_these, seq};
 ghost use Rattle.validator.specs.Walk.{Frame, labels_of};
@@ -22,15 +22,16 @@ pub(crate) fn labels_of_range(labels: &[u32], range: LabelRange) -> Option<&[u32
     }
 }
 
-// Whether each label is there and takes what is named.
-pub(crate) fn each_takes(stacks: &Stacks, takes: Option<ValType>, labels: &[u32]) -> bool
-    ensures { (fs : List Frame) → Stand fs stacks.now → result ≡ all_take (labels_of fs) (seq takes) labels.now }
+// The first label that is not there or does not take what is named.
+pub(crate) fn other_label(stacks: &Stacks, takes: Option<ValType>, labels: &[u32]) -> Option<u32>
+    ensures { (fs : List Frame) → Stand fs stacks.now → is_none result ≡ all_take (labels_of fs) (seq takes) labels.now }
 {
-    let mut all = true;
     for label in labels {
-        all &= block_takes(stacks.block_at(*label), takes);
+        if !block_takes(stacks.block_at(*label), takes) {
+            return Some(*label);
+        }
     }
-    all
+    None
 }
 
 fn block_takes(block: Option<OpenBlock>, takes: Option<ValType>) -> bool

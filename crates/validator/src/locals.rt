@@ -5,6 +5,8 @@ ghost use Rattle.std.specs.List.Sorted.{IsNonDecreasing};
 ghost use Rattle.wasm_types.specs.Locals.{locals_of};
 ghost use Rattle.validator.specs.Ends.{ends_from};
 
+use crate::fault::StepFault;
+use crate::step_cause::{Named, StepCause};
 use wasm_types::{Body, FuncType, LocalGroup, NoMemory, ValType};
 
 /// Notes where each group of locals ends: how many locals there are up to its last, or the greatest `u64` where there
@@ -32,6 +34,21 @@ pub(crate) fn local_type(kind: &FuncType, body: &Body, ends: &[u64], local: u32)
         return Some(params[at]);
     }
     grouped_type(body.locals.as_slice(), ends, (at - params.len()) as u64)
+}
+
+/// The fault of a local that is not there.
+#[cold]
+pub(crate) fn no_local(kind: &FuncType, ends: &[u64], index: u32) -> StepFault {
+    let grouped = ends.last().copied().unwrap_or(0);
+    StepFault::IllTyped(StepCause::Missing {
+        what: Named::Local,
+        index,
+        count: kind
+            .params
+            .as_slice()
+            .len()
+            .saturating_add(grouped as usize),
+    })
 }
 
 // The type of a local, counted from the first of the groups on.

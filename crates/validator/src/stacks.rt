@@ -1,13 +1,15 @@
 //! The operands and the open blocks at a place of a function.
 
-ghost use Rattle.std.specs.Prelude.{◌≡◌, ◌++◌, List, [], ◌∷◌, Option, Some, Err, reverse, OnOk, option_map, slice_get};
+ghost use Rattle.std.specs.Prelude.{◌≡◌, ◌++◌, List, [], ◌∷◌, Option, Some, reverse, length, ◌≤◌, OnOk, IfSome, option_map, slice_get};
 ghost use Rattle.wasm_types.specs.declared.value.ValType.TheVariants.{I32};
 ghost use Rattle.wasm_types.specs.declared.nesting.Enclosing.TheVariants.{Whole};
 ghost use Rattle.validator.specs.Table.{Fixed, Discards, Selects, Leaves, Enters, Turning, Ending, seq};
 ghost use Rattle.validator.specs.Walk.{Frame, agrees, meet, pop_one, pop_all, known, may_end, opened, labels_of};
-ghost use Rattle.validator.specs.Standing.{Stand, Pops, PopsAny, TakesResult, IsInnermost, Goes, Stops, no_frame};
+ghost use Rattle.validator.specs.Standing.{Stand, Pops, PopsTo, PopsAny, PopsAnyTo, TakesResult, IsInnermost, Goes, Stops, no_frame};
+ghost use Rattle.validator.specs.Faults.{IsIllTyped};
 
 use crate::fault::StepFault;
+use crate::step_cause::{Needs, Operand, Row, StepCause};
 use std::alloc::{AllocError, Global};
 use wasm_types::{Enclosing, NoMemory, ValType};
 
@@ -41,36 +43,68 @@ fn suits(want: ValType, operand: Option<ValType>) -> bool
     }
 }
 
-// Takes an operand of a block, where one of this type is wanted. False where it can't.
-fn take_one(operands: &mut Vec<Option<ValType>>, block: OpenBlock, want: ValType) -> bool
-    ensures { Pops (pop_one block.unreachable want) block.height result operands.old.items operands.new.items }
+// How many of the lower operands are left when one of a block is taken, where this type is wanted. None where it can't
+// be taken.
+fn below_one(
+    operands: &[Option<ValType>],
+    block: OpenBlock,
+    count: usize,
+    want: ValType,
+) -> Option<usize>
+    requires { count ≤ length operands.now }
+    ensures within { IfSome result (λ left. left ≤ count) }
+    ensures pops { PopsTo (pop_one block.unreachable want) block.height operands.now count result }
 {
-    if operands.len() <= block.height {
-        return block.unreachable;
+    if count <= block.height {
+        return if block.unreachable { Some(count) } else { None };
     }
-    match operands.pop() {
-        None => false,
-        Some(operand) => suits(want, operand),
+    if suits(want, operands[count - 1]) {
+        Some(count - 1)
+    } else {
+        None
     }
 }
 
-// Takes operands of a block, where these types are wanted, the last one on top. False where it can't.
+// How many of the lower operands are left when those of a block are taken, where these types are wanted, the last one
+// on top. None where they can't be taken.
+fn below_all(
+    operands: &[Option<ValType>],
+    block: OpenBlock,
+    count: usize,
+    wants: &[ValType],
+) -> Option<usize>
+    requires { count ≤ length operands.now }
+    ensures { PopsTo (pop_all block.unreachable (reverse wants.now)) block.height operands.now count result }
+{
+    let mut left = count;
+    for at in (0..wants.len()).rev() {
+        // In an unreachable block all that are left come from nothing.
+        if left <= block.height {
+            return if block.unreachable { Some(left) } else { None };
+        }
+        let Some(next) = below_one(operands, block, left, wants[at]) else {
+            return None
+        };
+        left = next;
+    }
+    Some(left)
+}
+
+// Takes operands of a block, where these types are wanted, the last one on top. False where it can't, and then none is
+// taken.
 fn take_all(operands: &mut Vec<Option<ValType>>, block: OpenBlock, wants: &[ValType]) -> bool
     ensures { Pops (pop_all block.unreachable (reverse wants.now)) block.height result operands.old.items operands.new.items }
 {
-    for at in (0..wants.len()).rev() {
-        // In an unreachable block all that are left come from nothing.
-        if operands.len() <= block.height {
-            return block.unreachable;
-        }
-        if !take_one(operands, block, wants[at]) {
-            return false;
-        }
-    }
+    let all = operands.as_slice();
+    let Some(left) = below_all(all, block, all.len(), wants) else {
+        return false
+    };
+    operands.truncate(left);
     true
 }
 
-// Takes operands of a block, where these types are wanted and one more on top. False where it can't.
+// Takes operands of a block, where these types are wanted and one more on top. False where it can't, and then none is
+// taken.
 fn take_above(
     operands: &mut Vec<Option<ValType>>,
     block: OpenBlock,
@@ -79,7 +113,15 @@ fn take_above(
 ) -> bool
     ensures { Pops (pop_all block.unreachable (reverse (wants.now ++ above ∷ []))) block.height result operands.old.items operands.new.items }
 {
-    take_one(operands, block, above) && take_all(operands, block, wants)
+    let all = operands.as_slice();
+    let Some(under) = below_one(all, block, all.len(), above) else {
+        return false
+    };
+    let Some(left) = below_all(all, block, under, wants) else {
+        return false
+    };
+    operands.truncate(left);
+    true
 }
 
 // Takes an operand of a block, of whatever type. None where it can't.
@@ -90,6 +132,35 @@ fn take_any(operands: &mut Vec<Option<ValType>>, block: OpenBlock) -> Option<Opt
         return if block.unreachable { Some(None) } else { None };
     }
     operands.pop()
+}
+
+// An operand of a block, of whatever type, and how many are below it.
+#[derive(Clone, Copy)]
+struct Next {
+    operand: Option<ValType>,
+    left: usize,
+}
+
+// The uppermost of the lower operands, of whatever type. None where none can be taken.
+fn next_below(operands: &[Option<ValType>], block: OpenBlock, count: usize) -> Option<Next>
+    requires { count ≤ length operands.now }
+    ensures within { IfSome result (λ next. next.left ≤ count) }
+    ensures pops { PopsAnyTo block.unreachable block.height operands.now count result }
+{
+    if count <= block.height {
+        return if block.unreachable {
+            Some(Next {
+                operand: None,
+                left: count,
+            })
+        } else {
+            None
+        };
+    }
+    Some(Next {
+        operand: operands[count - 1],
+        left: count - 1,
+    })
 }
 
 // The one type that two operands have. None where they differ.
@@ -163,16 +234,36 @@ impl Stacks {
         }
     }
 
+    /// The fault of a label that is not there.
+    #[cold]
+    pub(crate) fn no_label(&self, label: u32) -> StepFault {
+        StepFault::IllTyped(StepCause::Label {
+            label,
+            open: self.blocks.len(),
+        })
+    }
+
+    // The fault of an instruction that needs other operands than the block has.
+    #[cold]
+    fn lack(&self, block: OpenBlock, needs: Needs) -> StepFault {
+        let all = self.operands.as_slice();
+        let (_, within) = all.split_at(block.height.min(all.len()));
+        StepFault::IllTyped(StepCause::Operands {
+            needs,
+            finds: Row::of_operands(within),
+        })
+    }
+
     /// An instruction that takes and leaves operands of these types, the last one on top.
     pub(crate) fn fixed(&mut self, takes: &[ValType], gives: &[ValType]) -> Result<(), StepFault>
         ensures goes { OnOk result (Goes (λ _. Fixed takes.now gives.now) self.old self.new) }
-        ensures stops { result ≡ Err StepFault.IllTyped → Stops (λ _. Fixed takes.now gives.now) self.old }
+        ensures stops { IsIllTyped result → Stops (λ _. Fixed takes.now gives.now) self.old }
     {
         let Some(block) = self.innermost() else {
-            return Err(StepFault::IllTyped)
+            return Err(StepFault::IllTyped(StepCause::BehindEnd))
         };
         if !take_all(&mut self.operands, block, takes) {
-            return Err(StepFault::IllTyped);
+            return Err(self.lack(block, Needs::Upper(Row::of_types(takes, None))));
         }
         put_all(&mut self.operands, gives)?;
         Ok(())
@@ -186,13 +277,13 @@ impl Stacks {
         gives: &[ValType],
     ) -> Result<(), StepFault>
         ensures goes { OnOk result (Goes (λ _. Fixed (takes.now ++ above ∷ []) gives.now) self.old self.new) }
-        ensures stops { result ≡ Err StepFault.IllTyped → Stops (λ _. Fixed (takes.now ++ above ∷ []) gives.now) self.old }
+        ensures stops { IsIllTyped result → Stops (λ _. Fixed (takes.now ++ above ∷ []) gives.now) self.old }
     {
         let Some(block) = self.innermost() else {
-            return Err(StepFault::IllTyped)
+            return Err(StepFault::IllTyped(StepCause::BehindEnd))
         };
         if !take_above(&mut self.operands, block, above, takes) {
-            return Err(StepFault::IllTyped);
+            return Err(self.lack(block, Needs::Upper(Row::of_types(takes, Some(above)))));
         }
         put_all(&mut self.operands, gives)?;
         Ok(())
@@ -208,13 +299,13 @@ impl Stacks {
     /// `drop`.
     pub(crate) fn discard(&mut self) -> Result<(), StepFault>
         ensures goes { OnOk result (Goes (λ _. Discards) self.old self.new) }
-        ensures stops { result ≡ Err StepFault.IllTyped → Stops (λ _. Discards) self.old }
+        ensures stops { IsIllTyped result → Stops (λ _. Discards) self.old }
     {
         let Some(block) = self.innermost() else {
-            return Err(StepFault::IllTyped)
+            return Err(StepFault::IllTyped(StepCause::BehindEnd))
         };
         match take_any(&mut self.operands, block) {
-            None => Err(StepFault::IllTyped),
+            None => Err(self.lack(block, Needs::One)),
             Some(_) => Ok(()),
         }
     }
@@ -222,23 +313,25 @@ impl Stacks {
     /// `select`.
     pub(crate) fn select(&mut self) -> Result<(), StepFault>
         ensures goes { OnOk result (Goes (λ _. Selects) self.old self.new) }
-        ensures stops { result ≡ Err StepFault.IllTyped → Stops (λ _. Selects) self.old }
+        ensures stops { IsIllTyped result → Stops (λ _. Selects) self.old }
     {
         let Some(block) = self.innermost() else {
-            return Err(StepFault::IllTyped)
+            return Err(StepFault::IllTyped(StepCause::BehindEnd))
         };
-        if !take_one(&mut self.operands, block, ValType::I32) {
-            return Err(StepFault::IllTyped);
-        }
-        let Some(second) = take_any(&mut self.operands, block) else {
-            return Err(StepFault::IllTyped)
+        let all = self.operands.as_slice();
+        let Some(under) = below_one(all, block, all.len(), ValType::I32) else {
+            return Err(self.lack(block, Needs::Alike))
         };
-        let Some(first) = take_any(&mut self.operands, block) else {
-            return Err(StepFault::IllTyped)
+        let Some(second) = next_below(all, block, under) else {
+            return Err(self.lack(block, Needs::Alike))
         };
-        let Some(operand) = common(second, first) else {
-            return Err(StepFault::IllTyped)
+        let Some(first) = next_below(all, block, second.left) else {
+            return Err(self.lack(block, Needs::Alike))
         };
+        let Some(operand) = common(second.operand, first.operand) else {
+            return Err(self.lack(block, Needs::Alike))
+        };
+        self.operands.truncate(first.left);
         self.operands.push(operand)?;
         Ok(())
     }
@@ -246,13 +339,13 @@ impl Stacks {
     /// An instruction that takes operands of these types and whatever is below them, and that isn't left downwards.
     pub(crate) fn leave(&mut self, takes: &[ValType]) -> Result<(), StepFault>
         ensures goes { OnOk result (Goes (λ _. Leaves takes.now) self.old self.new) }
-        ensures stops { result ≡ Err StepFault.IllTyped → Stops (λ _. Leaves takes.now) self.old }
+        ensures stops { IsIllTyped result → Stops (λ _. Leaves takes.now) self.old }
     {
         let Some(block) = self.innermost() else {
-            return Err(StepFault::IllTyped)
+            return Err(StepFault::IllTyped(StepCause::BehindEnd))
         };
         if !take_all(&mut self.operands, block, takes) {
-            return Err(StepFault::IllTyped);
+            return Err(self.lack(block, Needs::Upper(Row::of_types(takes, None))));
         }
         self.operands.truncate(block.height);
         set_last(
@@ -268,7 +361,7 @@ impl Stacks {
     /// A branch to a label that takes this.
     pub(crate) fn branch(&mut self, label: Option<ValType>) -> Result<(), StepFault>
         ensures goes { OnOk result (Goes (λ _. Leaves (seq label)) self.old self.new) }
-        ensures stops { result ≡ Err StepFault.IllTyped → Stops (λ _. Leaves (seq label)) self.old }
+        ensures stops { IsIllTyped result → Stops (λ _. Leaves (seq label)) self.old }
     {
         match label {
             None => self.leave(&[]),
@@ -279,7 +372,7 @@ impl Stacks {
     /// A branch to a label that takes this, where the operand on top says so.
     pub(crate) fn branch_if(&mut self, label: Option<ValType>) -> Result<(), StepFault>
         ensures goes { OnOk result (Goes (λ _. Fixed (seq label ++ I32 ∷ []) (seq label)) self.old self.new) }
-        ensures stops { result ≡ Err StepFault.IllTyped → Stops (λ _. Fixed (seq label ++ I32 ∷ []) (seq label)) self.old }
+        ensures stops { IsIllTyped result → Stops (λ _. Fixed (seq label ++ I32 ∷ []) (seq label)) self.old }
     {
         match label {
             None => self.fixed(&[ValType::I32], &[]),
@@ -290,7 +383,7 @@ impl Stacks {
     /// A branch to one of some labels that all take this, which the operand on top chooses.
     pub(crate) fn branch_by_index(&mut self, label: Option<ValType>) -> Result<(), StepFault>
         ensures goes { OnOk result (Goes (λ _. Leaves (seq label ++ I32 ∷ [])) self.old self.new) }
-        ensures stops { result ≡ Err StepFault.IllTyped → Stops (λ _. Leaves (seq label ++ I32 ∷ [])) self.old }
+        ensures stops { IsIllTyped result → Stops (λ _. Leaves (seq label ++ I32 ∷ [])) self.old }
     {
         match label {
             None => self.leave(&[ValType::I32]),
@@ -307,13 +400,13 @@ impl Stacks {
         leaves: Option<ValType>,
     ) -> Result<(), StepFault>
         ensures goes { OnOk result (Goes (λ _. Enters takes.now enclosing (seq label) (seq leaves)) self.old self.new) }
-        ensures stops { result ≡ Err StepFault.IllTyped → Stops (λ _. Enters takes.now enclosing (seq label) (seq leaves)) self.old }
+        ensures stops { IsIllTyped result → Stops (λ _. Enters takes.now enclosing (seq label) (seq leaves)) self.old }
     {
         let Some(block) = self.innermost() else {
-            return Err(StepFault::IllTyped)
+            return Err(StepFault::IllTyped(StepCause::BehindEnd))
         };
         if !take_all(&mut self.operands, block, takes) {
-            return Err(StepFault::IllTyped);
+            return Err(self.lack(block, Needs::Upper(Row::of_types(takes, None))));
         }
         let height = self.operands.len();
         self.blocks.push(OpenBlock {
@@ -329,16 +422,16 @@ impl Stacks {
     /// `else`.
     pub(crate) fn turn(&mut self) -> Result<(), StepFault>
         ensures goes { OnOk result (Goes (λ _. Turning) self.old self.new) }
-        ensures stops { result ≡ Err StepFault.IllTyped → Stops (λ _. Turning) self.old }
+        ensures stops { IsIllTyped result → Stops (λ _. Turning) self.old }
     {
         let Some(block) = self.innermost() else {
-            return Err(StepFault::IllTyped)
+            return Err(StepFault::IllTyped(StepCause::BehindEnd))
         };
         match block.enclosing {
-            Enclosing::Whole => Err(StepFault::IllTyped),
+            Enclosing::Whole => Err(StepFault::IllTyped(StepCause::Else)),
             Enclosing::FirstArm => {
                 if !take_result(&mut self.operands, block) {
-                    return Err(StepFault::IllTyped);
+                    return Err(self.lack(block, Needs::Alone(Row::of_result(block.result))));
                 }
                 set_last(
                     &mut self.blocks,
@@ -356,13 +449,16 @@ impl Stacks {
     /// `end`.
     pub(crate) fn end(&mut self) -> Result<(), StepFault>
         ensures goes { OnOk result (Goes (λ _. Ending) self.old self.new) }
-        ensures stops { result ≡ Err StepFault.IllTyped → Stops (λ _. Ending) self.old }
+        ensures stops { IsIllTyped result → Stops (λ _. Ending) self.old }
     {
         let Some(block) = self.innermost() else {
-            return Err(StepFault::IllTyped)
+            return Err(StepFault::IllTyped(StepCause::BehindEnd))
         };
-        if !may_close(block) || !take_result(&mut self.operands, block) {
-            return Err(StepFault::IllTyped);
+        if !may_close(block) {
+            return Err(StepFault::IllTyped(StepCause::NoElse(Operand::of(block.result))));
+        }
+        if !take_result(&mut self.operands, block) {
+            return Err(self.lack(block, Needs::Alone(Row::of_result(block.result))));
         }
         self.blocks.pop();
         // The function's result is its caller's.
@@ -386,16 +482,29 @@ fn may_close(block: OpenBlock) -> bool
     }
 }
 
-// Takes a block's result, and tells whether it was all that stood there.
+// How many operands are left when a block's result is taken. None where it can't be taken.
+fn below_result(operands: &[Option<ValType>], block: OpenBlock) -> Option<usize>
+    ensures within { IfSome result (λ left. left ≤ length operands.now) }
+    ensures pops { PopsTo (pop_all block.unreachable (seq block.result)) block.height operands.now (length operands.now) result }
+{
+    match block.result {
+        None => Some(operands.len()),
+        Some(want) => below_one(operands, block, operands.len(), want),
+    }
+}
+
+// Takes a block's result, where it is all that stands there. False where it is not, and then nothing is taken.
 fn take_result(operands: &mut Vec<Option<ValType>>, block: OpenBlock) -> bool
     ensures { TakesResult block result operands.old.items operands.new.items }
 {
-    if let Some(want) = block.result
-        && !take_one(operands, block, want)
-    {
+    let Some(left) = below_result(operands.as_slice(), block) else {
+        return false
+    };
+    if left > block.height {
         return false;
     }
-    operands.len() <= block.height
+    operands.truncate(left);
+    true
 }
 
 // Puts a block in the place of the innermost.

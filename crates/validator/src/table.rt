@@ -3,6 +3,8 @@
 ghost use Rattle.std.specs.Prelude.{◌≡◌, option_copied};
 ghost use Rattle.validator.specs.Context.{function_type, has_memory};
 
+use crate::fault::StepFault;
+use crate::step_cause::{Named, StepCause};
 use wasm_types::{FuncType, Module};
 
 /// Whether the module has a memory, imported or its own.
@@ -20,4 +22,15 @@ pub(crate) fn type_of_function(module: &Module, function: u32) -> Option<&FuncTy
         None => None,
         Some(index) => module.types.as_slice().get(*index as usize),
     }
+}
+
+/// The fault of a function that has no type.
+#[cold]
+pub(crate) fn no_function(module: &Module, function: u32) -> StepFault {
+    let functions = module.functions.as_slice();
+    let (what, index, count) = match functions.get(function as usize) {
+        None => (Named::Function, function, functions.len()),
+        Some(number) => (Named::Type, *number, module.types.as_slice().len()),
+    };
+    StepFault::IllTyped(StepCause::Missing { what, index, count })
 }

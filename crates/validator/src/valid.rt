@@ -59,29 +59,13 @@ pub fn validate(alloc: Global, module: Module) -> Result<Valid, ValidFault>
     ensures typed { OnOk result (WellTyped «module») }
     ensures refuses { IfErr result (λ fault. Refuses «module» fault) }
 {
-    if !keeps_rules(&module) {
-        return Err(ValidFault::Invalid {
-            function: None,
-            instruction: 0,
-        });
-    }
-    if !keeps_limits(&module) {
-        return Err(ValidFault::Invalid {
-            function: None,
-            instruction: 0,
-        });
-    }
-    let Some(names) = names_of(
+    keeps_rules(&module)?;
+    keeps_limits(&module)?;
+    let names = names_of(
         alloc,
         NameHasher::of(module.source.as_slice()),
         module.exports.as_slice(),
-    )?
-    else {
-        return Err(ValidFault::Invalid {
-            function: None,
-            instruction: 0,
-        });
-    };
+    )??;
     let targets = check_functions(alloc, &module)?;
     let groups = groups_of_all(alloc, module.bodies.as_slice())?;
     Ok(Valid {
@@ -135,20 +119,16 @@ fn check_at(
     ensures targets { IfOk result (λ targets. option_map (λ body. targets_from 0 body.code) (slice_get module.now.bodies function) ≡ Some targets) }
     ensures fault { IfErr result (λ fault. IsOfFunction module.now fault) }
 {
-    let fault = ValidFault::Invalid {
-        function: Some(function),
-        instruction: 0,
-    };
     let body = &module.bodies.as_slice()[function as usize];
     let Some(kind) = type_of_function(module, function) else {
-        return Err(fault)
+        unreachable!()
     };
     match check_function(&mut work.stacks, &mut work.ends, module, kind, body) {
         Ok(()) => {}
         Err(found) => return Err(fault_of_function(function, found)),
     }
     match work.finder.find(alloc, body.code.as_slice())? {
-        None => Err(fault),
+        None => unreachable!(),
         Some(targets) => Ok(targets),
     }
 }
@@ -157,9 +137,10 @@ fn fault_of_function(function: u32, fault: CheckFault) -> ValidFault
     ensures { result ≡ fault_in function fault }
 {
     match fault {
-        CheckFault::IllTyped(at) => ValidFault::Invalid {
+        CheckFault::IllTyped(at, cause) => ValidFault::Invalid {
             function: Some(function),
             instruction: at,
+            cause,
         },
         CheckFault::NoMemory => ValidFault::NoMemory,
     }

@@ -6,8 +6,10 @@ mod opener;
 mod opening;
 mod reader;
 mod replaying;
+mod standing;
 
 pub use gathered::Gathered;
 pub use opener::Opener;
 pub use opening::{WasmReplay, open_replay, opener_of};
-pub use replaying::{WasmReplayFault, replay_gathered};
+pub use replaying::{Unreplayed, WasmReplayFault, replay_gathered};
+pub use standing::{Claimed, Doing, Logged, LoggedEntry, Reached, Standing, Waiting};

@@ -6,6 +6,7 @@ ghost use Rattle.wasm_replay.specs.Replays.{EndsAsRecorded, HasWorld, IsOrderedA
 
 use crate::gathered::Gathered;
 use crate::opening::opener_of;
+use crate::standing::Standing;
 use event_core::Ended;
 use replay_gate::{ReplayFault, replay};
 use replica::Log;
@@ -28,6 +29,16 @@ pub enum WasmReplayFault {
     Replay(ReplayFault),
 }
 
+/// Why a gathered log is not replayed to its end, and where its replay stands.
+#[derive(Clone, Copy, Debug, PartialEq, Eq, Error)]
+#[error("{fault}")]
+pub struct Unreplayed {
+    /// Why it is not.
+    pub fault: WasmReplayFault,
+    /// Where its replay stands. No clause speaks of it.
+    pub standing: Standing,
+}
+
 /// Replays a log that was gathered, from the opening world of its module and plan.
 ///
 /// What is answered is the end, or the fault, of the ordered replay: the threads of the order one by one take a turn
@@ -39,21 +50,27 @@ pub fn replay_gathered(
     plan: &Plan,
     log: &Log,
     order: &[u32],
-) -> Result<Ended, WasmReplayFault>
+) -> Result<Ended, Unreplayed>
     requires { IsPlanOf valid.now plan.now }
     ensures of_run { OnOk result (IsOfRun valid.now plan.now log.now) }
     // There is a world from which the runs of the log begin; of it speak the clauses below.
     ensures has_world { HasWorld valid.now plan.now log.now }
     ensures ordered { IfOk result (IsOrderedAnswer valid.now plan.now log.now order.now) }
     ensures recorded { IfOk result (EndsAsRecorded valid.now plan.now log.now) }
-    ensures refused { IfErr result (IsRefusal valid.now plan.now log.now order.now) }
+    ensures refused { IfErr result (λ u. IsRefusal valid.now plan.now log.now order.now u.fault) }
 {
     let opener = match opener_of(valid, plan, log) {
         Ok(opener) => opener,
-        Err(fault) => return Err(fault),
+        Err(fault) => {
+            let standing = Standing::unopened(valid, plan, log, fault);
+            return Err(Unreplayed { fault, standing });
+        }
     };
     match replay(alloc, &opener, &Gathered { log }, order) {
         Ok(ended) => Ok(ended),
-        Err(fault) => Err(WasmReplayFault::Replay(fault)),
+        Err(refused) => Err(Unreplayed {
+            fault: WasmReplayFault::Replay(refused.fault),
+            standing: Standing::of(alloc, log, refused.fault, refused.world.as_ref()),
+        }),
     }
 }

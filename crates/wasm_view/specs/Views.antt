@@ -72,6 +72,6 @@ module _ (m : Module) (plan : PlanValue) (log : GatheredLog) (order : List ℕ) 
 
   -- when each fault is answered: for want of memory alone a view is refused whose range the memory has
   abbrev pub IsNotViewed : ℕ → ℕ → WasmViewFault → Type 0
-  IsNotViewed from len (Replay f) = IsNotReplayed f
+  IsNotViewed from len (Replay u) = IsNotReplayed u.fault
   IsNotViewed from len (View showing.OutOfView) = IsOfRun m plan log × IsOutOfView from len
   IsNotViewed from len (View showing.NoMemory) = IsOfRun m plan log × IsInView from len

@@ -22,7 +22,7 @@ use thiserror::Error;
 use thread_plan::Plan;
 use validator::Valid;
 use waiter_queues::SharedSpace;
-use wasm_replay::{WasmReplayFault, open_replay};
+use wasm_replay::{Standing, Unreplayed, WasmReplayFault, open_replay};
 use wasm_types::Block;
 
 /// Why a log is not viewed.
@@ -30,7 +30,7 @@ use wasm_types::Block;
 pub enum WasmViewFault {
     /// Refusals 51, 55, 56 and 58: the log is not replayed to a stop.
     #[error("{0}")]
-    Replay(WasmReplayFault),
+    Replay(Unreplayed),
     /// Refusals 61 and 62: the view can't be shown.
     #[error("{0}")]
     View(ViewFault),
@@ -97,11 +97,16 @@ pub fn view_log(
 {
     let mut replay = match open_replay(alloc, valid, plan, log) {
         Ok(replay) => replay,
-        Err(fault) => return Err(WasmViewFault::Replay(fault)),
+        Err(fault) => {
+            let standing = Standing::unopened(valid, plan, log, fault);
+            return Err(WasmViewFault::Replay(Unreplayed { fault, standing }));
+        }
     };
     let stopped = run_to(alloc, &mut replay, order, breaks);
     if let Stopped::Fault(fault) = stopped {
-        return Err(WasmViewFault::Replay(WasmReplayFault::Replay(fault)));
+        let standing = Standing::of(alloc, log, fault, Some(replay.world()));
+        let fault = WasmReplayFault::Replay(fault);
+        return Err(WasmViewFault::Replay(Unreplayed { fault, standing }));
     }
     let block = memory_limits(valid.module(), log.key().profile).block;
     let world = replay.world();

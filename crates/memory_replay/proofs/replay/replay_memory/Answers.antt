@@ -17,5 +17,5 @@ returns-clause-ended g c =
 
 pub returns-clause-refused : goal.returns-clause-refused
 returns-clause-refused g c =
-    subst (λ s. IfErr c.replay_by_threads.result (IsReplayFault shared_memory g.M.Machine.code (g.L.ReadLog.log c.args.log.now)
-    (opening_world g.M.Machine.state s.space.blocks.limits (shared_values s.space.blocks s.space.queues) c.args.machines.items))) c.new-opened.ensures.0 c.replay_by_threads.ensures.refused
+    subst (λ s. IfErr c.replay_by_threads.result (λ r. IsReplayFault shared_memory g.M.Machine.code (g.L.ReadLog.log c.args.log.now)
+    (opening_world g.M.Machine.state s.space.blocks.limits (shared_values s.space.blocks s.space.queues) c.args.machines.items) r.fault)) c.new-opened.ensures.0 c.replay_by_threads.ensures.refused

@@ -1,5 +1,6 @@
-use Rattle.std.proofs.Common.{◌≡◌, ◌⊎◌, ◌+◌, ℕ, List, arith, rules, inl, inr, refl}
+use Rattle.std.proofs.Common.{◌≡◌, ◌⊎◌, ◌+◌, ℕ, List, Bool, arith, rules, inl, inr, refl, subst}
 use Rattle.commands.specs.declared.fault.Fault.TheVariants.{NoMemory}
+use Rattle.program.specs.Answers.{IsTold}
 use Rattle.program.proofs.Stops.{as_requested, done_as_asked}
 use Rattle.program.proofs.answering.run.Goals as goal
 
@@ -35,4 +36,26 @@ returns-in-Ok-clause-answered g c =
       refused = λ z. absurd (omega (arith, z));
       unknown = λ z. absurd (omega (arith, z));
       statuses = omega arith;
+    }
+
+pub returns-in-Ok-Request-clause-answered : goal.returns-in-Ok-Request-clause-answered
+returns-in-Ok-Request-clause-answered g c =
+    let asked = as_requested _ _ c.in-Ok-Request.request c.in-Ok-Request.why c.in-Ok-Request.field-0-is c.in-Ok-Request.ensures in
+    let request = c.in-Ok-Request.request in
+    let fault = c.in-Err-perform.fault in
+    let told = c.refuse_request.ensures.tells in
+    record {
+      done = λ z. absurd (omega (arith, z, c.refuse_request.ensures.status));
+      refused = λ z. (
+        fault,
+        inl (
+          request,
+          asked.0,
+          c.in-Err-perform.ensures.stopped,
+          subst (λ (b : Bool). IsTold (λ text. g.E.Sink.takes c.args.errors.now text c.refuse_request.new.errors ⊎ (g.E.Sink.failed c.refuse_request.new.errors ≡ g.E.Sink.failed c.args.errors.now + 1)) b request fault) asked.1
+              (subst (λ e. IsTold (λ text. g.E.Sink.takes e text c.refuse_request.new.errors ⊎ (g.E.Sink.failed c.refuse_request.new.errors ≡ g.E.Sink.failed e + 1)) c.in-Ok-Request.why request fault) c.in-Err-perform.ensures.untold told),
+        ),
+      );
+      unknown = λ z. absurd (omega (arith, z, c.refuse_request.ensures.status));
+      statuses = omega (arith, c.refuse_request.ensures.status);
     }

@@ -18,4 +18,4 @@ returns-in-Err-clause-refused g c =
 
 pub returns-in-Err-end-clause-refused : goal.returns-in-Err-end-clause-refused
 returns-in-Err-end-clause-refused g c =
-    λ w leads. starved_fault g.S.ObjectSpace.meaning g.M.Machine.code g.met.S.ObjectSpace.laws g.met.M.Machine.laws (g.L.ReadLog.log c.args.log.now) (g.met.L.ReadLog.limits c.args.log.now) w
+    λ w leads. starved_fault g.S.ObjectSpace.meaning g.M.Machine.code g.met.S.ObjectSpace.laws g.met.M.Machine.laws (g.L.ReadLog.log c.args.log.now) (g.met.L.ReadLog.limits c.args.log.now) w c.no_memory.result.fault c.no_memory.ensures

@@ -29,5 +29,5 @@ returns-in-Ok-None-clause-recorded g c =
 pub returns-in-Ok-None-clause-finishes : goal.returns-in-Ok-None-clause-finishes
 returns-in-Ok-None-clause-finishes g c =
     if_err _ _ c.replay_in_order.result
-    (want_of_memory g.S.ObjectSpace.meaning g.M.Machine.code g.met.S.ObjectSpace.laws g.met.M.Machine.laws (g.L.ReadLog.log c.args.log.now) (g.O.OpenWorld.opened c.args.opens.now) c.args.order.now)
+    (λ r. want_of_memory g.S.ObjectSpace.meaning g.M.Machine.code g.met.S.ObjectSpace.laws g.met.M.Machine.laws (g.L.ReadLog.log c.args.log.now) (g.O.OpenWorld.opened c.args.opens.now) c.args.order.now r.fault)
     c.replay_in_order.ensures.refused

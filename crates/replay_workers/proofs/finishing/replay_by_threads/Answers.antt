@@ -17,4 +17,4 @@ returns-in-Ok-clause-refused g c =
     let state = g.M.Machine.state in
     let fixed = g.S.ObjectSpace.fixed c.args.opened.space in
     let values = g.S.ObjectSpace.values c.args.opened.space in
-    IfErr-weaker c.finish.result _ _ (λ f h. h (opening_world state fixed values c.args.machines.items) c.in-Ok.ensures) c.finish.ensures.refused
+    IfErr-weaker c.finish.result _ _ (λ r h. h (opening_world state fixed values c.args.machines.items) c.in-Ok.ensures) c.finish.ensures.refused

@@ -21,4 +21,4 @@ returns-in-Ok-replay_in-clause-recorded g c =
 
 pub returns-in-Err-replay_in-clause-refused : goal.returns-in-Err-replay_in-clause-refused
 returns-in-Err-replay_in-clause-refused g c =
-    threads_refusal c.args.valid.now c.args.plan.now c.args.log.now c.profile-profile.result (c.profile-profile.ensures ∙ c.in-Ok.ensures.opener.profile) c.in-Err-replay_in.fault c.in-Ok.ensures.of_run c.in-Err-replay_in.ensures.refused
+    threads_refusal c.args.valid.now c.args.plan.now c.args.log.now c.profile-profile.result (c.profile-profile.ensures ∙ c.in-Ok.ensures.opener.profile) c.in-Err-replay_in.refused.fault c.in-Ok.ensures.of_run c.in-Err-replay_in.ensures.refused

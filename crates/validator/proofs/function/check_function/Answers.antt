@@ -1,13 +1,14 @@
-use Rattle.std.proofs.Common.{length, sym, ◌∙◌, ap, arith, ◌≡◌}
+use Rattle.std.proofs.Common.{length, sym, ◌∙◌, ap, subst, arith, ◌≡◌}
 use Rattle.std.specs.Prelude.{Err}
 use Rattle.validator.specs.Context.{context_of}
+use Rattle.validator.specs.Faults.{IsIllTyped}
 use Rattle.validator.proofs.Walking.{reached_on_slice, fault_in_slice, fault_at_end}
 use Rattle.validator.proofs.function.check_function.Goals as goal
 
 pub returns-in-Err-IllTyped-clause-fault : goal.returns-in-Err-IllTyped-clause-fault
 returns-in-Err-IllTyped-clause-fault c =
     fault_in_slice (context_of c.args.module.now c.args.kind.now c.args.body.now) c.args.body.now.code c.as_slice-code.result.now c.loop-at.at _ c.loop-at.stacks c.is_closed.result c.as_slice-code.ensures c.loop-at-test.true
-    c.loop-at.invariant c.is_closed.ensures c.if-is_closed.false (c.in-Err-IllTyped.ensures.stops (ap (λ x. Err x) c.in-Err-IllTyped.field-0-is))
+    c.loop-at.invariant c.is_closed.ensures c.if-is_closed.false (c.in-Err-IllTyped.ensures.stops (subst (λ x. IsIllTyped {X = Unit {0}} (Err x)) (sym c.in-Err-IllTyped.field-0-is) tt))
 
 pub loop-at-preserved : goal.loop-at-preserved
 loop-at-preserved c =

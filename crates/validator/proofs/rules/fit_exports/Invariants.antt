@@ -1,8 +1,8 @@
-use Rattle.std.proofs.Common.{◌≡◌, take}
+use Rattle.std.proofs.Common.{◌≡◌, true, take}
 use Rattle.std.specs.List.{list_all}
 use Rattle.validator.specs.Module.{export_fits}
 use Rattle.validator.proofs.rules.fit_exports.Given as goal
 
--- the items so far are tested
-abbrev pub invariant-loop-export : goal.invariant-loop-export
-invariant-loop-export l = l.fit ≡ list_all (export_fits l.module) (take l.export-index l.export-items)
+-- the items so far keep the rule
+abbrev pub invariant-loop-number : goal.invariant-loop-number
+invariant-loop-number l = list_all (export_fits l.module) (take l.number l.export-items) ≡ true

@@ -1,8 +1,8 @@
-use Rattle.std.proofs.Common.{◌≡◌, take}
+use Rattle.std.proofs.Common.{◌≡◌, true, take}
 use Rattle.std.specs.List.{list_all}
 use Rattle.validator.specs.Module.{global_fits}
 use Rattle.validator.proofs.rules.fit_globals.Given as goal
 
--- the items so far are tested
-abbrev pub invariant-loop-global : goal.invariant-loop-global
-invariant-loop-global l = l.fit ≡ list_all global_fits (take l.global-index l.global-items)
+-- the items so far keep the rule
+abbrev pub invariant-loop-number : goal.invariant-loop-number
+invariant-loop-number l = list_all global_fits (take l.number l.global-items) ≡ true

@@ -13,4 +13,4 @@ returns-in-Ok-clause-value c =
 pub returns-in-Err-clause-value : goal.returns-in-Err-clause-value
 returns-in-Err-clause-value c =
     let invalid : is_utf8 c.in_ok-content.content.rest.now ≡ false = not_utf8 c.in_ok-content.content.rest.now c.in-Err.ensures.cases.0 in
-    rw (c.refusal-refusal.ensures, c.in_ok-content.ensures.value, invalid) refl
+    rw (c.refused.ensures, c.in_ok-content.ensures.value, invalid) refl

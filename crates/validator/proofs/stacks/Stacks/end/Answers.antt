@@ -5,20 +5,18 @@ use Rattle.validator.specs.Walk.{known}
 use Rattle.validator.specs.Table.{seq}
 use Rattle.std.specs.Prelude.{vec_len, take, ◌-◌, length}
 use Rattle.std.proofs.Common.{arith}
-use Rattle.validator.proofs.stacks.Stacks.end.Goals.{then-not-may_close-via-then-not-may_close, then-not-may_close-via-else-not-may_close+then-not-take_result}
 use Rattle.validator.proofs.stacks.Stacks.end.Goals as goal
 
 pub returns-in_default-clause-stops : goal.returns-in_default-clause-stops
 returns-in_default-clause-stops c = λ _ f fs st. absurd (no_innermost c.args.self.now c.innermost.result f fs c.innermost.ensures c.in_default.is st)
 
 pub returns-then-not-may_close-clause-stops : goal.returns-then-not-may_close-clause-stops
-returns-then-not-may_close-clause-stops c =
-    λ _ f fs st. elim c.then-not-may_close.branch [
-      | then-not-may_close-via-then-not-may_close w ↦ may_not_end c.args.self.now c.innermost.result c.in-Some.block c.may_close.result c.innermost.ensures c.in-Some.is c.may_close.ensures w.if-not-may_close.true f fs st
-      | then-not-may_close-via-else-not-may_close+then-not-take_result w ↦
-          not_closed (λ f. may_end f.enclosing f.result) (λ f fs. give f.result fs) c.args.self.now c.innermost.result c.in-Some.block w.take_result.new.operands.items w.take_result.result
-          c.innermost.ensures c.in-Some.is w.take_result.ensures w.if-not-take_result.true f fs st
-    ]
+returns-then-not-may_close-clause-stops c = λ _ f fs st. may_not_end c.args.self.now c.innermost.result c.in-Some.block c.may_close.result c.innermost.ensures c.in-Some.is c.may_close.ensures c.if-not-may_close.true f fs st
+
+pub returns-then-not-take_result-clause-stops : goal.returns-then-not-take_result-clause-stops
+returns-then-not-take_result-clause-stops c =
+    λ _ f fs st. not_closed (λ f. may_end f.enclosing f.result) (λ f fs. give f.result fs) c.args.self.now c.innermost.result c.in-Some.block c.take_result.new.operands.items c.take_result.result
+    c.innermost.ensures c.in-Some.is c.take_result.ensures c.if-not-take_result.true f fs st
 
 pub returns-then-is_empty-clause-goes : goal.returns-then-is_empty-clause-goes
 returns-then-is_empty-clause-goes c =

@@ -1,0 +1,122 @@
+//! Where replays of threads over their memory stand that are refused.
+
+use crate::modules::valid;
+use crate::replays::{READ, READERS, THREE, WRITTEN, deliver};
+use log_pieces::End;
+use replica::Replica;
+use rw_objects::{Count, Found, Kind, Mode, Touch};
+use std::alloc::Global;
+use std::test::Fail;
+use thread_plan::Plan;
+use wasm_replay::{
+    Claimed, Doing, Logged, LoggedEntry, Reached, Standing, Waiting, replay_gathered,
+};
+use wasm_types::{Block, Profile, RunKey};
+
+/// A write behind one more read than there are.
+const LATE: Found = Found::Write {
+    object: 1,
+    version: 0,
+    reads: 3,
+};
+
+/// An entry of one touch.
+fn one(found: Found) -> LoggedEntry {
+    LoggedEntry {
+        kind: Kind::Access,
+        found: [Some(found), None, None],
+    }
+}
+
+/// Where the replay stands of what each thread found and how it ends, in a log with this digest, or that of the run.
+fn standing(
+    alloc: Global,
+    digest: Option<[u8; 32]>,
+    claims: &[(u32, (Found, End))],
+) -> Result<Option<Standing>, Fail> {
+    let valid = valid(alloc, READERS)?;
+    let plan = Plan::read(alloc, THREE.as_bytes(), &valid)?;
+    let source = valid.module().source.as_slice();
+    let profile = Profile::Two(Block::least());
+    let mut key = RunKey::of(source, plan.bytes(), 0, profile);
+    if let Some(digest) = digest {
+        key.digest = digest;
+    }
+    let mut replica = Replica::new(alloc, key);
+    for (thread, claim) in claims {
+        deliver(alloc, &mut replica, *thread, *claim)?;
+    }
+    match replay_gathered(alloc, &valid, &plan, replica.log(), &[]) {
+        Ok(_) => Ok(None),
+        Err(unreplayed) => Ok(Some(unreplayed.standing)),
+    }
+}
+
+/// A log of another run has another key than that of these.
+#[test]
+fn keys_are_told(rt: HostRuntime) -> Result<(), Fail> {
+    let other = [7; 32];
+    let Some(Standing::Keys { log, own }) = standing(rt.alloc(), Some(other), &[])? else {
+        return Err("the keys are not told".into());
+    };
+    assert_eq!(rt; log.digest, other);
+    assert_ne!(rt; own.digest, other);
+    assert_eq!(rt; own.run, log.run);
+    Ok(())
+}
+
+/// No piece has the writer's end; or two pieces of a reader differ in theirs.
+#[test]
+fn claims_are_told(rt: HostRuntime) -> Result<(), Fail> {
+    let alloc = rt.alloc();
+    let end = Some(Standing::Claims(Claimed::End));
+    assert_eq!(rt; standing(alloc, None, &[(0, READ), (1, READ)])?, end);
+    let claims = [(0, READ), (1, READ), (1, (READ.0, WRITTEN.1)), (2, WRITTEN)];
+    assert_eq!(rt; standing(alloc, None, &claims)?, end);
+    Ok(())
+}
+
+/// A reader is to write.
+#[test]
+fn a_thread_diverges(rt: HostRuntime) -> Result<(), Fail> {
+    let claims = [(0, (WRITTEN.0, READ.1)), (1, READ), (2, WRITTEN)];
+    let touch = Touch {
+        object: 1,
+        mode: Mode::Read,
+    };
+    let wanted = Standing::Diverged {
+        logged: Logged::Entry(one(WRITTEN.0)),
+        reached: Some(Reached {
+            steps: 1,
+            doing: Doing::Accesses([Some(touch), None, None]),
+        }),
+    };
+    assert_eq!(rt; standing(rt.alloc(), None, &claims)?, Some(wanted));
+    Ok(())
+}
+
+/// The writer waits for a read that never comes.
+#[test]
+fn a_thread_waits(rt: HostRuntime) -> Result<(), Fail> {
+    let claims = [(0, READ), (1, READ), (2, (LATE, WRITTEN.1))];
+    let mut waiting = [None; 16];
+    waiting[2] = Some(Waiting {
+        place: 0,
+        entry: one(LATE),
+        counts: [
+            Count {
+                version: 0,
+                reads: 2,
+            },
+            Count::default(),
+            Count::default(),
+        ],
+    });
+    assert_eq!(rt;
+        standing(rt.alloc(), None, &claims)?,
+        Some(Standing::Stuck { waiting })
+    );
+    let text = format!(in rt.alloc(); "{}", one(LATE))?;
+    assert_eq!(rt; text.as_str(), "access w1@0/3");
+    Ok(())
+}
