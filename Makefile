@@ -1,5 +1,5 @@
-# demo, build, try, test, bench and install wreplay; growths refuses it memory, pages runs what its pages show. PREFIX says where install
-# puts it, JOBS how many processors a check takes.
+# demo, build, try, test, bench and install wreplay; growths refuses it memory, pages runs what its pages show, table makes the table of
+# crates. PREFIX says where install puts it, JOBS how many processors a check takes.
 PREFIX ?= /usr/local
 JOBS ?= $(shell nproc)
 PROGRAM = crates/wreplay/out/wreplay
@@ -7,9 +7,10 @@ BENCH = crates/wreplay_bench/out/wreplay_bench
 LOST = examples/lost.wasm examples/lost.plan examples/lost.schedule
 # The tests that wait for a refused growth, or hand it on.
 REFUSED = log_tests:refused:: log_tests:joining_again log_tests:skipping_with_refused machine_tests:growths \
-	module_tests:refused_memory replay_tests:refused shared_tests:growths function_names log_divergence pick_schedule parts_tests
+	log_tests:contradictions:: module_tests:refused_memory module_tests:name_sections:: module_tests:schedules:: \
+	replay_tests:refused shared_tests:growths shared_tests:operations:: shared_tests:splitting::
 
-.PHONY: demo build try test pages bench growths wrong-bodies install clean
+.PHONY: demo build try test pages table bench growths wrong-bodies install clean
 
 # Records, gathers and replays the lost update of examples/lost with no proof, by the commands in examples/demo: within two minutes.
 demo:
@@ -29,10 +30,15 @@ try:
 test:
 	.ci/run
 
-# The commands that stand in the README, the tutorial and the hunt write what stands behind them.
+# The commands that stand in the README, the tutorial and the hunt write what stands behind them, and the table of crates is up to date.
 pages: $(PROGRAM)
+	python3 scripts/crates.py --check
 	mkdir -p build
 	python3 bench/pages.py $(PROGRAM) README.md docs/TUTORIAL.md examples/hunt/README.md
+
+# The table of crates in docs/ARCHITECTURE.md.
+table:
+	python3 scripts/crates.py
 
 # Speeds as ratios to named peers in the same run; docs/BENCH.md keeps them.
 bench: $(PROGRAM) $(BENCH)

@@ -1,17 +1,17 @@
 -- Custom sections are skipped, and nothing else is.
 use Rattle.std.proofs.Common.{◌≡◌, ℕ, zero, suc, ◌<◌, ◌≤◌, true, false, eqb, List, [], ◌∷◌, ◌++◌, length, Result, Ok, Err, refl, sym, ap, subst, ◌∙◌, append_assoc, arith}
 use Rattle.std.proofs.lemmas.Bool.{eqb-true, eqb-false}
-use Rattle.byte_reader.specs.Language.{Language, anything, ◌⨾◌, each, name, sized}
-use Rattle.byte_reader.specs.Fault.{Fault, Malformed, Oversized, Reading, ◌>>=◌}
-use Rattle.byte_reader.specs.Reading.{byte_at, name_at}
-use Rattle.byte_reader.proofs.Answers.{Told, Answers, Exact, AnswersAll, always}
-use Rattle.byte_reader.proofs.Laws.{name_exact, sized_all_exact, shrinks}
+use Rattle.binary_decoder.specs.Language.{Language, anything, ◌⨾◌, each, name, sized}
+use Rattle.binary_decoder.specs.Fault.{Fault, Malformed, Oversized, Reading, ◌>>=◌}
+use Rattle.binary_decoder.specs.Reading.{byte_at, name_at}
+use Rattle.binary_decoder.proofs.ReadAnswers.{Told, Answers, Exact, AnswersAll, always}
+use Rattle.binary_decoder.proofs.ReadLaws.{name_exact, sized_all_exact, shrinks}
 use Rattle.binary_decoder.specs.Grammar.{custom, customs}
 use Rattle.binary_decoder.specs.Reader.{custom_at, behind_custom_at, skip_at, skipped}
-use Rattle.byte_reader.specs.Reading.{begins}
-use Rattle.byte_reader.specs.declared.fault.DecodeFault.{DecodeFault}
-use Rattle.byte_reader.specs.declared.fault.DecodeFault.TheVariants.{Refused, TooLarge, NoMemory}
-use Rattle.byte_reader.specs.Moves.{Fails}
+use Rattle.binary_decoder.specs.Reading.{begins}
+use Rattle.binary_decoder.specs.declared.fault.DecodeFault.{DecodeFault}
+use Rattle.binary_decoder.specs.declared.fault.DecodeFault.TheVariants.{Refused, TooLarge, NoMemory}
+use Rattle.binary_decoder.specs.Moves.{Fails}
 
 -- ---- one custom section, behind its id
 

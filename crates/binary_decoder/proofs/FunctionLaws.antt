@@ -2,11 +2,11 @@
 use Rattle.std.proofs.Common.{◌≡◌, ℕ, zero, suc, ◌+◌, ◌≤◌, Bool, true, false, cond, ltb, eqb, ◌&&◌, List, [], ◌∷◌, ◌++◌, length, Ok, Err, refl, sym, ap, subst, ◌∙◌, arith}
 use Rattle.std.proofs.lemmas.Bool.{eqb-true, eqb-false, ltb-true, ltb-false}
 use Rattle.std.proofs.lemmas.List.{length-append, length-replicate}
-use Rattle.byte_reader.specs.Language.{Language, ◌⨾◌, each, u32, vector}
-use Rattle.byte_reader.specs.Fault.{Malformed, Oversized}
-use Rattle.byte_reader.specs.Reading.{u32_at, then_at, limited_at, sized_at}
-use Rattle.byte_reader.proofs.Answers.{Answers, Exact, always}
-use Rattle.byte_reader.proofs.Laws.{Counted, then_both, then_exact, as_exact, as_by, u32_exact, Keeps, limited_exact, sized_exact, alike, shrinks}
+use Rattle.binary_decoder.specs.Language.{Language, ◌⨾◌, each, u32, vector}
+use Rattle.binary_decoder.specs.Fault.{Malformed, Oversized}
+use Rattle.binary_decoder.specs.Reading.{u32_at, then_at, limited_at, sized_at}
+use Rattle.binary_decoder.proofs.ReadAnswers.{Answers, Exact, always}
+use Rattle.binary_decoder.proofs.ReadLaws.{Counted, then_both, then_exact, as_exact, as_by, u32_exact, Keeps, limited_exact, sized_exact, alike, shrinks}
 use Rattle.std.proofs.lemmas.List.Concat.{flat_map-cons}
 use Rattle.binary_decoder.specs.Grammar.{val_type, expr, group, locals, body}
 use Rattle.wasm_types.specs.Limits.{Fit}

@@ -2,11 +2,11 @@
 use Rattle.std.proofs.Common.{◌≡◌, ℕ, zero, suc, ◌+◌, ◌≤◌, Bool, true, false, List, [], ◌∷◌, ◌++◌, length, Option, Some, None, Ok, Err, refl, sym, ap, subst, ◌∙◌, append_assoc, arith}
 use Rattle.std.specs.Prelude.{MatchOption}
 use Rattle.std.proofs.lemmas.List.{length-append}
-use Rattle.byte_reader.specs.Language.{Language, byte, ◌⨾◌, each, u32, vector}
-use Rattle.byte_reader.specs.Fault.{Malformed, Oversized, Reading, ◌>>=◌}
-use Rattle.byte_reader.specs.Reading.{byte_at, or_malformed, u32_at, then_at, vector_at}
-use Rattle.byte_reader.proofs.Answers.{Told, Found, Answers, Exact, always}
-use Rattle.byte_reader.proofs.Laws.{then_both, as_by, byte_exact, u32_exact, free_vector, free_pair, kind_exact}
+use Rattle.binary_decoder.specs.Language.{Language, byte, ◌⨾◌, each, u32, vector}
+use Rattle.binary_decoder.specs.Fault.{Malformed, Oversized, Reading, ◌>>=◌}
+use Rattle.binary_decoder.specs.Reading.{byte_at, or_malformed, u32_at, then_at, vector_at}
+use Rattle.binary_decoder.proofs.ReadAnswers.{Told, Found, Answers, Exact, always}
+use Rattle.binary_decoder.proofs.ReadLaws.{then_both, as_by, byte_exact, u32_exact, free_vector, free_pair, kind_exact}
 use Rattle.wasm_types.specs.Nesting.{nesting_of, opened, closes_by, closes}
 use Rattle.wasm_types.specs.declared.nesting.Nesting.{Nesting}
 use Rattle.wasm_types.specs.declared.nesting.Nesting.TheVariants.{Opens, OpensIf, Turns, Closes, Stays}

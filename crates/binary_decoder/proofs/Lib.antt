@@ -7,3 +7,8 @@ pub mod SlotLaws
 pub mod SectionLaws
 pub mod Verdict
 pub mod Loop
+pub mod ReadAnswers
+pub mod ReadLaws
+pub mod ReadNumbers
+pub mod NameLaws
+mod NameItems

@@ -3,19 +3,19 @@ use Rattle.std.proofs.Common.{◌≡◌, ℕ, suc, ◌-◌, ◌+◌, ◌≤◌, 
 use Rattle.std.specs.Prelude.{map}
 use Rattle.std.specs.List.{AllByRecursion}
 use Rattle.std.proofs.Common.{subst}
-use Rattle.byte_reader.specs.Language.{u32}
-use Rattle.byte_reader.proofs.Answers.{Found, always}
-use Rattle.byte_reader.proofs.Laws.{Counted, u32_exact, items_exact}
+use Rattle.binary_decoder.specs.Language.{u32}
+use Rattle.binary_decoder.proofs.ReadAnswers.{Found, always}
+use Rattle.binary_decoder.proofs.ReadLaws.{Counted, u32_exact, items_exact}
 use Rattle.wasm_types.specs.declared.instruction.Instr.TheVariants.{BranchTable}
 use Rattle.std.specs.Global.{Vec}
 use Rattle.std.proofs.Math.ListN.{drop_of_length-le}
 use Rattle.std.proofs.lemmas.Bool.{eqb-true, eqb-false}
 use Rattle.std.proofs.lemmas.List.{append-nil, length-reverse, nil_from_length}
-use Rattle.byte_reader.specs.Fault.{Malformed, Oversized, Reading, ◌>>=◌}
-use Rattle.byte_reader.specs.Reading.{u32_at, items_at}
-use Rattle.byte_reader.specs.declared.fault.DecodeFault.{DecodeFault}
-use Rattle.byte_reader.specs.declared.fault.DecodeFault.TheVariants.{Refused, TooLarge, NoMemory}
-use Rattle.byte_reader.specs.Moves.{Fails}
+use Rattle.binary_decoder.specs.Fault.{Malformed, Oversized, Reading, ◌>>=◌}
+use Rattle.binary_decoder.specs.Reading.{u32_at, items_at}
+use Rattle.binary_decoder.specs.declared.fault.DecodeFault.{DecodeFault}
+use Rattle.binary_decoder.specs.declared.fault.DecodeFault.TheVariants.{Refused, TooLarge, NoMemory}
+use Rattle.binary_decoder.specs.Moves.{Fails}
 use Rattle.wasm_types.specs.Nesting.{nesting_of, opened}
 use Rattle.wasm_types.specs.declared.nesting.Enclosing.{Enclosing}
 use Rattle.wasm_types.specs.declared.instruction.Instr.{Instr}

@@ -2,10 +2,10 @@
 use Rattle.std.proofs.Common.{◌≡◌, ℕ, Bool, true, false, List, Option, Some, None, refl, sym, ap, ◌∙◌}
 use Rattle.std.specs.Prelude.{ℤ, is_some}
 use Rattle.std.specs.Int.{w32, w64, cast_unsigned}
-use Rattle.byte_reader.specs.Language.{Language, byte, ◌⨾◌, u32, s32, s64, vector, byte_vector, name}
-use Rattle.byte_reader.specs.Reading.{byte_at, u32_at, s32_at, s64_at, then_at, made_at, kind_at, limited_at, vector_at, byte_vector_at, name_at}
-use Rattle.byte_reader.proofs.Answers.{Exact, always}
-use Rattle.byte_reader.proofs.Laws.{then_exact, made_exact, as_exact, byte_exact, u32_exact, signed_exact, free_vector, free_pair, byte_vector_exact, name_exact, Keeps, limited_exact, kinds_exact, choice_exact}
+use Rattle.binary_decoder.specs.Language.{Language, byte, ◌⨾◌, u32, s32, s64, vector, byte_vector, name}
+use Rattle.binary_decoder.specs.Reading.{byte_at, u32_at, s32_at, s64_at, then_at, made_at, kind_at, limited_at, vector_at, byte_vector_at, name_at}
+use Rattle.binary_decoder.proofs.ReadAnswers.{Exact, always}
+use Rattle.binary_decoder.proofs.ReadLaws.{then_exact, made_exact, as_exact, byte_exact, u32_exact, signed_exact, free_vector, free_pair, byte_vector_exact, name_exact, Keeps, limited_exact, kinds_exact, choice_exact}
 use Rattle.binary_decoder.specs.Opcodes.{const_code}
 use Rattle.binary_decoder.specs.Grammar.{val_type_code, val_type, func_type, block_type_code, block_type, sizes, limits_flag, limits, table_type, memory_flag, memory_sizes, memory_type, value_type, constant, const_expr, mem_arg, import, mutability, global, export_code, export, element, data_segment}
 use Rattle.binary_decoder.specs.Reader.{choice_at, val_type_of, val_type_at, func_type_at, block_type_of, block_type_at, flag_of, sizes_at, table_type_at, memory_flag_of, memory_sizes_at, memory_type_at, constant_at, const_type_of, const_expr_at, mem_arg_at, import_at, global_at, export_kind_of, export_at, element_at, data_at}

@@ -4,11 +4,11 @@ use Rattle.std.specs.Prelude.{map}
 use Rattle.std.specs.List.{AllByRecursion}
 use Rattle.std.proofs.lemmas.Bool.{eqb-true, eqb-false}
 use Rattle.std.proofs.lemmas.List.{append-nil, length-map}
-use Rattle.byte_reader.specs.Language.{Language, ◌⨾◌, u32, vector}
-use Rattle.byte_reader.specs.Fault.{Fault, Malformed, Oversized, ◌>>=◌}
-use Rattle.byte_reader.specs.Reading.{u32_at, vector_at, end_at}
-use Rattle.byte_reader.proofs.Answers.{Exact, AnswersAll, ExactAll, always}
-use Rattle.byte_reader.proofs.Laws.{as_exact, u32_exact, vector_exact, free_vector, Keeps, alike_all}
+use Rattle.binary_decoder.specs.Language.{Language, ◌⨾◌, u32, vector}
+use Rattle.binary_decoder.specs.Fault.{Fault, Malformed, Oversized, ◌>>=◌}
+use Rattle.binary_decoder.specs.Reading.{u32_at, vector_at, end_at}
+use Rattle.binary_decoder.proofs.ReadAnswers.{Exact, AnswersAll, ExactAll, always}
+use Rattle.binary_decoder.proofs.ReadLaws.{as_exact, u32_exact, vector_exact, free_vector, Keeps, alike_all}
 use Rattle.binary_decoder.specs.Grammar.{func_type, import, table_type, memory_type, global, export, start, element, data_segment, body, section, code_section, customs}
 use Rattle.wasm_types.specs.Limits.{params_of}
 use Rattle.binary_decoder.specs.Reader.{func_type_at, import_at, table_type_at, memory_type_at, global_at, export_at, element_at, data_at, start_at, code_at, skipped, end_sections_at, slot_at, AfterCode, AfterStart, AfterMemories, Parts, after_code_at, code_slot_at, after_start_at, after_memories_at, sections_at}

@@ -1,11 +1,11 @@
 -- A section at its place, with custom sections before it, and what stands behind it.
 use Rattle.std.proofs.Common.{◌≡◌, ℕ, ◌<◌, Bool, true, false, cond, eqb, List, [], ◌∷◌, ◌++◌, Option, Some, None, Result, Ok, Err, refl, sym, ap, subst, ◌∙◌, arith, inl, inr}
 use Rattle.std.proofs.lemmas.Bool.{eqb-true, eqb-false}
-use Rattle.byte_reader.specs.Language.{Language, ◌⨾◌, sized}
-use Rattle.byte_reader.specs.Fault.{Fault, Malformed, Oversized, Reading, ◌>>=◌}
-use Rattle.byte_reader.specs.Reading.{byte_vector_at, all_of, sized_at}
-use Rattle.byte_reader.proofs.Answers.{Told, Answers, Exact, AnswersAll, ExactAll}
-use Rattle.byte_reader.proofs.Laws.{sized_exact}
+use Rattle.binary_decoder.specs.Language.{Language, ◌⨾◌, sized}
+use Rattle.binary_decoder.specs.Fault.{Fault, Malformed, Oversized, Reading, ◌>>=◌}
+use Rattle.binary_decoder.specs.Reading.{byte_vector_at, all_of, sized_at}
+use Rattle.binary_decoder.proofs.ReadAnswers.{Told, Answers, Exact, AnswersAll, ExactAll}
+use Rattle.binary_decoder.proofs.ReadLaws.{sized_exact}
 use Rattle.binary_decoder.specs.Grammar.{section, customs}
 use Rattle.binary_decoder.specs.Reader.{skipped, content_at, opening_at, in_content, section_at, slot_at}
 use Rattle.binary_decoder.proofs.CustomLaws.{Settled, skipped_settled, skipped_found, customs_skipped}

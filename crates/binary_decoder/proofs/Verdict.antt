@@ -3,14 +3,14 @@ use Rattle.std.proofs.Common.{◌≡◌, ℕ, ◌≤◌, ◌⊎◌, inl, inr, Bo
 use Rattle.std.specs.List.{AllByRecursion}
 use Rattle.std.proofs.lemmas.Bool.{eqb-true}
 use Rattle.std.proofs.lemmas.List.{append_cancel_left}
-use Rattle.byte_reader.specs.Language.{Language, exactly, ◌⨾◌}
-use Rattle.byte_reader.specs.Fault.{Fault, Malformed, Oversized, ◌>>=◌}
-use Rattle.byte_reader.proofs.Answers.{FoundAll, ToldAll, AnswersAll}
-use Rattle.byte_reader.proofs.Laws.{Keeps}
+use Rattle.binary_decoder.specs.Language.{Language, exactly, ◌⨾◌}
+use Rattle.binary_decoder.specs.Fault.{Fault, Malformed, Oversized, ◌>>=◌}
+use Rattle.binary_decoder.proofs.ReadAnswers.{FoundAll, ToldAll, AnswersAll}
+use Rattle.binary_decoder.proofs.ReadLaws.{Keeps}
 use Rattle.std.proofs.lemmas.Bool.{eq-eqb}
-use Rattle.byte_reader.specs.declared.fault.DecodeFault.{DecodeFault}
-use Rattle.byte_reader.specs.declared.fault.DecodeFault.TheVariants.{Refused, TooLarge, NoMemory}
-use Rattle.byte_reader.specs.Moves.{Fails, IsRefused, IsTooLarge}
+use Rattle.binary_decoder.specs.declared.fault.DecodeFault.{DecodeFault}
+use Rattle.binary_decoder.specs.declared.fault.DecodeFault.TheVariants.{Refused, TooLarge, NoMemory}
+use Rattle.binary_decoder.specs.Moves.{Fails, IsRefused, IsTooLarge}
 use Rattle.binary_decoder.specs.Grammar.{preamble, Spells}
 use Rattle.wasm_types.specs.Limits.{Within}
 use Rattle.binary_decoder.specs.First.{IsFirst}

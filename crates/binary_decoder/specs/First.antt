@@ -1,8 +1,8 @@
 -- Which fault a module's bytes have first, read from left to right.
 use Rattle.std.specs.Prelude.{◌≡◌, ◌<◌, ◌≤◌, ◌⊎◌, ℕ, true, List, length, Err}
-use Rattle.byte_reader.specs.Fault.{Malformed, Oversized}
-use Rattle.byte_reader.specs.declared.fault.DecodeFault.{DecodeFault}
-use Rattle.byte_reader.specs.declared.fault.DecodeFault.TheVariants.{Refused, TooLarge, NoMemory}
+use Rattle.binary_decoder.specs.Fault.{Malformed, Oversized}
+use Rattle.binary_decoder.specs.declared.fault.DecodeFault.{DecodeFault}
+use Rattle.binary_decoder.specs.declared.fault.DecodeFault.TheVariants.{Refused, TooLarge, NoMemory}
 use Rattle.binary_decoder.specs.Reader.{parts_at}
 
 -- more than 1,048,576 bytes are too large, whatever they are; of others the first fault counts, be it of the grammar or

@@ -2,7 +2,7 @@
 -- sign-extension operators. It knows no limits.
 use Rattle.std.specs.Prelude.{◌≡◌, ℕ, ℤ, Bool, true, false, List, [], ◌∷◌, ◌++◌, length, Option, Some, None, is_some, ◌⊎◌}
 use Rattle.std.specs.Int.{w32, w64, cast_unsigned}
-use Rattle.byte_reader.specs.Language.{Language, nothing, anything, byte, exactly, ◌⨾◌, each, u32, s32, s64, vector, byte_vector, name, sized}
+use Rattle.binary_decoder.specs.Language.{Language, nothing, anything, byte, exactly, ◌⨾◌, each, u32, s32, s64, vector, byte_vector, name, sized}
 use Rattle.wasm_types.specs.Nesting.{Nests}
 use Rattle.binary_decoder.specs.Opcodes.{const_code, code, atomic_number}
 use Rattle.wasm_types.specs.declared.value.ValType.{ValType}

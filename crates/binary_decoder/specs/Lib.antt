@@ -1,5 +1,13 @@
 pub mod Opcodes
+pub mod Codes
 pub mod Grammar
 pub mod Reader
 pub mod Summary
 pub mod First
+pub mod Language
+pub mod Fault
+pub mod Reading
+pub mod Moves
+pub mod Names
+pub mod Kept
+pub mod Printable

@@ -4,8 +4,8 @@ use Rattle.std.specs.Int.{w32, w64, cast_unsigned}
 use Rattle.wasm_types.specs.Nesting.{nesting_of, opened}
 use Rattle.wasm_types.specs.declared.nesting.Enclosing.{Enclosing}
 use Rattle.wasm_types.specs.declared.nesting.Enclosing.TheVariants.{Whole}
-use Rattle.byte_reader.specs.Fault.{Fault, Malformed, Oversized, Reading, ◌>>=◌}
-use Rattle.byte_reader.specs.Reading.{byte_at, or_malformed, u32_at, s32_at, s64_at, then_at, made_at, kind_at, limited_at, vector_at, byte_vector_at, name_at, end_at, all_of, sized_all_at, sized_at}
+use Rattle.binary_decoder.specs.Fault.{Fault, Malformed, Oversized, Reading, ◌>>=◌}
+use Rattle.binary_decoder.specs.Reading.{byte_at, or_malformed, u32_at, s32_at, s64_at, then_at, made_at, kind_at, limited_at, vector_at, byte_vector_at, name_at, end_at, all_of, sized_all_at, sized_at}
 use Rattle.binary_decoder.specs.Opcodes.{opcode_at, atomic_at}
 use Rattle.binary_decoder.specs.Grammar.{preamble}
 use Rattle.wasm_types.specs.Limits.{params_of}

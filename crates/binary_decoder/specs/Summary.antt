@@ -5,7 +5,7 @@ use Rattle.std.specs.Fmt.{decimal}
 use Rattle.wasm_types.specs.declared.modules.Limits.{Limits}
 use Rattle.wasm_types.specs.declared.modules.MemoryType.{MemoryType}
 use Rattle.wasm_types.specs.declared.modules.Module.{Module}
-use Rattle.wasm_instance.specs.Memories.{first_memory}
+use Rattle.wasm_types.specs.Memories.{first_memory}
 
 -- a number, or a word where there is none
 abbrev pub or_word : List ℕ → Option ℕ → List ℕ

@@ -1,13 +1,16 @@
 //! The bodies of functions.
 
 ghost use Rattle.std.specs.Prelude.{◌≡◌, ◌+◌, ◌≤◌, ◌<◌, ◌^◌, map, length, IfOk, true};
-ghost use Rattle.byte_reader.specs.Moves.{Moves, MovesBy, IsRefusedAt};
+ghost use Rattle.binary_decoder.specs.Moves.{Moves, MovesBy, IsRefusedAt};
 ghost use Rattle.wasm_types.specs.Limits.{params_of};
 ghost use Rattle.binary_decoder.specs.Reader.{group_at, groups_at, locals_at, inside_at, body_at, bodies_at, code_at};
 
+use crate::cause::{Cause, Limit, SectionFault};
+use crate::cursor::Cursor;
+use crate::fault::{DecodeFault, clamped};
 use crate::instructions::expr;
 use crate::parts::Spelled;
-use byte_reader::{Cause, Cursor, DecodeFault, Limit, Place, SectionFault, clamped};
+use crate::place::ModulePart;
 use std::alloc::Global;
 use wasm_types::{Body, Enclosing, FuncType, Items, LocalGroup, ValType};
 
@@ -90,7 +93,7 @@ fn body(
         return Err(DecodeFault::TooLarge {
             limit: Limit::Parameters,
             count: params as u64,
-            place: Place::Unknown,
+            place: ModulePart::Unknown,
         });
     }
     let mut content = cursor.sized()?;

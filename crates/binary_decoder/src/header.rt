@@ -1,8 +1,10 @@
 //! The first eight bytes of a module.
 
-ghost use Rattle.byte_reader.specs.Moves.{IsRefusedAt};
+ghost use Rattle.binary_decoder.specs.Moves.{IsRefusedAt};
 
-use byte_reader::{Cause, DecodeFault, HeaderFault, Place};
+use crate::cause::{Cause, HeaderFault};
+use crate::fault::DecodeFault;
+use crate::place::ModulePart;
 
 /// What bytes are that do not begin as a module does.
 fn header_fault(bytes: &[u8]) -> HeaderFault {
@@ -20,5 +22,5 @@ pub(crate) fn header_refusal(offset: usize, bytes: &[u8]) -> DecodeFault
     ensures { IsRefusedAt offset result }
 {
     let fault = header_fault(bytes);
-    DecodeFault::refused(offset, Cause::Header(fault)).at(Place::Header)
+    DecodeFault::refused(offset, Cause::Header(fault)).at(ModulePart::Header)
 }

@@ -1,13 +1,15 @@
 //! Instructions.
 
 ghost use Rattle.std.specs.Prelude.{◌≡◌, ◌+◌, ◌<◌, ◌≤◌, ◌^◌, length, reverse, IfOk, Some, None, if◌then◌else◌};
-ghost use Rattle.byte_reader.specs.Moves.{Moves, MovesBy, IsRefusedAt};
+ghost use Rattle.binary_decoder.specs.Moves.{Moves, MovesBy, IsRefusedAt};
 ghost use Rattle.wasm_types.specs.Nesting.{nesting_of, opened};
 ghost use Rattle.binary_decoder.specs.Reader.{atomic_operands_at, prefixed_at, simple_at, branch_table_at, operands_at, instr_at, expr_at};
 
+use crate::cause::{Cause, CodeFault, Expected, OpCode};
+use crate::cursor::Cursor;
+use crate::fault::DecodeFault;
 use crate::opcodes::{AtomicCode, Opcode, atomic_code, opcode_of_byte};
 use crate::parts::{block_type, constant, mem_arg, push_items};
-use byte_reader::{Cause, CodeFault, Cursor, DecodeFault, Expected, OpCode};
 use std::alloc::{AllocError, Global};
 use wasm_types::{Enclosing, Instr, LabelRange, Nesting};
 

@@ -2,16 +2,19 @@
 
 ghost use Rattle.std.specs.Prelude.{◌≡◌, ℕ, List, IfOk, IfErr, true};
 ghost use Rattle.wasm_types.specs.declared.modules.Module.{Module};
-ghost use Rattle.byte_reader.specs.Moves.{Gives, IsRefused, IsTooLarge};
+ghost use Rattle.binary_decoder.specs.Moves.{Gives, IsRefused, IsTooLarge};
 ghost use Rattle.binary_decoder.specs.Grammar.{Spells};
 ghost use Rattle.wasm_types.specs.Limits.{Within};
 ghost use Rattle.binary_decoder.specs.First.{IsFirst};
 ghost use Rattle.binary_decoder.specs.Reader.{parts_at};
 
+use crate::cause::Limit;
+use crate::cursor::Cursor;
+use crate::fault::DecodeFault;
 use crate::header::header_refusal;
 use crate::order::ordered;
+use crate::place::ModulePart;
 use crate::sections::{Sections, read_sections};
-use byte_reader::{Cursor, DecodeFault, Limit, Place};
 use std::alloc::Global;
 use wasm_types::{Items, Module};
 
@@ -55,7 +58,7 @@ pub fn decode(alloc: Global, bytes: &[u8]) -> Result<Module, DecodeFault>
         return Err(DecodeFault::TooLarge {
             limit: Limit::Bytes,
             count: bytes.len() as u64,
-            place: Place::End,
+            place: ModulePart::End,
         });
     }
     let found = behind_preamble(alloc, bytes)?;

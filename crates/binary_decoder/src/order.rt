@@ -1,9 +1,12 @@
 //! Sections that stand where no section of their number may stand.
 
 ghost use Rattle.std.specs.Prelude.{◌≡◌};
-ghost use Rattle.byte_reader.specs.Moves.{kind_of, IsRefusedAt};
+ghost use Rattle.binary_decoder.specs.Moves.{kind_of, IsRefusedAt};
 
-use byte_reader::{Cause, Cursor, DecodeFault, Place, SectionFault};
+use crate::cause::{Cause, SectionFault};
+use crate::cursor::Cursor;
+use crate::fault::DecodeFault;
+use crate::place::ModulePart;
 
 /// The last section of the profile.
 const LAST: u8 = 11;
@@ -25,7 +28,7 @@ pub(crate) fn unexpected(cursor: &Cursor) -> DecodeFault
     };
     cursor
         .refusal(Cause::Section(fault))
-        .at(Place::Section(section))
+        .at(ModulePart::Section(section))
 }
 
 /// The number of the last section before an offset that is no custom section; 0 where there is none. The cursor stands

@@ -1,12 +1,14 @@
 //! What is spelled by itself: types, constants, and vectors of such parts.
 
 ghost use Rattle.std.specs.Prelude.{◌≡◌, List, ℕ, true};
-ghost use Rattle.byte_reader.specs.Fault.{Reading};
-ghost use Rattle.byte_reader.specs.Reading.{u32_at, items_at, vector_at, byte_vector_at, name_at};
-ghost use Rattle.byte_reader.specs.Moves.{Moves, MovesBy, kind_of};
+ghost use Rattle.binary_decoder.specs.Fault.{Reading};
+ghost use Rattle.binary_decoder.specs.Reading.{u32_at, items_at, vector_at, byte_vector_at, name_at};
+ghost use Rattle.binary_decoder.specs.Moves.{Moves, MovesBy, kind_of};
 ghost use Rattle.binary_decoder.specs.Reader.{with_front, val_type_at, func_type_at, block_type_at, flag_of, choice_at, sizes_at, table_type_at, memory_type_at, constant_at, const_expr_at, mem_arg_at, import_at, global_at, export_kind_of, export_at, element_at, data_at};
 
-use byte_reader::{Cause, CodeFault, Cursor, DecodeFault, Expected, ItemFault, Limit, TypeFault};
+use crate::cause::{Cause, CodeFault, Expected, ItemFault, Limit, TypeFault};
+use crate::cursor::Cursor;
+use crate::fault::DecodeFault;
 use std::alloc::Global as Alloc;
 use wasm_types::{
     Data, Element, Export, ExportKind, FuncType, Global, Import, Items, Limits, MemArg, MemoryType,

@@ -1,15 +1,18 @@
 //! The sections of a module.
 
 ghost use Rattle.std.specs.Prelude.{◌≡◌, [], None, map, option_map, true};
-ghost use Rattle.byte_reader.specs.Reading.{vector_at, byte_vector_at, end_at};
-ghost use Rattle.byte_reader.specs.Moves.{Moves, MovesBy, Gives};
+ghost use Rattle.binary_decoder.specs.Reading.{vector_at, byte_vector_at, end_at};
+ghost use Rattle.binary_decoder.specs.Moves.{Moves, MovesBy, Gives};
 ghost use Rattle.wasm_types.specs.Limits.{params_of};
 ghost use Rattle.binary_decoder.specs.Reader.{behind_custom_at, skipped, content_at, opening_at, section_at, start_at, code_at, end_sections_at, after_code_at, code_slot_at, after_start_at, after_memories_at, sections_at};
 
+use crate::cause::{Cause, Expected, SectionFault};
+use crate::cursor::Cursor;
+use crate::fault::{DecodeFault, clamped};
 use crate::functions::code;
 use crate::order::unexpected;
 use crate::parts::{Spelled, vector};
-use byte_reader::{Cause, Cursor, DecodeFault, Expected, Place, SectionFault, clamped};
+use crate::place::ModulePart;
 use std::alloc::Global as Alloc;
 use wasm_types::{
     Body, Data, Element, Export, FuncType, Global, Import, Items, Limits, MemoryType,
@@ -160,7 +163,7 @@ fn end_sections(functions: usize, bodies: usize, cursor: &mut Cursor) -> Result<
         return Ok(());
     }
     let fault = cursor.refusal(Cause::Section(SectionFault::NoCode(clamped(functions))));
-    Err(fault.at(Place::End))
+    Err(fault.at(ModulePart::End))
 }
 
 /// The sections from the code section on.

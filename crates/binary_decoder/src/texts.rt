@@ -5,8 +5,7 @@ ghost use Rattle.binary_decoder.specs.Summary.{or_word, memory_text, first_table
 
 use std::alloc::Global;
 use std::fmt;
-use wasm_instance::first_memory;
-use wasm_types::{Limits, MemoryType, Module, NoMemory};
+use wasm_types::{Limits, MemoryType, Module, NoMemory, first_memory};
 
 /// A number, or a word where there is none.
 #[derive(Clone, Copy)]

@@ -1,4 +1,7 @@
-//! The objects of a shared memory: what operations touch and do, and the memory's bytes.
+//! A shared memory as objects: its length, blocks of its bytes, waiter queues, and what operations do.
+//!
+//! `Blocks` has the bytes as one region; its accesses and growth are the definition's (`reply`, `memory`). `touches`:
+//! the objects that an operation reads or writes; `operations_within_fit`: those are there.
 #![tactic(auto)]
 
 mod blocks;

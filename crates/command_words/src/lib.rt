@@ -1,4 +1,6 @@
 //! What the words of a command line ask for.
+//!
+//! `requested`: a request just where the parser takes the words and its values are found in them.
 #![tactic(auto)]
 
 mod command;

@@ -2,15 +2,15 @@
 use Rattle.std.proofs.Common.{◌≡◌, ◌<◌, ◌≤◌, inl, inr, ℕ, true, List, length, take, Result, Ok, Err, IfOk, IfErr, arith, sym, ap, ◌∙◌, subst}
 use Rattle.std.proofs.lemmas.Bool.{cases_lt}
 use Rattle.std.proofs.lemmas.List.{length-take, take_all}
-use Rattle.byte_reader.specs.Fault.{Oversized}
+use Rattle.binary_decoder.specs.Fault.{Oversized}
 use Rattle.binary_decoder.specs.Reader.{parts_at}
 use Rattle.wasm_types.specs.declared.modules.Module.{Module}
 use Rattle.wasm_types.specs.Limits.{Within}
-use Rattle.byte_reader.specs.declared.fault.DecodeFault.{DecodeFault}
-use Rattle.byte_reader.specs.declared.fault.DecodeFault.TheVariants.{Refused, TooLarge, NoMemory}
-use Rattle.byte_reader.specs.declared.cause.Limit.{Limit}
-use Rattle.byte_reader.specs.declared.place.Place.{Place}
-use Rattle.byte_reader.specs.Moves.{IsRefused, IsTooLarge}
+use Rattle.binary_decoder.specs.declared.fault.DecodeFault.{DecodeFault}
+use Rattle.binary_decoder.specs.declared.fault.DecodeFault.TheVariants.{Refused, TooLarge, NoMemory}
+use Rattle.binary_decoder.specs.declared.cause.Limit.{Limit}
+use Rattle.binary_decoder.specs.declared.place.ModulePart.{ModulePart}
+use Rattle.binary_decoder.specs.Moves.{IsRefused, IsTooLarge}
 use Rattle.binary_decoder.specs.Grammar.{Spells}
 use Rattle.binary_decoder.specs.First.{IsFirst}
 use Rattle.commands.specs.Checks.{IsModule, IsDecodeFault}
@@ -33,7 +33,7 @@ module _ (beginning bytes : List ℕ) (is : beginning ≡ take 1048577 bytes) wh
       omega (arith, many, same, length-take 1048577 bytes)
 
   -- so is one that passes a limit
-  too_large : (limit : Limit) (count : ℕ) (place : Place) → IsFirst beginning (TooLarge limit count place) → IsFirst bytes (TooLarge limit count place)
+  too_large : (limit : Limit) (count : ℕ) (place : ModulePart) → IsFirst beginning (TooLarge limit count place) → IsFirst bytes (TooLarge limit count place)
   too_large limit count place (inl many) = inl (long many)
   too_large limit count place (inr over) = elim (cases_lt 1048576 (length beginning)) [
     | inl many ↦ inl (long many)

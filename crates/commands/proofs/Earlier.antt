@@ -7,7 +7,7 @@ use Rattle.commands.specs.declared.fault.Fault.{Fault}
 use Rattle.commands.specs.declared.fault.Fault.TheVariants.{File, Decode, Valid, Plan, Schedule, Pieces, Gather, Replay, View, NoMemory, SinkFailed}
 use Rattle.commands.specs.Files.{IsFileFault}
 use Rattle.commands.specs.Inputs.{IsPlanRefused, IsLinesRefused}
-use Rattle.event_core.specs.declared.pick.Pick.{Pick}
+use Rattle.wasm_record.specs.Pick.{Pick}
 use Rattle.thread_plan.specs.Plans.{PlanValue}
 use Rattle.command_words.specs.declared.requests.RecordOrder.{RecordOrder}
 use Rattle.command_words.specs.declared.requests.RecordOrder.TheVariants as order

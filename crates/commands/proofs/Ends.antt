@@ -1,7 +1,7 @@
 -- The answers of a replay, of the log and the order that it was handed.
 use Rattle.std.proofs.Common.{◌≡◌, ℕ, List, subst}
 use Rattle.wasm_types.specs.declared.modules.Module.{Module}
-use Rattle.event_core.specs.End.{RunEnd}
+use Rattle.wasm_record.specs.End.{RunEnd}
 use Rattle.thread_plan.specs.Plans.{PlanValue}
 use Rattle.replica.specs.declared.log.Log.{Log}
 use Rattle.wasm_replay.specs.declared.replaying.WasmReplayFault.{WasmReplayFault}

@@ -8,7 +8,7 @@ use Rattle.replica.specs.declared.fault.GatherFault.TheVariants as gathering
 use Rattle.replica.specs.declared.replica.Replica.{Replica}
 use Rattle.replica.specs.Log.{log_of}
 use Rattle.replica.specs.Lines.{IsCollectFault}
-use Rattle.log_pieces.specs.declared.fault.LineFault.{LineFault}
+use Rattle.replica.specs.LineFault.{LineFault}
 use Rattle.replica.specs.Gathered.{Collects, Refuses, IsBadLine, IsOtherRun, IsCutText, HasNoLine}
 use Rattle.commands.specs.declared.fault.Fault.{Fault}
 use Rattle.commands.specs.Files.{IsOpened}

@@ -3,13 +3,13 @@ use Rattle.std.proofs.Common.{◌≡◌, ℕ, List, [], ◌∷◌, ◌++◌, Opt
 use Rattle.std.proofs.lemmas.List.{append_assoc}
 use Rattle.wasm_types.specs.declared.modules.Module.{Module}
 use Rattle.thread_plan.specs.Plans.{PlanValue}
-use Rattle.wasm_instance.specs.Memories.{block_power}
+use Rattle.wasm_types.specs.Memories.{block_power}
 use Rattle.replica.specs.declared.log.Log.{Log}
 use Rattle.replica.specs.Log.{key_of}
-use Rattle.replay_breaks.specs.declared.breaks.Break.{Break}
+use Rattle.debug_views.specs.Break.{Break}
 use Rattle.debug_views.specs.Writes.{IsWriteOfRange}
-use Rattle.wasm_view.specs.Views.{IsNotViewed}
-use Rattle.wasm_view.specs.declared.viewing.WasmViewFault.{WasmViewFault}
+use Rattle.debug_views.specs.Views.{IsNotViewed}
+use Rattle.debug_views.specs.declared.viewing.WasmViewFault.{WasmViewFault}
 use Rattle.command_words.specs.declared.requests.ByteRange.{ByteRange}
 use Rattle.command_words.specs.declared.requests.ViewRequest.{ViewRequest}
 use Rattle.commands.specs.Views.{AreBreaks, AreWrites, IsViewFault, place_break, step_break}

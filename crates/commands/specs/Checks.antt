@@ -1,8 +1,8 @@
 -- What the check of a module answers, by what its file may hold.
 use Rattle.std.specs.Prelude.{◌≡◌, ◌⊎◌, ℕ, List, ◌++◌, codes}
 use Rattle.wasm_types.specs.declared.modules.Module.{Module}
-use Rattle.byte_reader.specs.declared.fault.DecodeFault.{DecodeFault}
-use Rattle.byte_reader.specs.declared.fault.DecodeFault.TheVariants as decoding
+use Rattle.binary_decoder.specs.declared.fault.DecodeFault.{DecodeFault}
+use Rattle.binary_decoder.specs.declared.fault.DecodeFault.TheVariants as decoding
 use Rattle.binary_decoder.specs.Grammar.{Spells}
 use Rattle.binary_decoder.specs.First.{IsFirst}
 use Rattle.wasm_types.specs.Limits.{Within}

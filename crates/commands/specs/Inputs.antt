@@ -4,7 +4,7 @@ use Rattle.wasm_types.specs.declared.modules.Module.{Module}
 use Rattle.wasm_types.specs.declared.key.Profile.TheVariants.{Two}
 use Rattle.thread_plan.specs.Plans.{PlanValue, plan_of}
 use Rattle.thread_plan.specs.Refusals.{IsFaultOf}
-use Rattle.log_pieces.specs.Piece.{PieceValue}
+use Rattle.replica.specs.Piece.{PieceValue}
 use Rattle.replica.specs.declared.log.Log.{Log}
 use Rattle.replica.specs.declared.fault.GatherFault.{GatherFault}
 use Rattle.replica.specs.declared.fault.GatherFault.TheVariants as gathering

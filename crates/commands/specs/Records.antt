@@ -6,16 +6,16 @@ use Rattle.wasm_types.specs.declared.outcome.Outcome.{Outcome}
 use Rattle.wasm_types.specs.declared.outcome.Outcome.TheVariants.{Running}
 use Rattle.wasm_types.specs.declared.modules.Module.{Module}
 use Rattle.wasm_types.specs.declared.key.Profile.TheVariants.{Two}
-use Rattle.event_core.specs.declared.pick.Pick.{Pick}
+use Rattle.wasm_record.specs.Pick.{Pick}
 use Rattle.thread_plan.specs.Plans.{PlanValue}
 use Rattle.pick_schedule.specs.Schedule.{schedule_of, IsFaultOf}
-use Rattle.log_pieces.specs.Line.{line_of}
-use Rattle.log_pieces.specs.declared.end.End.{End}
-use Rattle.run_pieces.specs.Cut.{pieces_of, IsPiecesFault}
+use Rattle.replica.specs.Line.{line_of}
+use Rattle.replica.specs.End.{End}
+use Rattle.wasm_record.specs.Cut.{pieces_of, IsPiecesFault}
 use Rattle.wasm_types.specs.declared.sizes.TheConstants.{MOST_STEPS}
-use Rattle.recorder.specs.ThreadLogAt.{ThreadLogAt, RecordedAt}
+use Rattle.wasm_record.specs.ThreadLogAt.{ThreadLogAt, RecordedAt}
 use Rattle.wasm_record.specs.Recordings.{RecordingAt, IsKeyOf, RecordsRun, RecordsThreads}
-use Rattle.run_report.specs.Report.{report_text}
+use Rattle.debug_views.specs.Report.{report_text}
 use Rattle.command_words.specs.declared.requests.RecordOrder.{RecordOrder}
 use Rattle.command_words.specs.declared.requests.RecordOrder.TheVariants as order
 use Rattle.command_words.specs.declared.requests.RecordRequest.{RecordRequest}

@@ -1,12 +1,12 @@
 -- What `replay` answers, by what its three files may hold.
 use Rattle.std.specs.Prelude.{◌≡◌, ◌⊎◌, ℕ, Bool, true, false, List}
 use Rattle.wasm_types.specs.declared.modules.Module.{Module}
-use Rattle.event_core.specs.End.{RunEnd}
+use Rattle.wasm_record.specs.End.{RunEnd}
 use Rattle.thread_plan.specs.Plans.{PlanValue}
 use Rattle.replica.specs.declared.log.Log.{Log}
 use Rattle.wasm_replay.specs.Replays.{IsOfRun, IsOrderedAnswer, EndsAsRecorded, IsRefusal}
 use Rattle.threaded_replay.specs.Threaded.{IsThreadsRefusal}
-use Rattle.run_report.specs.Report.{report_text}
+use Rattle.debug_views.specs.Report.{report_text}
 use Rattle.commands.specs.Inputs.{IsProgram, IsProgramRefused, IsLogFile, IsLinesRefused}
 use Rattle.commands.specs.declared.fault.Fault.{Fault}
 use Rattle.commands.specs.declared.fault.Fault.TheVariants.{Replay, NoMemory}

@@ -2,8 +2,8 @@
 -- text of lines that were passed over.
 use Rattle.std.specs.Prelude.{ℕ, List, ◌++◌, ◌∷◌, codes, Some, None}
 use Rattle.std.specs.Fmt.{decimal}
-use Rattle.byte_reader.specs.declared.fault.DecodeFault.{DecodeFault}
-use Rattle.byte_reader.specs.declared.fault.DecodeFault.TheVariants as decoding
+use Rattle.binary_decoder.specs.declared.fault.DecodeFault.{DecodeFault}
+use Rattle.binary_decoder.specs.declared.fault.DecodeFault.TheVariants as decoding
 use Rattle.validator.specs.declared.fault.ValidFault.{ValidFault}
 use Rattle.validator.specs.declared.fault.ValidFault.TheVariants as typing
 use Rattle.thread_plan.specs.declared.fault.PlanFault.{PlanFault}
@@ -13,16 +13,16 @@ use Rattle.pick_schedule.specs.declared.fault.ScheduleFault.TheVariants as sched
 use Rattle.replica.specs.declared.fault.GatherFault.{GatherFault}
 use Rattle.replica.specs.declared.fault.GatherFault.TheVariants as gathering
 use Rattle.replica.specs.declared.skipping.Skipped.{Skipped}
-use Rattle.replay_gate.specs.declared.answers.ReplayFault.{ReplayFault}
-use Rattle.replay_gate.specs.declared.answers.ReplayFault.TheVariants as replaying
+use Rattle.wasm_replay.specs.ReplayFault.{ReplayFault}
+use Rattle.wasm_replay.specs.ReplayFault.TheVariants as replaying
 use Rattle.wasm_replay.specs.declared.replaying.WasmReplayFault.{WasmReplayFault}
 use Rattle.wasm_replay.specs.declared.replaying.WasmReplayFault.TheVariants as refusal
 use Rattle.debug_views.specs.declared.fault.ViewFault.{ViewFault}
 use Rattle.debug_views.specs.declared.fault.ViewFault.TheVariants as viewing
 use Rattle.commands.specs.declared.files.FileFault.{FileFault}
 use Rattle.commands.specs.declared.files.FileFault.TheVariants as file
-use Rattle.run_pieces.specs.declared.fault.PiecesFault.{PiecesFault}
-use Rattle.run_pieces.specs.declared.fault.PiecesFault.TheVariants as cutting
+use Rattle.wasm_record.specs.PiecesFault.{PiecesFault}
+use Rattle.wasm_record.specs.PiecesFault.TheVariants as cutting
 use Rattle.commands.specs.declared.fault.Fault.{Fault}
 use Rattle.commands.specs.declared.fault.Fault.TheVariants.{File, Decode, Valid, Plan, Schedule, Pieces, Gather, Replay, View, NoMemory, SinkFailed}
 

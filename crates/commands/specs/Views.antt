@@ -2,16 +2,16 @@
 use Rattle.std.specs.Prelude.{◌≡◌, ◌⊎◌, ℕ, List, [], ◌∷◌, ◌++◌, Option, Some, None}
 use Rattle.wasm_types.specs.declared.modules.Module.{Module}
 use Rattle.thread_plan.specs.Plans.{PlanValue}
-use Rattle.wasm_instance.specs.Memories.{block_power}
+use Rattle.wasm_types.specs.Memories.{block_power}
 use Rattle.replica.specs.declared.log.Log.{Log}
 use Rattle.replica.specs.Log.{key_of}
-use Rattle.replay_breaks.specs.declared.breaks.Break.{Break}
-use Rattle.replay_breaks.specs.declared.breaks.Break.TheVariants as break
+use Rattle.debug_views.specs.Break.{Break}
+use Rattle.debug_views.specs.Break.TheVariants as break
 use Rattle.debug_views.specs.Writes.{IsWriteOfRange}
 use Rattle.wasm_replay.specs.Replays.{IsOfRun}
-use Rattle.wasm_view.specs.Views.{IsViewOfLog, IsNotViewed}
-use Rattle.wasm_view.specs.declared.viewing.WasmViewFault.{WasmViewFault}
-use Rattle.wasm_view.specs.declared.viewing.WasmViewFault.TheVariants as viewing
+use Rattle.debug_views.specs.Views.{IsViewOfLog, IsNotViewed}
+use Rattle.debug_views.specs.declared.viewing.WasmViewFault.{WasmViewFault}
+use Rattle.debug_views.specs.declared.viewing.WasmViewFault.TheVariants as viewing
 use Rattle.command_words.specs.declared.requests.ByteRange.{ByteRange}
 use Rattle.command_words.specs.declared.requests.ThreadCount.{ThreadCount}
 use Rattle.command_words.specs.declared.requests.ViewRequest.{ViewRequest}

@@ -4,14 +4,14 @@ ghost use Rattle.std.specs.Prelude.{◌≡◌};
 
 use crate::files::{FileFault, InputFile};
 use crate::quotes::{ImportNames, Quote};
-use byte_reader::DecodeFault;
+use binary_decoder::DecodeFault;
 use debug_views::ViewFault;
 use pick_schedule::ScheduleFault;
 use replica::GatherFault;
-use run_pieces::PiecesFault;
 use thiserror::Error;
 use thread_plan::PlanFault;
 use validator::ValidFault;
+use wasm_record::PiecesFault;
 use wasm_replay::Unreplayed;
 use wasm_types::NoMemory;
 

@@ -3,8 +3,8 @@
 ghost use Rattle.std.specs.Prelude.{◌≡◌, ℕ, List, IfOk, IfErr, Err};
 ghost use Rattle.commands.specs.Files.{IsRead, IsFileFault, IsOpened};
 
+use byte_streams::Source;
 use log::{Log, info};
-use replica::Source;
 use std::alloc::Global;
 use thiserror::Error;
 

@@ -1,8 +1,11 @@
-//! What the program's commands make of the files that they name: the summary of a module, the report of a recording or
-//! a replay, the view of a replay that stops.
+//! What the commands make of the files that they name: a summary, a recording, a report, a view.
+//!
+//! `check`, `record`, `replay` and `view` answer what is so of the bytes that the files hold (`checked`, `recorded`,
+//! `replayed`, `viewed`), or the first fault in the order of the files (`refused`); `Fault::text` is its line. Through
+//! `Files` they read; `MemoryFiles` are exact ones.
 #![tactic(auto)]
 
-mod checking;
+mod check_command;
 mod fault;
 mod files;
 mod gathered;
@@ -10,14 +13,14 @@ mod memory;
 mod program;
 mod quotes;
 mod record_answer;
-mod recording;
-mod replaying;
+mod record_command;
+mod replay_command;
 mod schedule_file;
 mod stopped;
 mod texts;
-mod viewing;
+mod view_command;
 
-pub use checking::check;
+pub use check_command::check;
 pub use fault::Fault;
 pub use files::{FileFault, FileState, Files, InputFile};
 pub use gathered::{ReplayInput, read_replay_input};
@@ -25,7 +28,7 @@ pub use memory::{MemoryFile, MemoryFiles};
 pub use program::Program;
 pub use quotes::{ImportNames, Quote, import_names, plan_quote, schedule_quote};
 pub use record_answer::RecordAnswer;
-pub use recording::record;
-pub use replaying::replay;
+pub use record_command::record;
+pub use replay_command::replay;
 pub use texts::skipped_text;
-pub use viewing::view;
+pub use view_command::view;

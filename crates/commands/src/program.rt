@@ -8,8 +8,7 @@ ghost use Rattle.commands.specs.Inputs.{IsPlanFile, IsPlanRefused, IsProgram, Is
 use crate::fault::Fault;
 use crate::files::{Files, InputFile, read_file};
 use crate::quotes::{import_names, plan_quote};
-use binary_decoder::decode;
-use byte_reader::DecodeFault;
+use binary_decoder::{DecodeFault, decode};
 use log::Log;
 use std::alloc::Global;
 use thread_plan::Plan;

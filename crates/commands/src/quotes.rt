@@ -1,10 +1,9 @@
 //! What the words of a reason quote of a text.
 
 use arrayvec::ArrayString;
-use byte_reader::{Cause, Cursor, DecodeFault, ItemFault};
+use binary_decoder::{Cause, Cursor, DecodeFault, ItemFault};
 use pick_schedule::{ScheduleCause, ScheduleFault};
-use quoted_bytes::Quoted;
-use text_lines::{Parts, without_end};
+use text_lines::{Parts, Quoted, without_end};
 use thread_plan::{PlanCause, PlanFault};
 
 /// Quoted bytes of a text, at most 40, and `..` where there are more; nothing where nothing is quoted.

@@ -3,11 +3,10 @@
 ghost use Rattle.std.specs.Prelude.{◌≡◌, ◌+◌, ◌-◌, ◌^◌, ◌<◌, ◌≤◌, ℕ, List, ◌++◌, IfOk, OnOk, OnErr, false, string_bytes};
 ghost use Rattle.commands.specs.Records.{recorded_text};
 
-use replica::{Failed, Sink, write_all};
-use run_pieces::LineRoom;
+use byte_streams::{Failed, Sink, write_all};
 use std::alloc::Global;
 use std::marker::Model;
-use wasm_record::Recording;
+use wasm_record::{LineRoom, Recording};
 use wasm_types::NoMemory;
 
 /// A recording whose lines are made as they are written, and the room for it. Contracts see the lines.

@@ -7,8 +7,7 @@ use crate::fault::Fault;
 use crate::files::{Files, InputFile, read_file};
 use crate::quotes::schedule_quote;
 use log::Log;
-use pick_schedule::{SCHEDULE_BEGINNING, schedule};
-use schedules::Schedule;
+use pick_schedule::{SCHEDULE_BEGINNING, Schedule, schedule};
 use std::alloc::Global;
 
 /// The picks of the schedule in a file. No more is read of it than a schedule can have, and one byte.

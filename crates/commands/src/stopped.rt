@@ -4,10 +4,10 @@ ghost use Rattle.std.specs.Prelude.{◌≡◌, ◌∷◌, ◌++◌, IfOk, OnOk, 
 ghost use Rattle.std.specs.Fmt.{decimal};
 ghost use Rattle.commands.specs.Records.{has_stopped, is_running, stopped_from, stopped_line};
 
-use log_pieces::End;
-use recorder::ThreadLog;
+use replica::End;
 use std::alloc::Global;
 use std::fmt::Write;
+use wasm_record::ThreadLog;
 use wasm_types::{NoMemory, Outcome};
 
 fn is_running(outcome: &Outcome) -> bool

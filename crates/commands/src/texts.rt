@@ -8,17 +8,16 @@ ghost use Rattle.commands.specs.Texts.{fault_text, file_text, decode_text, valid
 use crate::fault::Fault;
 use crate::files::FileFault;
 use arrayvec::ArrayString;
-use byte_reader::DecodeFault;
+use binary_decoder::DecodeFault;
 use debug_views::ViewFault;
 use itoa::Buffer;
 use pick_schedule::ScheduleFault;
-use replay_gate::ReplayFault;
 use replica::{GatherFault, Skipped};
-use run_pieces::PiecesFault;
 use std::fmt;
 use thread_plan::PlanFault;
 use validator::ValidFault;
-use wasm_replay::WasmReplayFault;
+use wasm_record::PiecesFault;
+use wasm_replay::{ReplayFault, WasmReplayFault};
 
 // A text without a number.
 fn plain(head: &str) -> ArrayString<64>

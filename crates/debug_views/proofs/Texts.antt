@@ -10,7 +10,7 @@ use Rattle.block_objects.specs.Objects.{block_object}
 use Rattle.event_core.specs.World.{WorldAt}
 use Rattle.replay_breaks.specs.declared.breaks.Break.{Break}
 use Rattle.replay_breaks.specs.declared.breaks.Stopped.{Stopped}
-use Rattle.run_report.specs.Report.{shown}
+use Rattle.debug_views.specs.Report.{shown}
 use Rattle.debug_views.specs.declared.blocks.BlockRange.{BlockRange}
 use Rattle.debug_views.specs.declared.threads.ThreadView.{ThreadView}
 use Rattle.debug_views.specs.Blocks.{AreHolding}

@@ -3,3 +3,7 @@ pub mod Threads
 pub mod Blocks
 pub mod Text
 pub mod Writes
+pub mod Report
+pub mod Views
+pub mod Standing
+pub use Rattle.replay_breaks.specs.declared.breaks.Break

@@ -11,7 +11,7 @@ use Rattle.replay_breaks.specs.declared.breaks.Break.{Break}
 use Rattle.replay_breaks.specs.declared.breaks.Break.TheVariants as break
 use Rattle.replay_breaks.specs.declared.breaks.Stopped.{Stopped}
 use Rattle.replay_breaks.specs.declared.breaks.Stopped.TheVariants as stopped
-use Rattle.run_report.specs.Report.{shown}
+use Rattle.debug_views.specs.Report.{shown}
 use Rattle.debug_views.specs.declared.blocks.BlockRange.{BlockRange}
 use Rattle.debug_views.specs.declared.threads.ThreadView.{ThreadView}
 use Rattle.debug_views.specs.Blocks.{AreHolding}

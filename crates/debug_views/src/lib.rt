@@ -1,19 +1,29 @@
-//! Views of a stopped replay: the bytes of its memory, the versions of its objects, how its threads stand, and all of
-//! them as a text.
+//! What a world shows: the report of its end, its bytes, versions and threads, and the view of a replay.
+//!
+//! `report`, `view`, `thread_view`, `versions` and `bytes`: each by its definition; `fault`: the range passes the
+//! memory, or memory is wanting. `view_log`: the view of the world at which the replay stops; on a log below a run's it
+//! has recorded values alone (`shown`).
 #![tactic(auto)]
 
 mod blocks;
 mod breaks;
 mod fault;
 mod memory_space;
+mod notes;
+mod report_text;
+mod row;
 mod text;
 mod threads;
 mod values;
+mod viewing;
 
 pub use blocks::{BlockRange, blocks_of_range};
 pub use breaks::write_break;
 pub use fault::ViewFault;
 pub use memory_space::MemorySpace;
+pub use replay_breaks::Break;
+pub use report_text::{put_row, report};
 pub use text::view;
 pub use threads::{ThreadView, thread_view};
 pub use values::{bytes, is_in_view, versions};
+pub use viewing::{WasmViewFault, view_log};

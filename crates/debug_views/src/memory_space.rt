@@ -3,7 +3,7 @@
 ghost use Rattle.std.specs.Prelude.{◌≡◌};
 
 use rw_objects::ObjectSpace;
-use waiter_queues::SharedSpace;
+use wasm_world::SharedSpace;
 
 /// A space of objects whose image can be read where it stands.
 pub trait MemorySpace: ObjectSpace {

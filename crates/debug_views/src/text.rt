@@ -10,11 +10,11 @@ ghost use Rattle.debug_views.specs.Text.{IsShown, IsView, stop_words, note_of, t
 use crate::blocks::{BlockRange, blocks_of_range};
 use crate::fault::ViewFault;
 use crate::memory_space::MemorySpace;
+use crate::report_text::put_row;
 use crate::threads::{ThreadView, thread_view};
 use crate::values::bytes;
 use event_core::World;
 use replay_breaks::{Break, Stopped};
-use run_report::put_row;
 use rw_objects::{Count, Machine, ObjectSpace, Versions};
 use std::alloc::Global;
 use std::fmt::Write;

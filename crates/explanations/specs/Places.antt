@@ -1,8 +1,8 @@
 -- Where the cause of a refusal stands, as text: the name of a file or of an option, and perhaps what of it.
 use Rattle.std.specs.Prelude.{ℕ, List, ◌++◌, codes}
 use Rattle.std.specs.Fmt.{decimal}
-use Rattle.explanations.specs.declared.place.Place.{Place}
-use Rattle.explanations.specs.declared.place.Place.TheVariants as place
+use Rattle.explanations.specs.declared.place.FilePlace.{FilePlace}
+use Rattle.explanations.specs.declared.place.FilePlace.TheVariants as place
 
 abbrev pub at_byte : List ℕ → ℕ → List ℕ
 at_byte file offset = file ++ (codes ": byte " ++ decimal offset)
@@ -16,7 +16,7 @@ at_instruction file function instruction = file ++ (codes ": function " ++ (deci
 abbrev pub at_event : List ℕ → ℕ → ℕ → List ℕ
 at_event file thread at = file ++ (codes ": thread " ++ (decimal thread ++ (codes ", place " ++ decimal at)))
 
-abbrev pub place_text : Place → List ℕ
+abbrev pub place_text : FilePlace → List ℕ
 place_text (place.Whole name) = name.now
 place_text (place.Byte file offset) = at_byte file.now offset
 place_text (place.Line file line) = at_line file.now line

@@ -4,7 +4,7 @@ use std::fmt;
 
 /// Where the cause of a refusal stands. `file` is the path of a file, or `standard input`.
 #[derive(Clone, Copy)]
-pub enum Place<'a> {
+pub enum FilePlace<'a> {
     /// A file as a whole, or an option.
     Whole(&'a str),
     /// A byte of a file, numbered from 0.
@@ -31,7 +31,7 @@ pub enum Place<'a> {
     },
 }
 
-impl<'a> fmt::Display for Place<'a> {
+impl<'a> fmt::Display for FilePlace<'a> {
     ghost use Rattle.std.specs.Prelude.{Some};
     ghost use Rattle.explanations.specs.Places.{place_text};
 
@@ -40,15 +40,15 @@ impl<'a> fmt::Display for Place<'a> {
     /// The name of the file or option, and perhaps what of it.
     fn fmt<W: fmt::Write>(&self, f: &mut fmt::Formatter<W>) -> fmt::Result {
         match *self {
-            Place::Whole(name) => write!(f, "{name}"),
-            Place::Byte { file, offset } => write!(f, "{file}: byte {offset}"),
-            Place::Line { file, line } => write!(f, "{file}: line {line}"),
-            Place::Instruction {
+            FilePlace::Whole(name) => write!(f, "{name}"),
+            FilePlace::Byte { file, offset } => write!(f, "{file}: byte {offset}"),
+            FilePlace::Line { file, line } => write!(f, "{file}: line {line}"),
+            FilePlace::Instruction {
                 file,
                 function,
                 instruction,
             } => write!(f, "{file}: function {function}, instruction {instruction}"),
-            Place::Event {
+            FilePlace::Event {
                 file,
                 thread,
                 place,

@@ -1,8 +1,9 @@
 //! Words of faults of instructions that are none of the profile.
 
+use crate::instruction_code::CodeText;
+use crate::instruction_family::family_of;
 use crate::reasons::{Words, words};
-use byte_reader::{CodeFault, OpCode};
-use opcode_names::{CodeText, family_of};
+use binary_decoder::{CodeFault, OpCode};
 use std::alloc::Global;
 
 /// An instruction outside the profile, and what it belongs to.

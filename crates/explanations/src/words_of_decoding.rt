@@ -3,8 +3,8 @@
 use crate::reasons::{Words, words};
 use crate::words_of_code::code_words;
 use crate::words_of_spelling::{spelling_words, type_words};
-use byte_reader::{
-    Cause, DecodeFault, HeaderFault, ItemFault, Limit, Place as BytePlace, SectionFault,
+use binary_decoder::{
+    Cause, DecodeFault, HeaderFault, ItemFault, Limit, ModulePart as BytePlace, SectionFault,
 };
 use commands::ImportNames;
 use std::alloc::Global;

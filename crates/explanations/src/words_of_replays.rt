@@ -7,7 +7,7 @@ use rw_objects::{Count, Found, Mode, Touch};
 use std::alloc::Global;
 use std::fmt::Write;
 use wasm_replay::{
-    Claimed, Doing, Logged, Reached, Standing, Unreplayed, Waiting, WasmReplayFault,
+    Claimed, Doing, Logged, Progress, Standing, Unreplayed, Waiting, WasmReplayFault,
 };
 use wasm_types::{MOST_THREADS, NoMemory};
 
@@ -54,13 +54,13 @@ fn claim_words(fault: WasmReplayFault, claimed: Claimed) -> &'static str {
 }
 
 /// What the log has at a place, and what the thread does instead.
-fn diverged_words(alloc: Global, logged: Logged, reached: Option<Reached>) -> Words {
+fn diverged_words(alloc: Global, logged: Logged, reached: Option<Progress>) -> Words {
     let claim = match logged {
         Logged::Entry(entry) => format!(in alloc; "the log has {entry}")?,
         Logged::End(end) => format!(in alloc; "the log ends the thread with {end}")?,
         Logged::NoEnd => words(alloc, "the log has no end of the thread")?,
     };
-    let Some(Reached { steps, doing }) = reached else {
+    let Some(Progress { steps, doing }) = reached else {
         return Ok(claim);
     };
     let doing = doing_words(alloc, doing)?;
@@ -120,10 +120,7 @@ fn put_waiting(text: &mut String, thread: usize, wait: &Waiting) -> Result<(), N
 
 /// Puts the version behind a text that the object of a touch has.
 fn put_count(text: &mut String, found: &Found, count: Count) -> Result<(), NoMemory> {
-    let object = match *found {
-        Found::Read { object, .. } => object,
-        Found::Write { object, .. } => object,
-    };
+    let object = found.object();
     let version = count.version;
     let reads = count.reads;
     write!(text, " {object}@{version}/{reads}")?;

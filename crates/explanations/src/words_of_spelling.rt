@@ -1,7 +1,7 @@
 //! Words of faults in the numbers, names and types of a module.
 
 use crate::reasons::{Words, words};
-use byte_reader::{Integer, SpellingFault, TypeFault};
+use binary_decoder::{Integer, SpellingFault, TypeFault};
 use std::alloc::Global;
 
 /// The numbers of a format, in words.

@@ -1,8 +1,9 @@
 //! Words of faults of the typing of a module.
 
+use crate::instruction_names::name_of;
 use crate::reasons::{Words, words};
 use crate::words_of_rules::rule_words;
-use opcode_names::{code_of, name_of};
+use binary_decoder::code_of;
 use std::alloc::Global;
 use std::fmt::Write;
 use validator::{Named, Needs, Operand, Row, StepCause, ValidCause, ValidFault};

@@ -1,16 +1,18 @@
 //! What stays the same while a thread runs.
 
 ghost use Rattle.std.specs.Prelude.{◌≡◌, true, IfOk};
-ghost use Rattle.wasm_instance.specs.Segments.{elements_are_within};
+ghost use Rattle.wasm_types.specs.Segments.{elements_are_within};
 ghost use Rattle.thread_step.specs.Opening.{instance_of};
-ghost use Rattle.thread_code.specs.ThreadCode.{limits_of};
+ghost use Rattle.thread_step.specs.ThreadCode.{limits_of};
 ghost use Rattle.thread_words.specs.Words.{instance_at};
 
 use block_objects::MemoryLimits;
 use std::alloc::Global;
 use thread_words::Instance;
-use wasm_instance::{block_of, capacity, first_memory, first_table, initial_pages, is_shared};
-use wasm_types::{Extent, Module, NoMemory, Profile};
+use wasm_types::{
+    Extent, Module, NoMemory, Profile, block_of, capacity, first_memory, first_table,
+    initial_pages, is_shared,
+};
 
 /// The numbers of a module's memory in a profile: its length at first, its capacity, which is the declared maximum and
 /// at most 16 pages in profile 1 and 256 in profile 2, and the size of its blocks. A module without a memory has an

@@ -14,7 +14,7 @@ ghost use Rattle.integer_machine.specs.Meaning.{meaning};
 ghost use Rattle.integer_machine.specs.Rooms.{IsNoAccess};
 ghost use Rattle.integer_machine.specs.Sound.{Sound, HasMost};
 ghost use Rattle.integer_machine.specs.Trying.{IsNextLocal};
-ghost use Rattle.thread_code.specs.ThreadCode.{nanos_in, nanos_by, op_of, next_by, local_by, replied_by};
+ghost use Rattle.thread_step.specs.ThreadCode.{nanos_in, nanos_by, op_of, next_by, local_by, replied_by};
 
 use crate::trying::try_step;
 use rw_objects::Next;

@@ -1,4 +1,6 @@
 //! Integer arithmetic: what the numeric instructions give.
+//!
+//! `compute`: what the standard says, traps included. `word32` and `word64` have the operations one by one.
 #![tactic(auto)]
 
 mod computing;

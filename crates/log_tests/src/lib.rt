@@ -1,9 +1,14 @@
-//! Tests of pieces, joins and logs that are gathered. A crate with tests is proved twice, so they stand here, over what
-//! those crates offer.
+//! Tests of pieces, joins, streams and logs that are gathered.
+//!
+//! They stand here since a crate with tests is proved twice.
 #![tactic(auto)]
 
 #[cfg(test)]
 mod bad_lines;
+#[cfg(test)]
+mod contradictions;
+#[cfg(test)]
+mod fitful;
 #[cfg(test)]
 mod joins;
 #[cfg(test)]
@@ -16,3 +21,5 @@ mod refused;
 mod replicas;
 #[cfg(test)]
 mod skipping;
+#[cfg(test)]
+mod streams;

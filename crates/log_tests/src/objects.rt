@@ -1,7 +1,8 @@
 //! Listings that tell which bytes the objects of their entries are.
 
+use byte_streams::{MemorySink, MemorySource};
 use log_pieces::{Entry, Few, Found, Kind, Piece, line};
-use replica::{ListingForm, MemorySink, MemorySource, gather};
+use replica::{ListingForm, gather};
 use std::alloc::Global;
 use std::test::Fail;
 use wasm_types::{Block, Profile, RunKey};

@@ -3,11 +3,9 @@
 //! refused, and the tests pass, too.
 
 use crate::replicas::{WHOLE, WHOLE_TEXT, delivered};
+use byte_streams::{MemorySink, MemorySource, Sink, Source};
 use log_pieces::{End, Piece};
-use replica::{
-    GatherFault, ListingForm, Log, MemorySink, MemorySource, Replica, ReplicaFault, Sink, Source,
-    collect, gather, listing,
-};
+use replica::{GatherFault, ListingForm, Log, Replica, ReplicaFault, collect, gather, listing};
 use rw_objects::{Entry, Few, Found, Kind};
 use std::alloc::Global;
 use std::process::Abort;

@@ -2,12 +2,10 @@
 
 ghost use Rattle.std.specs.Prelude.{◌<◌};
 
+use byte_streams::{MemorySink, MemorySource, Sink, Source};
 use join_laws::Flat;
 use log_pieces::{LineFault, Piece, read_line};
-use replica::{
-    GatherFault, ListingForm, Log, MemorySink, MemorySource, Replica, ReplicaFault, Sink, Source,
-    collect, gather, listing,
-};
+use replica::{GatherFault, ListingForm, Log, Replica, ReplicaFault, collect, gather, listing};
 use std::alloc::Global;
 use std::process::Abort;
 use std::test::Fail;

@@ -5,10 +5,8 @@ ghost use Rattle.std.specs.Prelude.{◌<◌};
 use crate::replicas::{
     BLOCK_64, FIRST, NO_PIECES, OTHER_RUN, RUN, SECOND, WHOLE, WHOLE_LISTED, WHOLE_TEXT,
 };
-use replica::{
-    GatherFault, ListingForm, MemorySink, MemorySource, Sink, Skipped, Source, gather,
-    gather_skipping,
-};
+use byte_streams::{MemorySink, MemorySource, Sink, Source};
+use replica::{GatherFault, ListingForm, Skipped, gather, gather_skipping};
 use std::alloc::Global;
 use std::test::Fail;
 use wasm_types::NoMemory;

@@ -2,10 +2,10 @@
 //! pass, too. What was refused is tried again, and the thread then ends as without the refusal.
 
 use crate::trials::{Case, SHARED, Way, advance, check};
-use integer_machine::ThreadState;
 use rw_objects::{Machine, Next};
 use std::test::Fail;
 use wasm_types::{NoMemory, Op, Profile, Reply, Value};
+use wasm_world::ThreadState;
 
 /// What is done again where memory was wanted.
 #[derive(Clone, Copy, Debug)]

@@ -1,5 +1,6 @@
-//! Tests of the thread machine, of worlds of threads and of their views. A crate with tests is proved twice, so they
-//! stand here, over what those crates offer.
+//! Tests of the thread machine, of worlds of threads and of their views.
+//!
+//! They stand here since a crate with tests is proved twice.
 #![tactic(auto)]
 
 #[cfg(test)]

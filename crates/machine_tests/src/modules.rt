@@ -2,14 +2,11 @@
 
 use binary_decoder::decode;
 use event_core::World;
-use integer_machine::ThreadState;
 use std::alloc::Global;
 use std::test::Fail;
-use thread_plan::Plan;
 use validator::{Valid, validate};
-use waiter_queues::SharedSpace;
 use wasm_types::Profile;
-use wasm_world::open_world;
+use wasm_world::{Plan, SharedSpace, ThreadState, open_world};
 
 /// The valid module of these digits, between which there may be spaces.
 pub(crate) fn valid(alloc: Global, module: &str) -> Result<Valid, Fail> {

@@ -7,10 +7,10 @@ use replica::Replica;
 use rw_objects::{Entry, Few, Found, Kind};
 use std::alloc::Global;
 use std::test::Fail;
-use thread_plan::Plan;
 use validator::Valid;
 use wasm_replay::open_replay;
 use wasm_types::{Block, Outcome, Profile, RunKey, Value};
+use wasm_world::Plan;
 
 /// A function `r` that loads at address 0, and a function `w` that stores there.
 pub(crate) const READERS: &str = "\

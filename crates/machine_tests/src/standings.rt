@@ -7,11 +7,11 @@ use replica::Replica;
 use rw_objects::{Count, Found, Kind, Mode, Touch};
 use std::alloc::Global;
 use std::test::Fail;
-use thread_plan::Plan;
 use wasm_replay::{
-    Claimed, Doing, Logged, LoggedEntry, Reached, Standing, Waiting, replay_gathered,
+    Claimed, Doing, Logged, LoggedEntry, Progress, Standing, Waiting, replay_gathered,
 };
 use wasm_types::{Block, Profile, RunKey};
+use wasm_world::Plan;
 
 /// A write behind one more read than there are.
 const LATE: Found = Found::Write {
@@ -86,7 +86,7 @@ fn a_thread_diverges(rt: HostRuntime) -> Result<(), Fail> {
     };
     let wanted = Standing::Diverged {
         logged: Logged::Entry(one(WRITTEN.0)),
-        reached: Some(Reached {
+        reached: Some(Progress {
             steps: 1,
             doing: Doing::Accesses([Some(touch), None, None]),
         }),

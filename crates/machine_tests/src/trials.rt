@@ -1,20 +1,19 @@
 //! Small modules in hex, and how their threads run: what they ask for, and how they stand in the end.
 
 ghost use Rattle.std.specs.Prelude.{◌≡◌, IfOk};
-ghost use Rattle.thread_code.specs.ThreadCode.{thread_code};
-ghost use Rattle.thread_plan.specs.Plans.{IsPlanOf};
+ghost use Rattle.wasm_world.specs.ThreadCode.{thread_code};
+ghost use Rattle.wasm_world.specs.Plans.{IsPlanOf};
 
 use crate::growths::{Refused, grow};
 use crate::modules::valid;
 use event_core::outcome_of;
-use integer_machine::ThreadState;
 use rw_objects::{Machine, Next};
 use std::alloc::Global;
 use std::process::Abort;
 use std::test::Fail;
-use thread_plan::Plan;
 use validator::Valid;
 use wasm_types::{MOST_STEPS, NoMemory, Op, Profile, Reply, Trap, Value};
+use wasm_world::{Plan, ThreadState};
 
 /// The last thread of a plan over a module, whose parts are in hex. Function 0 is exported as `f`.
 #[derive(Clone, Copy)]

@@ -1,7 +1,7 @@
 //! Where blocks end, and where their else is.
 
-use control_flow::{Target, Targets};
 use std::test::Fail;
+use validator::{Target, Targets};
 use wasm_types::{BlockKind, Instr, Plain};
 
 const BLOCK: Instr = Instr::Block(BlockKind::Block, None);

@@ -1,6 +1,6 @@
 //! A cursor's calls.
 
-use byte_reader::{Cause, Cursor, DecodeFault, Expected, Integer, Limit, SpellingFault};
+use binary_decoder::{Cause, Cursor, DecodeFault, Expected, Integer, Limit, SpellingFault};
 
 static BYTES: [u8; 16] = [
     7, 0xE5, 0x8E, 0x26, 0x7F, 0x7E, 3, 2, 0xC3, 0xA9, 1, 0xFF, 9, 1, 5, 0x80,

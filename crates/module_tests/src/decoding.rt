@@ -3,8 +3,7 @@
 
 use crate::fault_kinds::DecodeKind;
 use crate::fault_kinds::DecodeKind::Refused;
-use binary_decoder::{DecodeFault, decode, summary};
-use byte_reader::{Limit, Place};
+use binary_decoder::{DecodeFault, Limit, ModulePart, decode, summary};
 use std::alloc::Global;
 use std::process::Abort;
 use std::test::Fail;
@@ -363,7 +362,7 @@ fn a_module_has_at_most_1_048_576_bytes(rt: HostRuntime) -> Result<(), Fail> {
             Err(DecodeFault::TooLarge {
                 limit: Limit::Bytes,
                 count: 1_048_577,
-                place: Place::End,
+                place: ModulePart::End,
             })
         )
     );

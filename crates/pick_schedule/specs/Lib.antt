@@ -1,1 +1,2 @@
 pub mod Schedule
+pub mod Stretches

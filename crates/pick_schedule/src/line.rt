@@ -6,8 +6,8 @@ ghost use Rattle.text_lines.specs.Parts.{words};
 ghost use Rattle.pick_schedule.specs.Schedule.{number_in, picks_of};
 
 use crate::fault::ScheduleCause;
+use crate::stretches::{MOST_PICKS, Stretch};
 use event_core::{Input, Pick};
-use schedules::{MOST_PICKS, Stretch};
 use text_lines::{Parts, bits_32, is_integer, spacing_fault};
 use wasm_types::LAST_THREAD;
 

@@ -5,7 +5,7 @@ ghost use Rattle.pick_schedule.specs.Schedule.{schedule_of, IsFaultOf};
 
 use crate::fault::{ScheduleCause, ScheduleFault};
 use crate::line::stretch_of;
-use schedules::Schedule;
+use crate::stretches::Schedule;
 use std::alloc::Global;
 use text_lines::{Parts, without_end};
 

@@ -2,7 +2,7 @@
 use Rattle.std.specs.Prelude.{◌≡◌, ◌≤◌, ◌⊎◌, ℕ, List, [], ◌∷◌, ◌++◌, ◌==◌, Bool, Option, Some, None, true, false, codes, cond, map, nat_le}
 use Rattle.std.specs.Fmt.{decimal}
 use Rattle.clap.specs.Words.{Text}
-use Rattle.quoted_bytes.specs.Quotes.{quoted}
+use Rattle.text_lines.specs.Quotes.{quoted}
 use Rattle.program.specs.declared.answering.OddWord.{OddWord}
 use Rattle.log_pieces.specs.Piece.{PieceValue}
 use Rattle.replica.specs.Gathered.{IsText, IsListing, IsBadLine, IsOtherRun, IsCutText}

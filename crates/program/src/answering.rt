@@ -10,19 +10,18 @@ ghost use Rattle.program.specs.Answers.{WritesSome, IsShown, IsCut, IsSaid, IsLi
 
 use crate::refusing::{refuse, refuse_request};
 use arrayvec::ArrayString;
+use byte_streams::{Failed, Sink, Source, write_all};
 use command_words::{Asked, Request, requested};
 use commands::{Fault, Files, RecordAnswer, check, record, replay, skipped_text, view};
 use itoa::Buffer;
 use log::Log;
-use quoted_bytes::Quoted;
-use replica::{
-    Failed, GatherFault, ListingForm, Sink, Skipped, Source, gather, gather_skipping, write_all,
-};
+use replica::{GatherFault, ListingForm, Skipped, gather, gather_skipping};
 use std::alloc::Global;
 use std::convert::AsStr;
 use std::io::{self, ErrorKind};
 use std::sync::Wait;
 use std::thread::Threads;
+use text_lines::Quoted;
 use wasm_types::NoMemory;
 
 /// What is said where the command line is not text.

@@ -5,10 +5,10 @@ ghost use Rattle.arrayvec.specs.ArrayString.{array_string_len};
 ghost use Rattle.program.specs.Answers.{IsTold, fault_line, shown};
 
 use arrayvec::ArrayString;
+use byte_streams::{Sink, write_all};
 use command_words::Request;
 use commands::{Fault, Files};
 use explanations::explain;
-use replica::{Sink, write_all};
 use std::alloc::Global;
 use wasm_types::NoMemory;
 

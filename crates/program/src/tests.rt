@@ -8,9 +8,9 @@ ghost use Rattle.command_words.specs.declared.requests.Request.TheVariants as re
 ghost use Rattle.program.specs.InMemory.{HasValidModule};
 
 use crate::answering::{OddWord, refuse_words, run};
+use byte_streams::{MemorySink, MemorySource};
 use commands::{MemoryFile, MemoryFiles};
 use log::sink::{Discard, Lines, Memory};
-use replica::{MemorySink, MemorySource};
 use std::alloc::Global;
 use std::convert::AsStr;
 use std::io::{self, ErrorKind};

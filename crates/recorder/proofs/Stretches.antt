@@ -15,8 +15,8 @@ use Rattle.replay_laws.proofs.JoinedRuns.{entries_joined}
 use Rattle.recorder.specs.Picks.{is_taken, step_taken, picks_taken, picks_passed}
 use Rattle.recorder.specs.Recorded.{list_at, IsNoted, AreRecorded}
 use Rattle.recorder.proofs.Rest.{entries_step, world_step, none_taken, all_passed}
-use Rattle.schedules.specs.declared.schedule.Stretch.{Stretch}
-use Rattle.schedules.specs.Stretches.{picks_of, picks_in}
+use Rattle.pick_schedule.specs.declared.stretches.Stretch.{Stretch}
+use Rattle.pick_schedule.specs.Stretches.{picks_of, picks_in}
 
 -- a stretch in two parts
 pub stretch_parts : (m n : ℕ) (p : Pick) → replicate m p ++ replicate n p ≡ replicate (m + n) p

@@ -4,7 +4,7 @@ ghost use Rattle.std.specs.Prelude.{◌≡◌, ◌<◌, ◌∷◌, [], ◌++◌,
 ghost use Rattle.event_core.specs.Threads.{change_at};
 ghost use Rattle.recorder.specs.Recorded.{list_at};
 
-use packed_entries::{EntriesWriter, PackedEntries};
+use log_pieces::{EntriesWriter, PackedEntries};
 use rw_objects::Entry;
 use std::alloc::Global;
 use std::marker::Model;

@@ -3,8 +3,7 @@
 ghost use Rattle.std.specs.Prelude.{◌≡◌};
 
 use event_core::Ended;
-use log_pieces::End;
-use packed_entries::PackedEntries;
+use log_pieces::{End, PackedEntries};
 use std::marker::Model;
 
 /// What a thread logged: its entries by place, and where it ends. Contracts see the list of the entries.
@@ -62,7 +61,8 @@ impl Model for Recorded {
 }
 
 impl Recorded {
-    pub(crate) fn new(threads: Vec<ThreadLog>, end: Ended, passed: u64) -> Recorded
+    /// The threads' logs, the run's end, and how many picks were passed over.
+    pub fn new(threads: Vec<ThreadLog>, end: Ended, passed: u64) -> Recorded
         ensures threads { result.threads ≡ threads.items }
         ensures end { result.end ≡ end }
         ensures passed { result.passed ≡ passed }

@@ -9,9 +9,9 @@ ghost use Rattle.recorder.specs.Rounds.{GoesBy, NoneGoes, IsDone};
 
 use crate::logs::Logs;
 use crate::recorded::Recorded;
-use crate::recording::{thread_logs, try_pick};
+use crate::schedule_recording::{thread_logs, try_pick};
 use event_core::{Input, Pick, World};
-use packed_entries::PackedEntries;
+use log_pieces::PackedEntries;
 use rw_objects::{Machine, ObjectSpace};
 use std::alloc::Global;
 use std::sync::Wait;

@@ -1,4 +1,7 @@
-//! The stop of a replay at a break.
+//! A replay that stops at a break: at a place or a step of a thread, or at a write of objects.
+//!
+//! `run_to` stops at the first turn behind which a break holds, else where no turn makes a step, or at a divergence
+//! (`stops`; law `stops_once`); on a log below a run's no thread diverges on the way (`right`, `free`).
 #![tactic(auto)]
 
 mod ahead;

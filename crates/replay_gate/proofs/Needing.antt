@@ -9,11 +9,11 @@ use Rattle.replay_laws.specs.declared.turn.Turn.TheVariants as turn
 use Rattle.replay_laws.specs.declared.turn.Refusal.TheVariants.{Diverged}
 use Rattle.replay_laws.specs.Log.{Log}
 use Rattle.replay_laws.specs.Turns.{turn_by_entry, turn_by_next}
-use Rattle.replay_gate.specs.declared.needs.Needs.{Needs}
-use Rattle.replay_gate.specs.declared.needs.Needs.TheVariants as needs
+use Rattle.replay_gate.specs.declared.needs.EntryNeeds.{EntryNeeds}
+use Rattle.replay_gate.specs.declared.needs.EntryNeeds.TheVariants as needs
 use Rattle.replay_gate.specs.Needs.{needs_by_next, turn_by_needs, IsOfFew}
 
-pub of_few : {Op : Type 0} (t : ℕ) (n : Needs Op) → t < 16 → IsOfFew t n
+pub of_few : {Op : Type 0} (t : ℕ) (n : EntryNeeds Op) → t < 16 → IsOfFew t n
 of_few t (needs.Nothing x) l = tt
 of_few t (needs.Entry next place) l = l
 

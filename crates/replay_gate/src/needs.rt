@@ -16,7 +16,7 @@ use rw_objects::{Machine, Next, ObjectSpace};
 
 /// What a turn of a thread needs of the log's entries.
 #[derive(Clone, Copy)]
-pub(crate) enum Needs<O: Copy> {
+pub(crate) enum EntryNeeds<O: Copy> {
     /// None: the turn is told without.
     Nothing(Turn),
     /// The entry at this place, of a thread that does this next.
@@ -24,17 +24,17 @@ pub(crate) enum Needs<O: Copy> {
 }
 
 /// What a turn needs where steps are left.
-fn needs_by_next<O: Copy>(place: u32, places: u32, next: Next<O>) -> Needs<O>
+fn needs_by_next<O: Copy>(place: u32, places: u32, next: Next<O>) -> EntryNeeds<O>
     ensures { result ≡ needs_by_next place places next }
 {
     match next {
-        Next::Local => Needs::Nothing(Turn::Local),
-        Next::Halted(_) => Needs::Nothing(Turn::Refused(Refusal::Diverged)),
+        Next::Local => EntryNeeds::Nothing(Turn::Local),
+        Next::Halted(_) => EntryNeeds::Nothing(Turn::Refused(Refusal::Diverged)),
         _ => {
             if place < places {
-                Needs::Entry { next, place }
+                EntryNeeds::Entry { next, place }
             } else {
-                Needs::Nothing(Turn::Refused(Refusal::Diverged))
+                EntryNeeds::Nothing(Turn::Refused(Refusal::Diverged))
             }
         }
     }
@@ -56,30 +56,30 @@ pub(crate) fn needs_of<M: Machine<S>, S: ObjectSpace, L: ReadLog>(
     world: &World<M, S>,
     log: &L,
     thread: u32,
-) -> Needs<S::Op>
+) -> EntryNeeds<S::Op>
     ensures turn { turn_by_needs S.meaning M.code (L.log log.now) (world_of world.now) thread result ≡ turn_of S.meaning M.code (L.log log.now) (world_of world.now) thread }
     ensures few { IsOfFew thread result }
 {
     let Some(steps) = world.steps(thread) else {
-        return Needs::Nothing(Turn::Done);
+        return EntryNeeds::Nothing(Turn::Done);
     };
     let Some(places) = world.places(thread) else {
-        return Needs::Nothing(Turn::Done);
+        return EntryNeeds::Nothing(Turn::Done);
     };
     match log.end(thread) {
-        None => Needs::Nothing(Turn::Refused(Refusal::Missing)),
-        Some(Flat::Clash) => Needs::Nothing(Turn::Refused(Refusal::Clash)),
+        None => EntryNeeds::Nothing(Turn::Refused(Refusal::Missing)),
+        Some(Flat::Clash) => EntryNeeds::Nothing(Turn::Refused(Refusal::Clash)),
         Some(Flat::Known(end)) => {
             if steps < end.steps {
                 let Some(next) = world.next(thread) else {
-                    return Needs::Nothing(Turn::Done);
+                    return EntryNeeds::Nothing(Turn::Done);
                 };
                 needs_by_next(places, end.places, next)
             } else {
                 let Some(outcome) = world.outcome(thread) else {
-                    return Needs::Nothing(Turn::Done);
+                    return EntryNeeds::Nothing(Turn::Done);
                 };
-                Needs::Nothing(turn_at_end(
+                EntryNeeds::Nothing(turn_at_end(
                     end,
                     End {
                         steps,

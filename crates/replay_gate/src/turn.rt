@@ -11,7 +11,7 @@ ghost use Rattle.replay_gate.specs.Local.{is_local, steps_left_of, HasStepsLeft}
 use crate::answers::{ReplayFault, Turned, fault_of};
 use crate::event::input_for;
 use crate::gates::{are_of, is_open};
-use crate::needs::{Needs, needs_of};
+use crate::needs::{EntryNeeds, needs_of};
 use crate::read_log::ReadLog;
 use event_core::{Input, Pick, PickStep, World};
 use join_laws::Flat;
@@ -108,8 +108,8 @@ pub fn turn_of<M: Machine<S>, S: ObjectSpace, L: ReadLog>(
     ensures { result ≡ turn_of S.meaning M.code (L.log log.now) (world_of world.now) thread }
 {
     match needs_of(world, log, thread) {
-        Needs::Nothing(turn) => turn,
-        Needs::Entry { next, place } => {
+        EntryNeeds::Nothing(turn) => turn,
+        EntryNeeds::Entry { next, place } => {
             let entry = log.entry(thread, place);
             turn_by_entry(alloc, world, thread, next, entry.as_ref())
         }
@@ -129,8 +129,8 @@ fn read_turn<M: Machine<S>, S: ObjectSpace, L: ReadLog>(
     ensures reads { L.reads log.now reader.new }
 {
     match needs_of(world, log, thread) {
-        Needs::Nothing(turn) => turn,
-        Needs::Entry { next, place } => {
+        EntryNeeds::Nothing(turn) => turn,
+        EntryNeeds::Entry { next, place } => {
             log.read(reader, thread, place);
             turn_by_entry(alloc, world, thread, next, L::held(reader, thread))
         }

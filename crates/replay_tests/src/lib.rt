@@ -1,5 +1,6 @@
-//! Tests of recordings and replays of scripts. A crate with tests is proved twice, so they stand here, over what those
-//! crates offer.
+//! Tests of recordings and replays of scripts.
+//!
+//! They stand here since a crate with tests is proved twice.
 #![tactic(auto)]
 
 #[cfg(test)]

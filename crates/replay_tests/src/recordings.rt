@@ -2,8 +2,8 @@
 
 use crate::logs::{SCRIPTS, told_end, wanted_end};
 use event_core::{Input, Pick, StepFault, World};
+use pick_schedule::Schedule;
 use recorder::{Recorded, ThreadLog, record};
-use schedules::Schedule;
 use scripted::{Cell, CellOp, Cells, Script, ScriptStep, open_scripts};
 use std::alloc::Global;
 use std::process::Abort;

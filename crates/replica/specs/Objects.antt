@@ -4,7 +4,7 @@ use Rattle.std.specs.Prelude.{ℕ, ◌+◌, ◌-◌, ◌*◌, ◌/◌, ◌%◌, 
 use Rattle.std.specs.List.{flat_map}
 use Rattle.std.specs.Fmt.{decimal}
 use Rattle.wasm_types.specs.declared.key.Profile.{Profile}
-use Rattle.wasm_instance.specs.Memories.{block_power}
+use Rattle.wasm_types.specs.Memories.{block_power}
 use Rattle.rw_objects.specs.declared.entry.Entry.{Entry}
 use Rattle.rw_objects.specs.Touch.{object_of}
 use Rattle.join_laws.specs.declared.flat.Flat.{Flat}

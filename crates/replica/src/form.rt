@@ -3,8 +3,7 @@
 ghost use Rattle.std.specs.Prelude.{◌≡◌};
 ghost use Rattle.replica.specs.Objects.{blocks_of};
 
-use wasm_instance::block_of;
-use wasm_types::{Block, Profile};
+use wasm_types::{Block, Profile, block_of};
 
 /// What a listing says of each entry.
 #[derive(Clone, Copy)]

@@ -9,7 +9,7 @@ ghost use Rattle.replica.specs.Judged.{IsJudged};
 
 use crate::fault::GatherFault;
 use crate::lines::{Chunk, LineEnd, next_line, pass_line};
-use crate::source::Source;
+use byte_streams::Source;
 use log_pieces::{DecodeFault, LONGEST_LINE, LineFault, Piece, read_line};
 use std::alloc::Global;
 use wasm_types::NoMemory;

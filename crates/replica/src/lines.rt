@@ -4,7 +4,7 @@ ghost use Rattle.std.specs.Prelude.{◌≡◌, ℕ, ◌+◌, ◌-◌, ◌*◌, �
 ghost use Rattle.replica.specs.Lines.{HasNoEnd, IsReadFault, pending};
 
 use crate::fault::GatherFault;
-use crate::source::{Failed, Source};
+use byte_streams::{Failed, Source};
 use log_pieces::LONGEST_LINE;
 use memchr::memchr;
 use std::alloc::Global;

@@ -7,8 +7,7 @@ ghost use Rattle.run_pieces.specs.Cut.{IsPiecesFault, end_at, piece_at, piece_co
 ghost use Rattle.run_pieces.specs.Keeps.{IsCut, KeepsRules};
 
 use crate::fault::PiecesFault;
-use log_pieces::{End, MOST_ENTRIES, Piece};
-use packed_entries::EntriesReader;
+use log_pieces::{End, EntriesReader, MOST_ENTRIES, Piece};
 use recorder::{Recorded, ThreadLog};
 use std::alloc::Global;
 use wasm_types::{NoMemory, RunKey};

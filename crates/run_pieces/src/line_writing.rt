@@ -12,10 +12,9 @@ ghost use Rattle.run_pieces.specs.Lines.{head_bytes};
 
 use crate::cutting::{ThreadCut, end_at, piece_count};
 use crate::line_room::LineRoom;
-use log_pieces::{End, end_bytes, head_bytes};
-use packed_entries::EntriesReader;
+use byte_streams::{Failed, Sink, write_all};
+use log_pieces::{End, EntriesReader, end_bytes, head_bytes};
 use recorder::{Recorded, ThreadLog};
-use replica::{Failed, Sink, write_all};
 use wasm_types::RunKey;
 
 /// How many bytes are written at once, and the most that a room has before a line is put into it.

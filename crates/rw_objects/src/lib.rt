@@ -1,4 +1,8 @@
-//! Objects that threads read and write, the machines that do so, and what the log of an access holds.
+//! Objects with versions and read totals, what an access logs of them, and traits of spaces and machines.
+//!
+//! `Versioned::act` makes an event by the definition (`reply`, `entry`, `memory`) and takes no memory; `logs` says
+//! whether it would log an entry. `Machine::run` makes steps of a thread over its memory, each access with its entry in
+//! a log that may say no to it before anything changes (`EntryLog::takes`).
 #![tactic(auto)]
 
 mod count;

@@ -1,4 +1,6 @@
-//! A small space and machine for tests: three cells, and threads that are lists of operations on them and of rests.
+//! A small space and machine for tests: three cells, and threads that are lists of operations and of rests.
+//!
+//! `scripts_run`, `scripts_replay` and `scripts_finish` are the laws of `replay_laws` for these.
 #![tactic(auto)]
 
 mod cells;

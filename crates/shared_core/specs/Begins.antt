@@ -2,7 +2,7 @@
 use Rattle.std.specs.Prelude.{ℕ, List, [], ◌∷◌}
 use Rattle.rw_objects.specs.Counts.{no_counts}
 use Rattle.rw_objects.specs.Memory.{memory_with}
-use Rattle.striped_objects.specs.declared.eight.Eight.{Eight}
+use Rattle.shared_parts.specs.declared.eight.Eight.{Eight}
 use Rattle.shared_parts.specs.Named.{Named}
 
 abbrev pub names_of : {Value Fixed : Type 0} → Fixed → (ℕ → Value) → ℕ → List ℕ → ℕ → Named Value Fixed

@@ -2,8 +2,8 @@
 use Rattle.std.specs.Prelude.{ℕ, List, Box}
 use Rattle.rw_objects.specs.Space.{Space}
 use Rattle.rw_objects.specs.Memory.{Memory}
-use Rattle.striped_objects.specs.declared.eight.Eight.{Eight}
-use Rattle.striped_objects.specs.Parts.{AreParts}
+use Rattle.shared_parts.specs.declared.eight.Eight.{Eight}
+use Rattle.shared_parts.specs.Parts.{AreParts}
 use Rattle.shared_parts.specs.declared.call.Call.{Call}
 use Rattle.shared_parts.specs.Calls.{memory_after_calls}
 

@@ -4,3 +4,5 @@ pub mod Gates
 pub mod Missing
 pub mod Resting
 pub mod Tries
+pub use Rattle.shared_parts.specs.Calls
+pub use Rattle.shared_parts.specs.declared.call.Call

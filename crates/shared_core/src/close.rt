@@ -4,23 +4,21 @@ ghost use Rattle.std.specs.Prelude.{◌≡◌, ◌≤◌, ◌+◌, ℕ, List, []
 ghost use mathlib.Core.List.{IsPrefix};
 ghost use Rattle.rw_objects.specs.Counts.{count_at};
 ghost use Rattle.rw_objects.specs.Memory.{memory_of};
-ghost use Rattle.striped_objects.specs.Cut.{AllSound};
+ghost use Rattle.shared_parts.specs.Cut.{AllSound};
 ghost use Rattle.shared_core.specs.Ends.{AreLedTo};
 ghost use Rattle.shared_parts.specs.declared.call.Call.{Call};
 ghost use Rattle.shared_parts.specs.Calls.{IsLegalHistory, memory_after_calls, part_of, entries_in, threads_in, IsWithin, AreWithin, calls_of, IsNumbered, AreParts};
 
 use crate::journal::Journal;
-use crate::parts::{Parts, gather};
+use crate::parts::{LockedParts, gather};
 use crate::shared::Shared;
-use call_chain::Latest;
-use packed_entries::PackedEntries;
+use log_pieces::PackedEntries;
 use rw_objects::{ObjectSpace, Versioned, Versions};
 use shared_journal::{Held, Seat};
-use shared_parts::{Call, Count, Opening};
+use shared_parts::{Call, CallLedger, Eight, Latest, Opening, Striped};
 use std::alloc::Global;
 use std::boxed::Box;
 use std::sync::ledger::Share;
-use striped_objects::{Eight, Striped};
 use wasm_types::NoMemory;
 
 /// All calls in their order, as the thread of each and each thread's entries, and the space to which they lead.
@@ -38,7 +36,7 @@ pub struct History<S: ObjectSpace> {
 fn hand_in<S: Striped, J: Opening<S, S::Value, S::Fixed>>(
     seat: Seat<S, J>,
     latest: &Latest<Call<S::Op, S::Reply>, J>,
-    all: &mut Share<Count<S, J>>,
+    all: &mut Share<CallLedger<S, J>>,
 ) -> PackedEntries
     ensures within { IsWithin seat.calls (part_of seat.thread latest.now) }
     ensures parts { all.new.parts ≡ all.old.parts + 1 }
@@ -64,7 +62,7 @@ fn hand_in_all<S: Striped, J: Opening<S, S::Value, S::Fixed>>(
     alloc: Global,
     seats: Vec<Seat<S, J>>,
     latest: &Latest<Call<S::Op, S::Reply>, J>,
-    all: &mut Share<Count<S, J>>,
+    all: &mut Share<CallLedger<S, J>>,
 ) -> Result<Vec<PackedEntries>, NoMemory>
     ensures within { OnOk result (AreWithin latest.now seats.items) }
     ensures parts { OnOk result (all.new.parts ≡ all.old.parts + length seats.items) }
@@ -92,7 +90,7 @@ struct Ended<S: Striped> {
 fn take_in<S: Striped, J: Opening<S, S::Value, S::Fixed>>(
     held: Held<S, J>,
     alloc: Global,
-    parts: Parts<S, J>,
+    parts: LockedParts<S, J>,
     seats: Vec<Seat<S, J>>,
 ) -> Result<Ended<S>, NoMemory>
     requires all { length seats.items ≡ J.named.threads }
@@ -130,7 +128,7 @@ fn take_in<S: Striped, J: Opening<S, S::Value, S::Fixed>>(
 pub(crate) fn end<S: Striped + Drop, J: Opening<S, S::Value, S::Fixed>>(
     held: Held<S, J>,
     alloc: Global,
-    parts: Parts<S, J>,
+    parts: LockedParts<S, J>,
     seats: Vec<Seat<S, J>>,
 ) -> Result<History<S>, NoMemory>
     requires all { length seats.items ≡ J.named.threads }

@@ -10,8 +10,7 @@ use crate::gates::{Gates, Seats, first_shut};
 use crate::resting::Resting;
 use rw_objects::{Entry, Touches};
 use shared_journal::Held;
-use shared_parts::Opening;
-use striped_objects::Striped;
+use shared_parts::{Opening, Striped};
 
 /// The journal with the versions of all objects, which seats can go on, and before which gates seats wait.
 #[derive(Drop)]

@@ -1,32 +1,33 @@
 //! How a shared space begins.
 
 ghost use Rattle.std.specs.Prelude.{◌≡◌, ◌+◌, ◌<◌, IfOk, OnOk, length, replicate, [], ◌∷◌, slice_index_or, box_value};
-ghost use Rattle.striped_objects.specs.Parts.{IsPart, AreParts};
+ghost use Rattle.shared_parts.specs.Parts.{IsPart, AreParts};
 ghost use Rattle.shared_parts.specs.Eights.{totals_by};
 ghost use Rattle.shared_core.specs.Begins.{names_of, lane_names};
 ghost use Rattle.rw_objects.specs.Counts.{no_count, no_counts};
-ghost use Rattle.striped_objects.specs.Cut.{AllSound};
+ghost use Rattle.shared_parts.specs.Cut.{AllSound};
 ghost use Rattle.rw_objects.specs.Memory.{memory_with};
 ghost use Rattle.shared_parts.specs.Calls.{IsNumbered, AreNew};
 
 use crate::gates::Gates;
 use crate::journal::Journal;
 use crate::openings::Openings;
-use crate::parts::Parts;
+use crate::parts::LockedParts;
 use crate::resting::Resting;
 use crate::shared::Shared;
 use crate::waking::Conditions;
-use call_chain::{Pile, Reached, SecondHalf, Unnamed, UnnamedNumber};
 use crossbeam_utils::CachePadded;
-use packed_entries::PackedEntries;
+use log_pieces::PackedEntries;
 use rw_objects::{ObjectSpace, Versions};
 use shared_journal::{Held, Seat};
-use shared_parts::{Call, Count, Lane, Opening, Stripe, Written};
+use shared_parts::{
+    Call, CallLedger, Eight, Lane, Opening, Pile, Reached, SecondHalf, Stripe, Striped, Unnamed,
+    UnnamedNumber, Written,
+};
 use std::alloc::Global;
 use std::boxed::Box;
 use std::sync::ledger::{Blank, Share};
 use std::sync::{Mutex, RwLock};
-use striped_objects::{Eight, Striped};
 use wasm_types::NoMemory;
 
 /// A space with no calls, which has no name yet.
@@ -90,7 +91,7 @@ fn stripes<S: Striped, J: Opening<S, S::Value, S::Fixed>>(
     lanes: Eight<UnnamedNumber>,
     parts: Eight<Box<S::Part>>,
     reached: &Reached<Call<S::Op, S::Reply>, J>,
-) -> (Written<S, J>, Parts<S, J>)
+) -> (Written<S, J>, LockedParts<S, J>)
     requires names { J.named.lanes ≡ lane_names lanes }
     requires reached { reached.now ≡ [] }
     requires parts { AreParts S.lane S.part_fixed S.held J.named.memory.fixed J.named.memory.values parts }
@@ -114,7 +115,7 @@ fn stripes<S: Striped, J: Opening<S, S::Value, S::Fixed>>(
         six,
         seven,
     };
-    let parts = Parts {
+    let parts = LockedParts {
         zero: a,
         one: b,
         two: c,
@@ -158,9 +159,9 @@ fn make_room<S: Striped + Drop>(alloc: Global, space: S, threads: u8) -> Result<
 fn seats<S: Striped, J: Opening<S, S::Value, S::Fixed>>(
     alloc: Global,
     threads: u8,
-    share: Share<Count<S, J>>,
+    share: Share<CallLedger<S, J>>,
     reached: &Reached<Call<S::Op, S::Reply>, J>,
-) -> Result<(Vec<Seat<S, J>>, Share<Count<S, J>>), NoMemory>
+) -> Result<(Vec<Seat<S, J>>, Share<CallLedger<S, J>>), NoMemory>
     requires parts { share.parts ≡ threads + 1 }
     requires amount { share.amount ≡ 0 }
     requires reached { reached.now ≡ [] }
@@ -208,7 +209,7 @@ impl<S: Striped + Drop, J: Opening<S, S::Value, S::Fixed>> Shared<S, J> {
             parts,
         } = make_room(alloc, space, threads)?;
         let latest = chain.named::<J>();
-        let (book, share) = count.open::<Count<S, J>>();
+        let (book, share) = count.open::<CallLedger<S, J>>();
         let reached = latest.reached();
         let (seats, rest) = seats(alloc, threads, share, &reached)?;
         let (written, parts) = stripes(lanes, parts, &reached);

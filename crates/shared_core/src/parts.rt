@@ -2,25 +2,24 @@
 //! the number of a part is in its type.
 
 ghost use Rattle.std.specs.Prelude.{◌≡◌, ◌%◌, ◌<◌, ◌∷◌, [], box_value};
-ghost use Rattle.striped_objects.specs.Parts.{IsPart, AreParts};
+ghost use Rattle.shared_parts.specs.Parts.{IsPart, AreParts};
 ghost use Rattle.shared_parts.specs.Calls.{memory_after_calls};
 ghost use Rattle.shared_parts.specs.Writes.{writes};
 ghost use Rattle.shared_parts.specs.Eights.{IsKept, Covers, totals_by};
 ghost use Rattle.shared_parts.specs.Ones.{CoversOne};
 
 use crate::looking::{read, write};
-use call_chain::{Latest, SecondHalf};
 use rw_objects::{Mode, ObjectSpace, Touch, Touches};
 use shared_parts::{
-    Call, KeptPart, KeptParts, Lane, OneOf, OnePart, Opening, Stripe, Written, lane_writes,
+    Call, Eight, KeptPart, KeptParts, Lane, Latest, OneOf, OnePart, Opening, SecondHalf, Stripe,
+    Striped, Written, has_lane, lane_writes,
 };
 use std::boxed::Box;
 use std::sync::{RwLock, Wait};
-use striped_objects::{Eight, Striped, has_lane};
 
 /// The parts, each under a lock that readers share.
 #[derive(Drop)]
-pub struct Parts<S: Striped, J: Opening<S, S::Value, S::Fixed>> {
+pub struct LockedParts<S: Striped, J: Opening<S, S::Value, S::Fixed>> {
     pub zero: RwLock<Stripe<S, J, 0>>,
     pub one: RwLock<Stripe<S, J, 1>>,
     pub two: RwLock<Stripe<S, J, 2>>,
@@ -81,7 +80,7 @@ fn wait_for_one<'a, S: Striped, J: Opening<S, S::Value, S::Fixed>, R: Wait, cons
     }
 }
 
-impl<S: Striped, J: Opening<S, S::Value, S::Fixed>> Parts<S, J> {
+impl<S: Striped, J: Opening<S, S::Value, S::Fixed>> LockedParts<S, J> {
     /// Waits for the part of the one object that an operation touches.
     pub(crate) fn keep_one<R: Wait>(&self, rt: &R, touch: Touch) -> OnePart<'_, S, J>
         ensures { CoversOne (touch ∷ []) result }
@@ -132,7 +131,7 @@ fn take<S: Striped, J: Opening<S, S::Value, S::Fixed>, const I: u64>(
 
 /// Takes all parts out of their locks. They are those of the space to which the journal leads.
 pub(crate) fn gather<S: Striped, J: Opening<S, S::Value, S::Fixed>>(
-    parts: Parts<S, J>,
+    parts: LockedParts<S, J>,
     written: Written<S, J>,
     latest: &Latest<Call<S::Op, S::Reply>, J>,
 ) -> Eight<Box<S::Part>>

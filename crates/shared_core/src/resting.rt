@@ -2,7 +2,7 @@
 
 ghost use Rattle.std.specs.Prelude.{◌≡◌, ℕ, IfOk, true, false, replicate, slice_set};
 ghost use Rattle.std.specs.List.{list_any};
-ghost use Rattle.shared_core.specs.declared.resting.Standing.TheVariants.{Goes, RestsUntil, Left};
+ghost use Rattle.shared_core.specs.declared.resting.SeatState.TheVariants.{Goes, RestsUntil, Left};
 ghost use Rattle.shared_core.specs.Resting.{awaiting, is_awaited, is_still, none_goes, rests, wakes, with_one};
 
 use std::alloc::Global;
@@ -10,7 +10,7 @@ use wasm_types::NoMemory;
 
 /// What a seat does.
 #[derive(Clone, Copy, Debug, PartialEq, Eq)]
-pub(crate) enum Standing {
+pub(crate) enum SeatState {
     /// It can enter a call, also where its thread has still to begin.
     Goes,
     /// It enters none before so many calls were entered.
@@ -19,14 +19,14 @@ pub(crate) enum Standing {
     Left,
 }
 
-impl Standing {
+impl SeatState {
     /// Whether the seat rests.
     fn rests(self) -> bool
         ensures { result ≡ rests self }
     {
         match self {
-            Standing::RestsUntil(_) => true,
-            Standing::Goes | Standing::Left => false,
+            SeatState::RestsUntil(_) => true,
+            SeatState::Goes | SeatState::Left => false,
         }
     }
 
@@ -35,8 +35,8 @@ impl Standing {
         ensures { result ≡ is_awaited length self }
     {
         match self {
-            Standing::RestsUntil(until) => until == length,
-            Standing::Goes | Standing::Left => false,
+            SeatState::RestsUntil(until) => until == length,
+            SeatState::Goes | SeatState::Left => false,
         }
     }
 
@@ -45,9 +45,9 @@ impl Standing {
         ensures { result ≡ is_still length self }
     {
         match self {
-            Standing::Goes => false,
-            Standing::RestsUntil(until) => length < until,
-            Standing::Left => true,
+            SeatState::Goes => false,
+            SeatState::RestsUntil(until) => length < until,
+            SeatState::Left => true,
         }
     }
 }
@@ -78,7 +78,7 @@ impl Wakes {
 /// What each seat does, by its number.
 #[derive(Debug, Drop)]
 pub(crate) struct Resting {
-    pub(crate) seats: Vec<Standing>,
+    pub(crate) seats: Vec<SeatState>,
     /// Whether a seat may rest: where not, none does.
     pub(crate) some_rest: bool,
     ghost none_rests: { some_rest ≡ false → list_any rests seats.items ≡ false },
@@ -89,7 +89,7 @@ impl Resting {
     pub(crate) fn new(alloc: Global, seats: u8) -> Result<Resting, NoMemory>
         ensures { IfOk result (λ r. r.seats.items ≡ replicate seats Goes) }
     {
-        let seats = vec![in alloc; Standing::Goes; seats as usize]?;
+        let seats = vec![in alloc; SeatState::Goes; seats as usize]?;
         Ok(Resting {
             seats,
             some_rest: false,
@@ -127,14 +127,14 @@ impl Resting {
         ensures { self.new.seats.items ≡ slice_set self.old.seats.items seat (RestsUntil until) }
     {
         self.some_rest = true;
-        self.put(seat, Standing::RestsUntil(until));
+        self.put(seat, SeatState::RestsUntil(until));
     }
 
     /// A seat that rested can go on.
     pub(crate) fn goes_on(&mut self, seat: u32)
         ensures { self.new.seats.items ≡ slice_set self.old.seats.items seat Goes }
     {
-        self.put(seat, Standing::Goes);
+        self.put(seat, SeatState::Goes);
         self.some_rest = self.some_rests();
     }
 
@@ -143,7 +143,7 @@ impl Resting {
         ensures seats { self.new.seats.items ≡ slice_set self.old.seats.items seat Left }
         ensures stays { (length : ℕ) → none_goes length self.old.seats.items ≡ true → none_goes length self.new.seats.items ≡ true }
     {
-        self.put(seat, Standing::Left);
+        self.put(seat, SeatState::Left);
     }
 
     /// Whether no seat enters a call while so many were entered: each rests until there are more, or has left.
@@ -154,7 +154,7 @@ impl Resting {
     }
 
     /// Notes what a seat does.
-    fn put(&mut self, seat: u32, standing: Standing)
+    fn put(&mut self, seat: u32, standing: SeatState)
         requires rests { rests standing ≡ true → self.old.some_rest ≡ true }
         ensures { self.new.seats.items ≡ slice_set self.old.seats.items seat standing }
     {

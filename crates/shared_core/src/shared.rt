@@ -2,7 +2,7 @@
 
 ghost use Rattle.std.specs.Prelude.{◌≡◌, ℕ, ◌∷◌, ◌++◌, [], IfOk, false};
 ghost use Rattle.rw_objects.specs.Space.{Fits};
-ghost use Rattle.striped_objects.specs.Cut.{decision_at};
+ghost use Rattle.shared_parts.specs.Cut.{decision_at};
 ghost use Rattle.shared_parts.specs.Calls.{call};
 ghost use Rattle.shared_journal.specs.Tries.{IfDone, IfShut, IfNotReady, IsDone};
 ghost use Rattle.shared_core.specs.Tries.{IsTry, WasNotReady, WasNotReadyAt, WasAnother};
@@ -12,23 +12,22 @@ use crate::journal::Journal;
 use crate::looking::lock;
 use crate::missing::opens_at;
 use crate::openings::Openings;
-use crate::parts::Parts;
+use crate::parts::LockedParts;
 use crate::resting::Wakes;
 use crate::waking::Conditions;
 use crossbeam_utils::CachePadded;
 use rw_objects::{Entry, ObjectSpace, Touches};
 use shared_journal::{Seat, Tried, decide_one};
-use shared_parts::{Keeps, Opening};
+use shared_parts::{Keeps, Opening, Striped};
 use std::alloc::Global;
 use std::sync::{Mutex, Wait};
-use striped_objects::Striped;
 use wasm_types::{MOST_THREADS, NoMemory};
 
 /// A space shared by threads, each of which has a seat: its parts, the journal of all calls, and what wakes those that
 /// rest.
 #[derive(Drop)]
 pub struct Shared<S: Striped, J: Opening<S, S::Value, S::Fixed>> {
-    pub(crate) parts: Parts<S, J>,
+    pub(crate) parts: LockedParts<S, J>,
     /// In memory apart from its lock, which threads that look at the lock take from the one that has it.
     pub(crate) journal: Mutex<CachePadded<Journal<S, J>>>,
     pub(crate) changed: Conditions,

@@ -7,7 +7,7 @@ use Rattle.rw_objects.specs.declared.count.Count.{Count}
 use Rattle.rw_objects.specs.Space.{Space, Fits, mode_at, is_written, is_ready, reply_of, values_after, effect_at}
 use Rattle.rw_objects.specs.Counts.{count_after_if, counts_after}
 use Rattle.rw_objects.specs.Memory.{Memory, memory_after, memory_with, entry_of}
-use Rattle.striped_objects.specs.Cut.{Cut, CutLaws, AllSound}
+use Rattle.shared_parts.specs.Cut.{Cut, CutLaws, AllSound}
 use Rattle.shared_parts.specs.declared.call.Call.{Call}
 use Rattle.shared_parts.specs.Calls.{IsLegalHistory, memory_after_calls, entries_in, threads_in}
 

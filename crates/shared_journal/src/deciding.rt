@@ -2,11 +2,10 @@
 
 ghost use Rattle.std.specs.Prelude.{◌≡◌, ℕ, ◌∷◌, []};
 ghost use Rattle.rw_objects.specs.Space.{Fits};
-ghost use Rattle.striped_objects.specs.Cut.{decision_at};
+ghost use Rattle.shared_parts.specs.Cut.{decision_at};
 
 use rw_objects::{ObjectSpace, Touch};
-use shared_parts::{Keeps, Opening};
-use striped_objects::Striped;
+use shared_parts::{Keeps, Opening, Striped};
 
 /// What an operation that touches one object decides by what its part holds, whatever the space is of which it is a
 /// part. It takes no memory.

@@ -4,20 +4,18 @@ ghost use Rattle.std.specs.Prelude.{◌≡◌, ◌≢◌, ℕ, ◌+◌, ◌<◌,
 ghost use Rattle.rw_objects.specs.Space.{Fits, AllBelow, is_ready, reply_of};
 ghost use Rattle.rw_objects.specs.Counts.{all_found, count_at, is_touched};
 ghost use Rattle.rw_objects.specs.Memory.{entry_of, memory_after};
-ghost use Rattle.striped_objects.specs.Cut.{decision_at};
+ghost use Rattle.shared_parts.specs.Cut.{decision_at};
 ghost use Rattle.shared_parts.specs.Calls.{call, IsLegalHistory, IsWithin, memory_after_calls, part_of};
 ghost use Rattle.shared_journal.specs.Tries.{IfDone, IfShut, IfNotReady, IsDone};
 
 use crate::seat::Seat;
 use crate::tried::Tried;
-use call_chain::Latest;
 use rw_objects::{Entry, Few, Found, Mode, ObjectSpace, Touches, Versions};
-use shared_parts::{Call, Count, Keeps, Opening, Written};
+use shared_parts::{Call, CallLedger, Keeps, Latest, Opening, Striped, Written};
 use std::alloc::Global;
 use std::marker::Model;
 use std::snapshot::Snapshot;
 use std::sync::ledger::{Book, Share};
-use striped_objects::Striped;
 use wasm_types::NoMemory;
 
 /// The versions of all objects and the journal. At run time the journal is the thread of each call, a byte each: what
@@ -28,15 +26,15 @@ pub struct Held<S: Striped, J: Opening<S, S::Value, S::Fixed>> {
     pub order: Vec<u8>,
     pub latest: Latest<Call<S::Op, S::Reply>, J>,
     pub written: Written<S, J>,
-    pub book: Book<Count<S, J>>,
-    pub rest: Share<Count<S, J>>,
+    pub book: Book<CallLedger<S, J>>,
+    pub rest: Share<CallLedger<S, J>>,
 }
 
 impl<S: Striped, J: Opening<S, S::Value, S::Fixed>> Model for Held<S, J> {
     ghost use Rattle.std.specs.Prelude.{◌≡◌, ◌≤◌, length, ℕ, List};
     ghost use Rattle.rw_objects.specs.Counts.{count_at};
     ghost use Rattle.shared_parts.specs.declared.call.Call.{Call};
-    ghost use Rattle.striped_objects.specs.Cut.{AllSound};
+    ghost use Rattle.shared_parts.specs.Cut.{AllSound};
     ghost use Rattle.shared_parts.specs.Calls.{IsLegalHistory, memory_after_calls, threads_in};
     ghost use Rattle.shared_parts.specs.Writes.{writes};
     ghost use Rattle.shared_parts.specs.Eights.{totals_by};

@@ -2,16 +2,14 @@
 
 ghost use Rattle.std.specs.Prelude.{◌≡◌, ◌+◌, ℕ, [], IfOk, OnOk, length};
 ghost use Rattle.rw_objects.specs.Space.{Fits};
-ghost use Rattle.striped_objects.specs.Cut.{sights, decision_at};
+ghost use Rattle.shared_parts.specs.Cut.{sights, decision_at};
 ghost use Rattle.shared_parts.specs.Calls.{IsWithin, entries_in, part_of};
 
-use call_chain::{Latest, Pile, Reached};
-use packed_entries::PackedEntries;
+use log_pieces::PackedEntries;
 use rw_objects::{ObjectSpace, Touches};
-use shared_parts::{Call, Count, Keeps, Opening};
+use shared_parts::{Call, CallLedger, Keeps, Latest, Opening, Pile, Reached, Striped};
 use std::marker::Model;
 use std::sync::ledger::Share;
-use striped_objects::Striped;
 use wasm_types::NoMemory;
 
 /// A thread's own calls, with what shows that they stand in the journal. What they asked and were answered is known to
@@ -21,7 +19,7 @@ pub struct Seat<S: Striped, J: Opening<S, S::Value, S::Fixed>> {
     pub thread: u8,
     pub entries: PackedEntries,
     pub calls: Pile<Call<S::Op, S::Reply>>,
-    pub share: Share<Count<S, J>>,
+    pub share: Share<CallLedger<S, J>>,
     pub reached: Reached<Call<S::Op, S::Reply>, J>,
     /// What the last call saw of each object, a list that is used again.
     pub seen: Vec<S::Seen>,

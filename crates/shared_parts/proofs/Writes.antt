@@ -8,7 +8,7 @@ use Rattle.rw_objects.specs.declared.touch.Touch.{Touch}
 use Rattle.rw_objects.specs.Space.{Space, mode_at, is_written, values_after, effect_at}
 use Rattle.rw_objects.specs.Memory.{Memory, memory_after}
 use Rattle.rw_objects.specs.Counts.{is_touched}
-use Rattle.striped_objects.specs.Parts.{part_values, lane_writes, has_lane}
+use Rattle.shared_parts.specs.Parts.{part_values, lane_writes, has_lane}
 use Rattle.shared_parts.specs.declared.call.Call.{Call}
 use Rattle.shared_parts.specs.Calls.{memory_after_calls}
 use Rattle.shared_parts.specs.Writes.{writes}

@@ -4,3 +4,6 @@ pub mod Writes
 pub mod Steps
 pub mod Eights
 pub mod Ones
+pub mod Cut
+pub mod Parts
+pub mod Owned

@@ -1,7 +1,7 @@
 -- One of the eight parts, kept for an operation that touches no other.
 use Rattle.std.specs.Prelude.{◌≡◌, ◌≢◌, ℕ, List, false}
 use Rattle.rw_objects.specs.declared.touch.Touch.{Touch}
-use Rattle.striped_objects.specs.Parts.{has_lane}
+use Rattle.shared_parts.specs.Parts.{has_lane}
 use Rattle.shared_parts.specs.Eights.{Kept, IsKept, IsHere}
 use Rattle.shared_parts.specs.declared.one.OneOf.{OneOf}
 use Rattle.shared_parts.specs.declared.one.OneOf.TheVariants as of

@@ -3,7 +3,7 @@ use Rattle.std.specs.Prelude.{◌≡◌, List, [], ◌∷◌, ◌++◌}
 use Rattle.rw_objects.specs.declared.touch.Touch.{Touch}
 use Rattle.rw_objects.specs.Space.{Space, Fits}
 use Rattle.rw_objects.specs.Memory.{Memory}
-use Rattle.striped_objects.specs.Cut.{Cut, AllSound, decision_at}
+use Rattle.shared_parts.specs.Cut.{Cut, AllSound, decision_at}
 use Rattle.shared_parts.specs.declared.call.Call.{Call}
 use Rattle.shared_parts.specs.Calls.{memory_after_calls}
 

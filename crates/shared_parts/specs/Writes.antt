@@ -1,7 +1,7 @@
 -- How often calls write each part.
 use Rattle.std.specs.Prelude.{ℕ, ◌+◌, List, [], ◌∷◌}
 use Rattle.rw_objects.specs.declared.touch.Touch.{Touch}
-use Rattle.striped_objects.specs.Parts.{lane_writes}
+use Rattle.shared_parts.specs.Parts.{lane_writes}
 use Rattle.shared_parts.specs.declared.call.Call.{Call}
 
 -- how many objects of part i these calls write

@@ -10,11 +10,11 @@ ghost use Rattle.shared_parts.specs.Steps.{IsStep};
 ghost use Rattle.shared_parts.specs.Eights.{totals_by};
 
 use crate::call::Call;
+use crate::chain::{Latest, Reached};
 use crate::kept::Written;
 use crate::naming::Opening;
-use call_chain::{Latest, Reached};
+use crate::striped::Striped;
 use rw_objects::{ObjectSpace, Touches};
-use striped_objects::Striped;
 
 /// The parts that an operation touches, each kept for reading or for writing: `KeptParts` for any operation, `OnePart`
 /// for one that touches one object.

@@ -3,7 +3,7 @@
 ghost use Rattle.std.specs.Prelude.{◌≡◌, ◌≢◌, ◌%◌, ◌<◌, ℕ, true, is_some, nat_lt, option_copied, option_map};
 ghost use Rattle.rw_objects.specs.Space.{Fits};
 ghost use Rattle.rw_objects.specs.Counts.{is_touched};
-ghost use Rattle.striped_objects.specs.Parts.{lane_writes};
+ghost use Rattle.shared_parts.specs.Parts.{lane_writes};
 ghost use Rattle.std.specs.Sync.RwLock.{write_guard_value};
 ghost use Rattle.shared_parts.specs.Calls.{memory_after_calls};
 ghost use Rattle.shared_parts.specs.Writes.{writes};
@@ -11,14 +11,15 @@ ghost use Rattle.shared_parts.specs.Steps.{IsStep};
 ghost use Rattle.shared_parts.specs.Eights.{IsKept, IsAt, IsHere, IsOfLane, here_in};
 
 use crate::call::Call;
+use crate::chain::{Latest, Reached};
 use crate::keeps::Keeps;
 use crate::naming::{Lane, Opening};
+use crate::numbers::SecondHalf;
 use crate::stripe::Stripe;
-use call_chain::{Latest, Reached, SecondHalf};
+use crate::striped::Striped;
 use rw_objects::{ObjectSpace, Touches};
 use std::marker::Model;
 use std::sync::{RwLockReadGuard, RwLockWriteGuard};
-use striped_objects::Striped;
 
 /// How often each part was written, as the journal knows it.
 #[derive(Drop)]

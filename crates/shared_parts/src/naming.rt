@@ -1,6 +1,7 @@
 //! What names one shared space.
 
-use call_chain::{Counting, Naming};
+use crate::chain::Naming;
+use crate::numbers::Counting;
 use rw_objects::ObjectSpace;
 use std::marker::PhantomData;
 use std::sync::ledger::Ledger;
@@ -14,11 +15,11 @@ pub trait Opening<S, V, F>: Naming {
 }
 
 /// The ledger of the calls, with a part for each seat and one beside the journal.
-pub struct Count<S: ObjectSpace, J: Opening<S, S::Value, S::Fixed>> {
+pub struct CallLedger<S: ObjectSpace, J: Opening<S, S::Value, S::Fixed>> {
     of: PhantomData<(S, J)>,
 }
 
-impl<S: ObjectSpace, J: Opening<S, S::Value, S::Fixed>> Ledger for Count<S, J> {
+impl<S: ObjectSpace, J: Opening<S, S::Value, S::Fixed>> Ledger for CallLedger<S, J> {
     ghost use Rattle.std.specs.Prelude.{◌+◌};
 
     ghost name = { J.named.ledger };

@@ -5,13 +5,13 @@ ghost use Rattle.shared_parts.specs.Eights.{IsOfLane, here_in};
 ghost use Rattle.shared_parts.specs.Ones.{lane_of, kept_of};
 
 use crate::call::Call;
+use crate::chain::{Latest, Reached};
 use crate::keeps::Keeps;
 use crate::kept::{KeptPart, Written, advance};
 use crate::naming::Opening;
-use call_chain::{Latest, Reached};
+use crate::striped::Striped;
 use rw_objects::{ObjectSpace, Touches};
 use std::marker::Model;
-use striped_objects::Striped;
 
 /// One of eight, by the number of the part that it is of.
 #[derive(Drop)]

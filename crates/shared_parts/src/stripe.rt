@@ -3,18 +3,20 @@
 ghost use Rattle.std.specs.Prelude.{◌≡◌, ◌%◌, ◌/◌, ◌<◌, true, box_value};
 ghost use Rattle.rw_objects.specs.Space.{Fits};
 ghost use Rattle.rw_objects.specs.Counts.{is_touched};
-ghost use Rattle.striped_objects.specs.Parts.{IsPart, part_values, lane_writes};
+ghost use Rattle.shared_parts.specs.Parts.{IsPart, part_values, lane_writes};
 ghost use Rattle.shared_parts.specs.Calls.{memory_after_calls};
 ghost use Rattle.shared_parts.specs.Writes.{writes};
 ghost use Rattle.shared_parts.specs.Steps.{IsStep};
 
 use crate::call::Call;
+use crate::chain::{Latest, Reached};
+use crate::lane::change_lane;
 use crate::naming::{Lane, Opening};
-use call_chain::{FirstHalf, Latest, Reached, SecondHalf};
+use crate::numbers::{FirstHalf, SecondHalf};
+use crate::striped::Striped;
 use rw_objects::{Mode, ObjectSpace, Touches};
 use std::boxed::Box;
 use std::marker::Model;
-use striped_objects::{Striped, change_lane};
 
 /// What one part of the space holds, with what shows that it is what the journal leads to: how often it was written,
 /// which the journal knows too, and the calls that led to it.
@@ -27,7 +29,7 @@ pub struct Stripe<S: Striped, J: Opening<S, S::Value, S::Fixed>, const I: u64> {
 
 impl<S: Striped, J: Opening<S, S::Value, S::Fixed>, const I: u64> Model for Stripe<S, J, I> {
     ghost use Rattle.std.specs.Prelude.{◌≡◌, ◌<◌};
-    ghost use Rattle.striped_objects.specs.Parts.{IsPart};
+    ghost use Rattle.shared_parts.specs.Parts.{IsPart};
     ghost use Rattle.shared_parts.specs.Calls.{memory_after_calls};
     ghost use Rattle.shared_parts.specs.Writes.{writes};
 

@@ -1,11 +1,14 @@
-//! Tests of a shared memory, and of shared cells, by threads that really run at once. A crate with tests is proved
-//! twice, so they stand here, over what those crates offer.
+//! Tests of a shared memory, and of shared cells, by threads that really run at once.
+//!
+//! They stand here since a crate with tests is proved twice.
 #![tactic(auto)]
 
 #[cfg(test)]
 mod calls;
 #[cfg(test)]
 mod cells;
+#[cfg(test)]
+mod checked;
 #[cfg(test)]
 mod growths;
 #[cfg(test)]
@@ -15,10 +18,14 @@ mod meeting;
 #[cfg(test)]
 mod memory;
 #[cfg(test)]
+mod operations;
+#[cfg(test)]
 mod plain;
 #[cfg(test)]
 mod readers;
 #[cfg(test)]
 mod resting;
+#[cfg(test)]
+mod splitting;
 #[cfg(test)]
 mod walk;

@@ -9,7 +9,7 @@ use crate::memory::{limits, run};
 use block_objects::{MemoryLimits, ObjectValue};
 use shared_core::{Opened, Shared, Unkept};
 use shared_journal::{Seat, Tried};
-use shared_parts::Opening;
+use shared_parts::{Opening, Striped};
 use shared_threads::Work;
 use std::alloc::Global;
 use std::marker::Brand;
@@ -18,7 +18,6 @@ use std::test::Fail;
 use std::thread;
 use std::thread::Threads;
 use striped_memory::StripedMemory;
-use striped_objects::Striped;
 use waiter_queues::SharedSpace;
 use wasm_types::NoMemory;
 

@@ -2,7 +2,7 @@
 
 use crate::calls::{Answers, action};
 use crate::plain::Plain;
-use packed_entries::PackedEntries;
+use log_pieces::PackedEntries;
 use rw_objects::{Entry, ObjectSpace};
 use shared_core::History;
 use std::alloc::Global;

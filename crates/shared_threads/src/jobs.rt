@@ -8,11 +8,10 @@ use crate::asked::{Tasks, work_each};
 use crate::work::Work;
 use shared_core::Shared;
 use shared_journal::Seat;
-use shared_parts::Opening;
+use shared_parts::{Opening, Striped};
 use std::alloc::Global;
 use std::sync::Wait;
 use std::thread::Threads;
-use striped_objects::Striped;
 use wasm_types::NoMemory;
 
 /// A seat, and what its thread has.

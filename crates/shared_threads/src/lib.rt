@@ -1,5 +1,7 @@
-//! Threads over a shared space, from its opening to its end: one thread for each seat, and the history of what they
-//! did.
+//! Threads over a shared space, one for each seat, from its opening to the history of what they did.
+//!
+//! `run_threads`: one legal history, which leads to the memory that is left; by its part of it each thread's work leads
+//! to its last state (`Work::work`, `leads`). Where the system makes no thread, that seat's work is left out.
 #![tactic(auto)]
 
 mod asked;

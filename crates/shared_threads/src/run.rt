@@ -10,11 +10,10 @@ ghost use Rattle.shared_threads.specs.Ran.{AreRun};
 use crate::jobs::{pair, part, work_all};
 use crate::work::Work;
 use shared_core::{History, Opened, Shared};
-use shared_parts::Opening;
+use shared_parts::{Opening, Striped};
 use std::alloc::Global;
 use std::sync::Wait;
 use std::thread::Threads;
-use striped_objects::Striped;
 use wasm_types::NoMemory;
 
 /// Runs a thread for each of the states, over a space that is opened for so many: the history of all their calls, and

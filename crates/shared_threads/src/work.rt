@@ -4,10 +4,9 @@ ghost use Rattle.std.specs.Prelude.{◌≡◌, []};
 
 use shared_core::Shared;
 use shared_journal::Seat;
-use shared_parts::Opening;
+use shared_parts::{Opening, Striped};
 use std::alloc::Global;
 use std::sync::Wait;
-use striped_objects::Striped;
 
 /// What each thread over a shared space does with its seat. All threads have the same value of it.
 pub trait Work<S: Striped> {

@@ -7,7 +7,7 @@ use Rattle.block_objects.specs.Touches.{op_touches}
 use Rattle.block_objects.specs.SharedMemory.{shared_memory}
 use Rattle.block_objects.proofs.Values.{differ_no, no_differ}
 use Rattle.waiter_queues.specs.Shared.{queue_at}
-use Rattle.striped_objects.specs.Parts.{set_at}
+use Rattle.shared_parts.specs.Parts.{set_at}
 use Rattle.striped_memory.specs.declared.part.BlockPart.{BlockPart}
 use Rattle.striped_memory.specs.declared.part.QueuePart.{QueuePart}
 use Rattle.striped_memory.specs.declared.part.MemoryPart.{MemoryPart}

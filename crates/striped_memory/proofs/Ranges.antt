@@ -10,7 +10,7 @@ use Rattle.rw_objects.specs.Space.{AllBelow, mode_at}
 use Rattle.rw_objects.specs.Counts.{is_touched}
 use Rattle.block_objects.specs.Objects.{blocks_in, objects_in}
 use Rattle.block_objects.proofs.Values.{differ_no, equal_yes}
-use Rattle.striped_objects.specs.Parts.{set_at}
+use Rattle.shared_parts.specs.Parts.{set_at}
 use Rattle.striped_memory.specs.Quarters.{quarter_of}
 
 -- the blocks of a memory are in four equal quarters, which fill it

@@ -5,9 +5,9 @@ use Rattle.block_objects.specs.declared.limits.MemoryLimits.{MemoryLimits}
 use Rattle.block_objects.specs.Objects.{ObjectAt, QueueAt, Bytes, Queue, Length, block_bytes, block_object, queue_object, object_value}
 use Rattle.block_objects.specs.Memory.{MemoryAt}
 use Rattle.block_objects.proofs.Values.{differ_no, value_block, value_queue}
-use Rattle.striped_objects.specs.Parts.{IsPart, AreParts}
-use Rattle.striped_objects.specs.declared.eight.Eight.{Eight}
-use Rattle.striped_objects.specs.Cut.{AllSound}
+use Rattle.shared_parts.specs.Parts.{IsPart, AreParts}
+use Rattle.shared_parts.specs.declared.eight.Eight.{Eight}
+use Rattle.shared_parts.specs.Cut.{AllSound}
 use Rattle.memory_parts.specs.SharedCut.{shared_cut}
 use Rattle.waiter_queues.specs.Shared.{queue_at, shared_values}
 use Rattle.striped_memory.specs.declared.part.BlockPart.{BlockPart}

@@ -1,2 +1,3 @@
 pub mod Quarters
 pub mod MemoryParts
+pub use Rattle.waiter_queues.specs.Shared

@@ -10,7 +10,7 @@ ghost use Rattle.block_objects.specs.Objects.{Bytes, Queue, block_bytes};
 ghost use Rattle.block_objects.specs.SharedMemory.{shared_memory};
 ghost use Rattle.block_objects.specs.Touches.{op_touches};
 ghost use Rattle.memory_parts.specs.SharedCut.{action_changed, access_changed, with_part};
-ghost use Rattle.striped_objects.specs.Parts.{set_at};
+ghost use Rattle.shared_parts.specs.Parts.{set_at};
 ghost use Rattle.waiter_queues.specs.Shared.{queue_at};
 ghost use Rattle.striped_memory.specs.Quarters.{quarter_of};
 ghost use Rattle.striped_memory.specs.MemoryParts.{memory_lane, memory_fixed, memory_held, blocks_held};

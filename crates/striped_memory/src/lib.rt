@@ -1,4 +1,6 @@
-//! A shared memory that can stand in eight parts, each read and changed by itself.
+//! The shared memory in eight parts, each read and changed by itself.
+//!
+//! `Striped for StripedMemory`: parts united are the memory, by the cut of `memory_parts`.
 #![tactic(auto)]
 
 mod change;
@@ -12,3 +14,4 @@ mod unite;
 
 pub use part::{BlockPart, MemoryPart, QueuePart};
 pub use space::StripedMemory;
+pub use waiter_queues::SharedSpace;

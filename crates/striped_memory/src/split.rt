@@ -2,16 +2,16 @@
 
 ghost use Rattle.std.specs.Prelude.{◌≡◌, ℕ, ◌+◌, ◌*◌, ◌<◌, ◌≤◌, IfOk, length, box_value};
 ghost use Rattle.block_objects.specs.Objects.{block_bytes, blocks_in};
-ghost use Rattle.striped_objects.specs.Parts.{IsPart, AreParts};
+ghost use Rattle.shared_parts.specs.Parts.{IsPart, AreParts};
 ghost use Rattle.waiter_queues.specs.Shared.{queue_at, shared_values};
 ghost use Rattle.striped_memory.specs.MemoryParts.{memory_lane, memory_fixed, memory_held};
 
 use crate::look::{place_of, window};
 use crate::part::{BlockPart, MemoryPart, QueuePart};
 use block_objects::Blocks;
+use shared_parts::Eight;
 use std::alloc::Global;
 use std::boxed::Box;
-use striped_objects::Eight;
 use waiter_queues::Queues;
 use wasm_types::NoMemory;
 

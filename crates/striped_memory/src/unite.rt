@@ -3,7 +3,7 @@
 ghost use Rattle.std.specs.Prelude.{◌≡◌, ℕ, ◌*◌, ◌/◌, ◌%◌, ◌^◌, ◌<◌, ◌≤◌, IfOk, length, box_value};
 ghost use Rattle.block_objects.specs.Objects.{block_bytes, blocks_in};
 ghost use Rattle.wasm_types.specs.declared.sizes.TheConstants.{PAGE_SIZE};
-ghost use Rattle.striped_objects.specs.Parts.{AreParts, AreOfOne};
+ghost use Rattle.shared_parts.specs.Parts.{AreParts, AreOfOne};
 ghost use Rattle.memory_parts.specs.SharedCut.{shared_cut};
 ghost use Rattle.waiter_queues.specs.Shared.{queue_at, shared_values};
 ghost use Rattle.striped_memory.specs.declared.part.MemoryPart.TheVariants as parts;
@@ -13,9 +13,9 @@ ghost use Rattle.striped_memory.specs.MemoryParts.{memory_lane, memory_fixed, me
 use crate::look::{place_of, window};
 use crate::part::{BlockPart, MemoryPart, QueuePart};
 use block_objects::{Blocks, MemoryLimits};
+use shared_parts::Eight;
 use std::alloc::Global;
 use std::boxed::Box;
-use striped_objects::Eight;
 use waiter_queues::{Queue, Queues, SharedSpace};
 use wasm_types::{Block, NoMemory};
 

@@ -1,3 +1,4 @@
 pub mod Parts
 pub mod Integers
 pub mod Spelling
+pub mod Quotes

@@ -20,8 +20,8 @@ use Rattle.thread_plan.specs.Refusals.{Refusal, BadLine, NotShared, SegmentOutOf
 use Rattle.text_lines.specs.Parts.{words, lines}
 use Rattle.text_lines.specs.Integers.{bits_of}
 use Rattle.thread_plan.specs.Arguments.{value_of, both, values_of}
-use Rattle.wasm_instance.specs.Memories.{allows_threads}
-use Rattle.wasm_instance.specs.Segments.{segments_fit}
+use Rattle.wasm_types.specs.Memories.{allows_threads}
+use Rattle.wasm_types.specs.Segments.{segments_fit}
 use Rattle.thread_plan.specs.Threads.{form_of, values_by, thread_by, called, judged, thread_at}
 use Rattle.wasm_types.specs.Values.{type_of}
 use Rattle.thread_plan.specs.Plans.{PlanValue, and_then, threads_from, at_most_16, threads_of, threads_in, planned, plan_of, IsThreadOf, IsPlanOf, IsInRange}

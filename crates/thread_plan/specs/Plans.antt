@@ -10,8 +10,8 @@ use Rattle.wasm_types.specs.Values.{type_of}
 use Rattle.validator.specs.Context.{function_type}
 use Rattle.thread_plan.specs.declared.planned_thread.PlannedThread.{PlannedThread}
 use Rattle.text_lines.specs.Parts.{lines}
-use Rattle.wasm_instance.specs.Memories.{allows_threads}
-use Rattle.wasm_instance.specs.Segments.{segments_fit}
+use Rattle.wasm_types.specs.Memories.{allows_threads}
+use Rattle.wasm_types.specs.Segments.{segments_fit}
 use Rattle.thread_plan.specs.Threads.{thread_at}
 use Rattle.thread_plan.specs.Refusals.{Refusal, BadLine, NotShared, SegmentOutOfBounds}
 

@@ -1,4 +1,6 @@
-//! Plans of threads: the text by which a user says which exported functions run as threads, and with which arguments.
+//! Plans: the text by which a user says which exported functions run as threads, with which arguments.
+//!
+//! `Plan::read`: just the plan of the text for that module (`ok`, `suits`), or its first fault (`err`).
 #![tactic(auto)]
 
 mod argument;

@@ -12,8 +12,7 @@ use std::alloc::Global;
 use std::marker::Model;
 use text_lines::{Parts, SpacingFault, without_end};
 use validator::Valid;
-use wasm_instance::{fit_segments, may_share};
-use wasm_types::MOST_THREADS;
+use wasm_types::{MOST_THREADS, fit_segments, may_share};
 
 /// The first line of a plan.
 const FIRST_LINE: &[u8] = b"wreplay plan 1";

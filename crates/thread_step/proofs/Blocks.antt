@@ -10,7 +10,7 @@ use Rattle.wasm_types.specs.declared.instruction.BlockKind.TheVariants.{Block, L
 use Rattle.wasm_types.specs.declared.instruction.Plain.TheVariants.{Else, End}
 use Rattle.wasm_types.specs.declared.nesting.Enclosing.{Enclosing}
 use Rattle.wasm_types.specs.declared.nesting.Enclosing.TheVariants.{FirstArm, Whole}
-use Rattle.control_flow.specs.Targets.{end_from, else_from}
+use Rattle.validator.specs.Targets.{end_from, else_from}
 use Rattle.validator.specs.Context.{Context}
 use Rattle.validator.specs.Table.{Enters, class_of, seq}
 use Rattle.validator.specs.Walk.{Frame, Operand, walk, give, opened, known, with_stack, pop_all, may_turn, closed, step_by, at_frames}

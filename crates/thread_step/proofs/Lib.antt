@@ -9,3 +9,7 @@ mod Reaching
 pub mod Beginning
 pub mod Threads
 pub mod Few
+pub mod Acts
+pub mod Asking
+pub mod Machine
+pub mod Runs

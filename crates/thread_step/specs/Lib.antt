@@ -6,3 +6,4 @@ pub mod Fits
 pub mod Thread
 pub mod Opening
 pub mod ThreadFits
+pub mod ThreadCode

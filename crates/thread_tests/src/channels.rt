@@ -3,15 +3,13 @@
 use crate::programs::{COUNTER, Program};
 use crate::runs::gathered;
 use crossbeam_channel::{Receiver, Sender, bounded, unbounded};
-use log_pieces::Piece;
-use piece_channel::{SendFault, receive, send};
 use replica::{Replica, ReplicaFault, listing};
-use run_pieces::PiecesFault;
+use run_pieces::{Piece, PiecesFault};
 use std::alloc::Global;
 use std::sync::Wait;
 use std::test::Fail;
 use std::thread::{self, Threads};
-use wasm_record::Recording;
+use wasm_record::{Recording, SendFault, receive, send};
 use wasm_types::RunKey;
 
 /// Two threads of the counter, one after the other.

@@ -4,9 +4,8 @@ use crate::programs::{COUNTER, Program};
 use crate::runs::{recorded, replays};
 use std::process::Abort;
 use std::test::Fail;
-use wasm_record::Recording;
+use wasm_record::{Never, Recording};
 use wasm_types::{Outcome, Value};
-use workers::Never;
 
 /// Checks that the counter came to 4, and that the second values that the threads met are a pair that can be.
 fn check_end(abort: &impl Abort, recording: &Recording) {

@@ -2,9 +2,9 @@
 
 ghost use Rattle.std.specs.Prelude.{◌<◌};
 
-use shared_core::Hold;
 use std::sync::atomic::{AtomicBool, AtomicU64, Ordering};
 use std::{array, thread};
+use wasm_record::Hold;
 
 /// How often a thread asks whether another is inside. Where threads run one after the other, it goes on without.
 const MOST_TURNS: u32 = 200_000;

@@ -2,15 +2,13 @@
 
 use crate::programs::{LEAVING, Program};
 use crate::runs::replay_once;
-use shared_core::Hold;
 use std::alloc::Global;
 use std::process::Abort;
 use std::sync::Wait;
 use std::test::Fail;
 use std::thread::{self, Threads};
-use wasm_record::Recording;
+use wasm_record::{AtOnce, Hold, Recording};
 use wasm_types::{MOST_STEPS, Outcome, Value};
-use workers::AtOnce;
 
 /// Has the thread that wakes give up its turn before each call, so that it wakes few times in vain.
 #[derive(Clone, Copy, Drop)]

@@ -1,5 +1,6 @@
-//! Tests of recordings and replays by threads that really run at once. A crate with tests is proved twice, so they
-//! stand here, over what those crates offer.
+//! Tests of recordings and replays of modules by threads that really run at once.
+//!
+//! They stand here since a crate with tests is proved twice.
 #![tactic(auto)]
 
 #[cfg(test)]

@@ -1,8 +1,8 @@
 //! Where two threads meet.
 
-use shared_core::Hold;
 use std::sync::atomic::{AtomicBool, Ordering};
 use std::thread;
+use wasm_record::Hold;
 
 /// How often a thread asks whether the other has come.
 const MOST_TURNS: u32 = 1_000_000;

@@ -1,8 +1,8 @@
 //! The order in which threads make their calls.
 
-use shared_core::Hold;
 use std::sync::atomic::{AtomicBool, AtomicU64, Ordering};
 use std::{array, thread};
+use wasm_record::Hold;
 
 /// How often a thread asks whether its turn has come.
 const MOST_TURNS: u32 = 200_000;

@@ -3,16 +3,14 @@
 use crate::noting::Noting;
 use crate::programs::{COUNTER, Program};
 use crate::runs::gathered;
-use join_laws::Flat;
-use replica::Log;
+use replica::{Flat, Log};
 use rw_objects::{Entry, Found};
 use std::alloc::Global;
 use std::process::Abort;
 use std::sync::Wait;
 use std::test::Fail;
 use std::thread::Threads;
-use wasm_record::Recording;
-use workers::Never;
+use wasm_record::{Never, Recording};
 
 /// The events of two threads that add 1 to a counter twice.
 const EVENTS: [(u32, u32); 4] = [(0, 0), (0, 1), (1, 0), (1, 1)];

@@ -4,7 +4,6 @@ use binary_decoder::decode;
 use event_core::Ended;
 use pick_schedule::schedule;
 use replica::Log;
-use shared_core::Hold;
 use std::alloc::Global;
 use std::marker::Model;
 use std::sync::Wait;
@@ -13,10 +12,9 @@ use std::thread::Threads;
 use thread_plan::Plan;
 use threaded_replay::replay_threads;
 use validator::{Valid, validate};
-use wasm_record::{Recording, record_schedule, record_threads};
+use wasm_record::{Hold, Recording, Timer, record_schedule, record_threads};
 use wasm_replay::replay_gathered;
 use wasm_types::Block;
-use workers::Timer;
 
 /// A shared memory of one page, and a function `w` that adds 1 at address 0 twice and answers the second old value; two
 /// threads of it.

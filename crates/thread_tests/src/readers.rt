@@ -9,8 +9,7 @@ use std::process::Abort;
 use std::sync::Wait;
 use std::test::Fail;
 use std::thread::Threads;
-use wasm_record::Recording;
-use workers::Never;
+use wasm_record::{Never, Recording};
 
 /// Checks that two threads were inside at once.
 fn check(abort: &impl Abort, hold: &Meeting) {

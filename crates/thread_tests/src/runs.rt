@@ -2,19 +2,16 @@
 
 use crate::counting::Counting;
 use crate::programs::Program;
+use debug_views::report;
 use event_core::Ended;
-use join_laws::Flat;
-use log_pieces::Piece;
-use replica::{Log, Replica};
-use run_report::report;
-use shared_core::Unkept;
+use replica::{Flat, Log, Replica};
+use run_pieces::Piece;
 use std::alloc::Global;
 use std::process::Abort;
 use std::sync::Wait;
 use std::test::Fail;
 use std::thread::Threads;
-use wasm_record::Recording;
-use workers::Timer;
+use wasm_record::{Recording, Timer, Unkept};
 
 /// Delivers pieces.
 fn deliver(alloc: Global, replica: &mut Replica, pieces: &[Piece]) -> Result<(), Fail> {

@@ -1,15 +1,13 @@
 //! A thread that waits only once the other has woken.
 
 use crate::programs::{LIMITED, Program};
-use shared_core::Hold;
 use std::alloc::Global;
 use std::sync::Wait;
 use std::sync::atomic::{AtomicBool, Ordering};
 use std::test::Fail;
 use std::thread::{self, Threads};
-use wasm_record::Recording;
+use wasm_record::{AtOnce, Hold, Never, Recording, Timer};
 use wasm_types::{Outcome, Value};
-use workers::{AtOnce, Never, Timer};
 
 /// How often thread 0 asks whether thread 1 has woken.
 const MOST_TURNS: u32 = 1_000_000;

@@ -7,9 +7,8 @@ use std::process::Abort;
 use std::sync::Wait;
 use std::test::Fail;
 use std::thread::Threads;
-use wasm_record::Recording;
+use wasm_record::{AtOnce, Never, Recording, Timer};
 use wasm_types::{Outcome, Value};
-use workers::{AtOnce, Never, Timer};
 
 /// The outcome of a thread that answered this number.
 fn answered(number: u32) -> Outcome {

@@ -18,8 +18,7 @@ use crate::functions::{
 use crate::leaving::leave;
 use crate::operands::{cut, drop_top, i32_operand};
 use crate::stacks::{Label, Stacks};
-use control_flow::Targets;
-use validator::Valid;
+use validator::{Targets, Valid};
 use wasm_types::{BlockKind, Instr, LabelRange, ValType};
 
 /// Where a branch to a block goes on, whether the topmost word stays, and how many of the block's own labels stay.

@@ -1,4 +1,8 @@
-//! The steps of a thread on untyped words: one stack of words and one of labels for all of its functions.
+//! Steps of a thread on untyped words: one stack of words and one of labels for all of its functions.
+//!
+//! A function for each kind of instruction: it makes the definition's step of each typed thread for which the words
+//! stand (`ok`, `steps`), or all stays (`err`, `kept`). Those named `_apart` have words and place outside of the
+//! thread, and say when they make no move (`full`, `outermost`, `taken`, `reason`, `alone`).
 #![tactic(auto)]
 
 mod accesses;

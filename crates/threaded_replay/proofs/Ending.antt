@@ -6,9 +6,9 @@ use Rattle.wasm_types.specs.declared.modules.Module.{Module}
 use Rattle.block_objects.specs.SharedMemory.{shared_memory}
 use Rattle.block_objects.proofs.Laws.{memory_laws}
 use Rattle.event_core.specs.End.{RunEnd}
-use Rattle.thread_plan.specs.Plans.{PlanValue}
-use Rattle.thread_code.specs.ThreadCode.{thread_code}
-use Rattle.thread_code.proofs.Machine.{threads_are_machines}
+use Rattle.wasm_world.specs.Plans.{PlanValue}
+use Rattle.thread_step.specs.ThreadCode.{thread_code}
+use Rattle.thread_step.proofs.Machine.{threads_are_machines}
 use Rattle.replica.specs.declared.log.Log.{Log as GatheredLog}
 use Rattle.replica.specs.Log.{key_of}
 use Rattle.replay_laws.specs.Log.{Log}

@@ -1,1 +1,4 @@
 pub mod Ending
+pub mod Along
+pub mod Gating
+pub mod Pointing

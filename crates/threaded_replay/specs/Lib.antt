@@ -1,1 +1,3 @@
 pub mod Threaded
+pub mod Following
+pub mod Work

@@ -4,18 +4,18 @@ ghost use Rattle.std.specs.Prelude.{◌≡◌, ◌≤◌, ℕ, List, true, Some,
 ghost use Rattle.wasm_types.specs.declared.sizes.TheConstants.{MOST_THREADS};
 ghost use Rattle.block_objects.specs.SharedMemory.{shared_memory};
 ghost use Rattle.event_core.specs.Opening.{AllFresh, opening_world};
-ghost use Rattle.integer_machine.specs.Sound.{thread_of};
+ghost use Rattle.wasm_world.specs.Sound.{thread_of};
 ghost use Rattle.replay_gate.specs.Finished.{IsReplayEnd, IsReplayFault};
-ghost use Rattle.thread_code.specs.ThreadCode.{thread_code};
-ghost use Rattle.thread_plan.specs.Plans.{IsPlanOf};
+ghost use Rattle.thread_step.specs.ThreadCode.{thread_code};
+ghost use Rattle.wasm_world.specs.Plans.{IsPlanOf};
 ghost use Rattle.threaded_replay.specs.Threaded.{IsThreadsEnd, IsThreadsRefusal};
-ghost use Rattle.validator.specs.Valid.{fits_profile};
-ghost use Rattle.waiter_queues.specs.Shared.{shared_values};
+ghost use Rattle.wasm_world.specs.Valid.{fits_profile};
+ghost use Rattle.wasm_world.specs.Shared.{shared_values};
 ghost use Rattle.wasm_replay.specs.Replays.{EndsAsRecorded, HasWorld, IsOfRun, IsOrderedAnswer, gathered_log};
 ghost use Rattle.wasm_world.specs.Opening.{WasmWorld, opening_world_of};
 
+use crate::memory_replay::replay_memory;
 use event_core::Ended;
-use memory_replay::replay_memory;
 use replay_gate::Refused;
 use replica::Log;
 use shared_core::Hold;
@@ -23,13 +23,10 @@ use std::alloc::Global;
 use std::sync::Wait;
 use std::thread::Threads;
 use striped_memory::StripedMemory;
-use thread_plan::Plan;
-use validator::Valid;
-use waiter_queues::SharedSpace;
+use wasm_record::{StripedThread, striped_threads};
 use wasm_replay::{Gathered, Standing, Unreplayed, WasmReplayFault, opener_of};
-use wasm_threads::{StripedThread, striped_threads};
 use wasm_types::{NoMemory, Profile};
-use wasm_world::open_parts;
+use wasm_world::{Plan, SharedSpace, Valid, open_parts};
 
 /// What a replay by threads begins with: the threads of a plan before their first steps, over the memory of their
 /// module.

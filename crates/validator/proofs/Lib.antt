@@ -12,3 +12,4 @@ pub mod Names
 pub mod Ruled
 pub mod EndLaws
 pub mod Small
+mod Scans

@@ -11,7 +11,7 @@ use Rattle.validator.specs.Walk.{Frame, with_stack, made_unreachable, opened, po
 
 use Rattle.wasm_types.specs.declared.nesting.Nesting.{Nesting}
 use Rattle.wasm_types.specs.Nesting.{nesting_of}
-use Rattle.control_flow.specs.Targets.{end_from, end_by, else_from, else_by}
+use Rattle.validator.specs.Targets.{end_from, end_by, else_from, else_by}
 use Rattle.validator.specs.Reach.{Deep, DeepIf, ReachesEnd, ReachesElse, LeavesNothing}
 use Rattle.validator.proofs.ClassNesting.{nests, nesting_class}
 use Rattle.validator.proofs.Sound.{there, allowed, both_true}

@@ -9,8 +9,8 @@ use Rattle.std.proofs.Math.Seq.{take-suc}
 use Rattle.wasm_types.specs.declared.modules.Module.{Module}
 use Rattle.wasm_types.specs.declared.modules.FuncType.{FuncType}
 use Rattle.wasm_types.specs.declared.modules.Body.{Body}
-use Rattle.control_flow.specs.declared.targets.Target.{Target}
-use Rattle.control_flow.specs.Targets.{targets_from}
+use Rattle.validator.specs.declared.targets.Target.{Target}
+use Rattle.validator.specs.Targets.{targets_from}
 use Rattle.validator.specs.declared.fault.CheckFault.{CheckFault}
 use Rattle.validator.specs.declared.fault.CheckFault.TheVariants.{IllTyped, NoMemory}
 use Rattle.validator.specs.Context.{context_of, function_type, type_by}

@@ -10,15 +10,15 @@ use Rattle.wasm_types.specs.declared.value.ValType.TheVariants.{I32}
 use Rattle.wasm_types.specs.declared.nesting.Enclosing.{Enclosing}
 use Rattle.wasm_types.specs.declared.nesting.Enclosing.TheVariants.{FirstArm, Whole}
 use Rattle.validator.specs.declared.stacks.OpenBlock.{OpenBlock}
-use Rattle.validator.specs.declared.stacks.Stacks.{Stacks}
+use Rattle.validator.specs.declared.stacks.TypeStacks.{TypeStacks}
 use Rattle.validator.specs.Table.{Fixed, Discards, Selects, Leaves, Enters, Turning, Ending, seq}
 use Rattle.validator.specs.Walk.{Operand, Frame, with_stack, made_unreachable, opened, then_if, only, pop_one, pop_all, pop_any, meet, known, closed, give, may_end, may_turn, both, select_by, step_by, labels_of}
 use Rattle.validator.specs.Standing.{flat, Shape, shape_of, shape, shapes, Stands, Stand, IsInnermost, Pops, PopsAny, TakesResult}
 
-abbrev pub Inner : Stacks → Option OpenBlock → Type 0
+abbrev pub Inner : TypeStacks → Option OpenBlock → Type 0
 Inner s r = (fs : List Frame) → Stand fs s → IsInnermost r fs
 
-pub no_innermost : (s : Stacks) (r : Option OpenBlock) (f : Frame) (fs : List Frame) → Inner s r → r ≡ None → Stand (f ∷ fs) s → ⊥
+pub no_innermost : (s : TypeStacks) (r : Option OpenBlock) (f : Frame) (fs : List Frame) → Inner s r → r ≡ None → Stand (f ∷ fs) s → ⊥
 no_innermost s r f fs k e st = subst (λ x. IsInnermost x (f ∷ fs)) e (k (f ∷ fs) st)
 
 -- the innermost block and the first frame agree
@@ -29,7 +29,7 @@ record Agrees (b : OpenBlock) (f : Frame) (fs : List Frame) : Type 0 where
   height : length (flat fs) ≡ b.height
   unreachable : b.unreachable ≡ f.unreachable
 
-agreed : (s : Stacks) (r : Option OpenBlock) (b : OpenBlock) (f : Frame) (fs : List Frame) → Inner s r → r ≡ Some b → Stand (f ∷ fs) s → Agrees b f fs
+agreed : (s : TypeStacks) (r : Option OpenBlock) (b : OpenBlock) (f : Frame) (fs : List Frame) → Inner s r → r ≡ Some b → Stand (f ∷ fs) s → Agrees b f fs
 agreed s r b f fs k e st =
     let q : shape_of b ≡ shape f (length (flat fs)) = subst (λ x. IsInnermost x (f ∷ fs)) e (k (f ∷ fs) st) in
     record {
@@ -77,7 +77,7 @@ set_shapes old new block s t ss e k q =
 put_on : (ts : List ValType) (left below new mid : List Operand) → reverse new ≡ known ts ++ reverse mid → reverse mid ≡ left ++ below → reverse new ≡ (known ts ++ left) ++ below
 put_on ts left below new mid e q = e ∙ ap (λ x. known ts ++ x) q ∙ sym (append_assoc (known ts) left below)
 
-pub fixed_goes : (takes gives : List ValType) (s : Stacks) (r : Option OpenBlock) (b : OpenBlock) (mid new : List Operand) (got : Bool) → Inner s r → r ≡ Some b
+pub fixed_goes : (takes gives : List ValType) (s : TypeStacks) (r : Option OpenBlock) (b : OpenBlock) (mid new : List Operand) (got : Bool) → Inner s r → r ≡ Some b
     → Pops (pop_all b.unreachable (reverse takes)) b.height got s.operands.items mid → got ≡ true → reverse new ≡ known (reverse gives) ++ reverse mid
     → (f : Frame) (fs : List Frame) → Stand (f ∷ fs) s → (gs : List Frame) × (step_by (Fixed takes gives) f fs ≡ Some gs) × Stands gs new s.blocks.items
 fixed_goes takes gives s r b mid new got k e p g put f fs st =
@@ -88,13 +88,13 @@ fixed_goes takes gives s r b mid new got k e p g put f fs st =
     )
 
 -- what can't be popped stops each instruction that takes it
-pub takes_stop : {Y : Type 0} (takes : List ValType) (later : Frame → List Frame → List Operand → Option Y) (s : Stacks) (r : Option OpenBlock) (b : OpenBlock) (mid : List Operand) (got : Bool) → Inner s r → r ≡ Some b
+pub takes_stop : {Y : Type 0} (takes : List ValType) (later : Frame → List Frame → List Operand → Option Y) (s : TypeStacks) (r : Option OpenBlock) (b : OpenBlock) (mid : List Operand) (got : Bool) → Inner s r → r ≡ Some b
     → Pops (pop_all b.unreachable (reverse takes)) b.height got s.operands.items mid → got ≡ false
     → (f : Frame) (fs : List Frame) → Stand (f ∷ fs) s → then_if (pop_all f.unreachable (reverse takes) f.stack) (later f fs) ≡ None
 takes_stop takes later s r b mid got k e p g f fs st =
     ap (λ o. then_if o (later f fs)) (unpopped (λ u. pop_all u (reverse takes)) b f fs s.operands.items mid got (agreed s r b f fs k e st) st.operands_are p g)
 
-pub leave_goes : (takes : List ValType) (s : Stacks) (r : Option OpenBlock) (b block : OpenBlock) (mid new : List Operand) (blocks : List OpenBlock) (got : Bool) → Inner s r → r ≡ Some b
+pub leave_goes : (takes : List ValType) (s : TypeStacks) (r : Option OpenBlock) (b block : OpenBlock) (mid new : List Operand) (blocks : List OpenBlock) (got : Bool) → Inner s r → r ≡ Some b
     → Pops (pop_all b.unreachable (reverse takes)) b.height got s.operands.items mid → got ≡ true → new ≡ take b.height mid
     → ((front : List OpenBlock) (last : OpenBlock) → s.blocks.items ≡ front ++ last ∷ [] → blocks ≡ front ++ block ∷ [])
     → block ≡ record { enclosing = b.enclosing; label = b.label; result = b.result; height = b.height; unreachable = true }
@@ -115,7 +115,7 @@ leave_goes takes s r b block mid new blocks got k e p g cut set is f fs st =
         → ◌≡◌ {A = Shape} (record { enclosing = x; label = l; result = t; height = n; unreachable = true }) (record { enclosing = y; label = m; result = u; height = o; unreachable = true })
     same ex el et en = cc
 
-pub enter_goes : (takes : List ValType) (enclosing : Enclosing) (label leaves : Option ValType) (s : Stacks) (r : Option OpenBlock) (b block : OpenBlock) (mid : List Operand) (blocks : List OpenBlock) (got : Bool) → Inner s r → r ≡ Some b
+pub enter_goes : (takes : List ValType) (enclosing : Enclosing) (label leaves : Option ValType) (s : TypeStacks) (r : Option OpenBlock) (b block : OpenBlock) (mid : List Operand) (blocks : List OpenBlock) (got : Bool) → Inner s r → r ≡ Some b
     → Pops (pop_all b.unreachable (reverse takes)) b.height got s.operands.items mid → got ≡ true → blocks ≡ s.blocks.items ++ block ∷ []
     → block ≡ record { enclosing = enclosing; label = label; result = leaves; height = length mid; unreachable = false }
     → (f : Frame) (fs : List Frame) → Stand (f ∷ fs) s → (gs : List Frame) × (step_by (Enters takes enclosing (seq label) (seq leaves)) f fs ≡ Some gs) × Stands gs mid blocks
@@ -140,7 +140,7 @@ closed_there b f fs old mid got a e p =
     let r = p f.stack (flat fs) e a.height in
     (subst (λ x. closed (pop_all x f.result f.stack) ≡ got) a.unreachable (subst (λ x. closed (pop_all b.unreachable x f.stack) ≡ got) a.result r.0), r.1)
 
-pub turn_goes : (s : Stacks) (r : Option OpenBlock) (b block : OpenBlock) (mid : List Operand) (blocks : List OpenBlock) (got : Bool) → Inner s r → r ≡ Some b → b.enclosing ≡ FirstArm
+pub turn_goes : (s : TypeStacks) (r : Option OpenBlock) (b block : OpenBlock) (mid : List Operand) (blocks : List OpenBlock) (got : Bool) → Inner s r → r ≡ Some b → b.enclosing ≡ FirstArm
     → TakesResult b got s.operands.items mid → got ≡ true
     → ((front : List OpenBlock) (last : OpenBlock) → s.blocks.items ≡ front ++ last ∷ [] → blocks ≡ front ++ block ∷ [])
     → block ≡ record { enclosing = Whole; label = b.label; result = b.result; height = b.height; unreachable = false }
@@ -159,7 +159,7 @@ turn_goes s r b block mid blocks got k e en p g set is f fs st =
         → ◌≡◌ {A = Shape} (record { enclosing = Whole; label = l; result = t; height = n; unreachable = false }) (record { enclosing = Whole; label = m; result = u; height = o; unreachable = false })
     same el et en = cc
 
-pub turn_in_whole : (s : Stacks) (r : Option OpenBlock) (b : OpenBlock) → Inner s r → r ≡ Some b → b.enclosing ≡ Whole → (f : Frame) (fs : List Frame) → Stand (f ∷ fs) s → step_by Turning f fs ≡ None
+pub turn_in_whole : (s : TypeStacks) (r : Option OpenBlock) (b : OpenBlock) → Inner s r → r ≡ Some b → b.enclosing ≡ Whole → (f : Frame) (fs : List Frame) → Stand (f ∷ fs) s → step_by Turning f fs ≡ None
 turn_in_whole s r b k e en f fs st =
     let a = agreed s r b f fs k e st in
     ap (λ x. only (both (may_turn x) (closed (pop_all f.unreachable f.result f.stack))) (opened Whole f.label f.result ∷ fs)) (sym a.enclosing ∙ en)
@@ -168,7 +168,7 @@ both_false : (a : Bool) → both a false ≡ false
 both_false true = refl
 both_false false = refl
 
-pub not_closed : {Y : Type 0} (may : Frame → Bool) (y : Frame → List Frame → Y) (s : Stacks) (r : Option OpenBlock) (b : OpenBlock) (mid : List Operand) (got : Bool) → Inner s r → r ≡ Some b
+pub not_closed : {Y : Type 0} (may : Frame → Bool) (y : Frame → List Frame → Y) (s : TypeStacks) (r : Option OpenBlock) (b : OpenBlock) (mid : List Operand) (got : Bool) → Inner s r → r ≡ Some b
     → TakesResult b got s.operands.items mid → got ≡ false
     → (f : Frame) (fs : List Frame) → Stand (f ∷ fs) s → only (both (may f) (closed (pop_all f.unreachable f.result f.stack))) (y f fs) ≡ None
 not_closed may y s r b mid got k e p g f fs st =
@@ -178,7 +178,7 @@ not_closed may y s r b mid got k e p g f fs st =
 may_end_there : (b : OpenBlock) (f : Frame) (fs : List Frame) (may : Bool) → Agrees b f fs → may ≡ may_end b.enclosing (seq b.result) → may_end f.enclosing f.result ≡ may
 may_end_there b f fs may a m = sym (m ∙ ap (λ x. may_end x (seq b.result)) a.enclosing ∙ ap (may_end f.enclosing) a.result)
 
-pub may_not_end : (s : Stacks) (r : Option OpenBlock) (b : OpenBlock) (may : Bool) → Inner s r → r ≡ Some b → may ≡ may_end b.enclosing (seq b.result) → may ≡ false
+pub may_not_end : (s : TypeStacks) (r : Option OpenBlock) (b : OpenBlock) (may : Bool) → Inner s r → r ≡ Some b → may ≡ may_end b.enclosing (seq b.result) → may ≡ false
     → (f : Frame) (fs : List Frame) → Stand (f ∷ fs) s → step_by Ending f fs ≡ None
 may_not_end s r b may k e m g f fs st =
     ap (λ x. only (both x (closed (pop_all f.unreachable f.result f.stack))) (give f.result fs)) (may_end_there b f fs may (agreed s r b f fs k e st) m ∙ g)
@@ -191,10 +191,10 @@ popped_blocks old new s ss e p =
     let q : new ≡ reverse l.0 = p ∙ ap (λ x. take x old) n ∙ ap (take (length (reverse l.0))) l.2 ∙ take-append_seam (reverse l.0) (l.1 ∷ []) in
     ap (λ x. map shape_of (reverse x)) q ∙ ap (map shape_of) (reverse-reverse l.0) ∙ l.3
 
-abbrev pub Ended : Stacks → Option OpenBlock → OpenBlock → Bool → Bool → List Operand → List OpenBlock → Type 0
+abbrev pub Ended : TypeStacks → Option OpenBlock → OpenBlock → Bool → Bool → List Operand → List OpenBlock → Type 0
 Ended s r b may got mid blocks = Inner s r × (r ≡ Some b) × (may ≡ may_end b.enclosing (seq b.result)) × (may ≡ true) × TakesResult b got s.operands.items mid × (got ≡ true) × (blocks ≡ take (length s.blocks.items - 1) s.blocks.items)
 
-end_steps : (s : Stacks) (r : Option OpenBlock) (b : OpenBlock) (may got : Bool) (mid : List Operand) (blocks : List OpenBlock) → Ended s r b may got mid blocks → (f : Frame) (fs : List Frame) → Stand (f ∷ fs) s
+end_steps : (s : TypeStacks) (r : Option OpenBlock) (b : OpenBlock) (may got : Bool) (mid : List Operand) (blocks : List OpenBlock) → Ended s r b may got mid blocks → (f : Frame) (fs : List Frame) → Stand (f ∷ fs) s
     → (step_by Ending f fs ≡ Some (give f.result fs)) × (reverse mid ≡ flat fs) × (map shape_of (reverse blocks) ≡ shapes fs) × (seq b.result ≡ f.result)
 end_steps s r b may got mid blocks k f fs st =
     let a = agreed s r b f fs k.0 k.1 st in
@@ -207,7 +207,7 @@ end_steps s r b may got mid blocks k f fs st =
     )
 
 -- no block is left
-pub end_of_all : (s : Stacks) (r : Option OpenBlock) (b : OpenBlock) (may got : Bool) (mid : List Operand) (blocks : List OpenBlock) → Ended s r b may got mid blocks → length blocks ≡ 0
+pub end_of_all : (s : TypeStacks) (r : Option OpenBlock) (b : OpenBlock) (may got : Bool) (mid : List Operand) (blocks : List OpenBlock) → Ended s r b may got mid blocks → length blocks ≡ 0
     → (f : Frame) (fs : List Frame) → Stand (f ∷ fs) s → (gs : List Frame) × (step_by Ending f fs ≡ Some gs) × Stands gs mid blocks
 end_of_all s r b may got mid blocks k z f fs st = by fs (end_steps s r b may got mid blocks k f fs st)
   where
@@ -221,7 +221,7 @@ end_of_all s r b may got mid blocks k z f fs st = by fs (end_steps s r b may got
         some_left (b ∷ bs) z e = absurd (omega arith)
 
 -- a block is left, which gets the result
-pub end_of_one : (s : Stacks) (r : Option OpenBlock) (b : OpenBlock) (may got : Bool) (mid new : List Operand) (blocks : List OpenBlock) → Ended s r b may got mid blocks → (length blocks ≡ 0 → ⊥)
+pub end_of_one : (s : TypeStacks) (r : Option OpenBlock) (b : OpenBlock) (may got : Bool) (mid new : List Operand) (blocks : List OpenBlock) → Ended s r b may got mid blocks → (length blocks ≡ 0 → ⊥)
     → reverse new ≡ known (seq b.result) ++ reverse mid
     → (f : Frame) (fs : List Frame) → Stand (f ∷ fs) s → (gs : List Frame) × (step_by Ending f fs ≡ Some gs) × Stands gs new blocks
 end_of_one s r b may got mid new blocks k z put f fs st = by fs (end_steps s r b may got mid blocks k f fs st)
@@ -259,43 +259,43 @@ any_none : (b : OpenBlock) (f : Frame) (fs : List Frame) (os old mid : List Oper
     → pop_any f.unreachable os ≡ None
 any_none b f fs os old mid popped a e p q = any_there b f fs os old mid None a e (subst (λ x. PopsAny b.unreachable b.height x old mid) q p)
 
-pub discard_goes : (s : Stacks) (r : Option OpenBlock) (b : OpenBlock) (mid : List Operand) (popped : Option Operand) (o : Operand) → Inner s r → r ≡ Some b → PopsAny b.unreachable b.height popped s.operands.items mid → popped ≡ Some o
+pub discard_goes : (s : TypeStacks) (r : Option OpenBlock) (b : OpenBlock) (mid : List Operand) (popped : Option Operand) (o : Operand) → Inner s r → r ≡ Some b → PopsAny b.unreachable b.height popped s.operands.items mid → popped ≡ Some o
     → (f : Frame) (fs : List Frame) → Stand (f ∷ fs) s → (gs : List Frame) × (step_by Discards f fs ≡ Some gs) × Stands gs mid s.blocks.items
 discard_goes s r b mid popped o k e p q f fs st =
     let d = any_some b f fs f.stack s.operands.items mid popped o (agreed s r b f fs k e st) st.operands_are p q in
     (with_stack d.0 f ∷ fs, ap (λ x. then_if x (λ y. Some (with_stack y.1 f ∷ fs))) d.1, record { operands_are = d.2; blocks_are = st.blocks_are })
 
-pub discard_stops : (s : Stacks) (r : Option OpenBlock) (b : OpenBlock) (mid : List Operand) (popped : Option Operand) → Inner s r → r ≡ Some b → PopsAny b.unreachable b.height popped s.operands.items mid → popped ≡ None
+pub discard_stops : (s : TypeStacks) (r : Option OpenBlock) (b : OpenBlock) (mid : List Operand) (popped : Option Operand) → Inner s r → r ≡ Some b → PopsAny b.unreachable b.height popped s.operands.items mid → popped ≡ None
     → (f : Frame) (fs : List Frame) → Stand (f ∷ fs) s → step_by Discards f fs ≡ None
 discard_stops s r b mid popped k e p q f fs st =
     ap (λ x. then_if x (λ y. Some (with_stack y.1 f ∷ fs))) (any_none b f fs f.stack s.operands.items mid popped (agreed s r b f fs k e st) st.operands_are p q)
 
 -- what `select` has taken
-abbrev pub Tested : Stacks → Option OpenBlock → OpenBlock → Bool → List Operand → Type 0
+abbrev pub Tested : TypeStacks → Option OpenBlock → OpenBlock → Bool → List Operand → Type 0
 Tested s r b got one = Inner s r × (r ≡ Some b) × Pops (pop_one b.unreachable I32) b.height got s.operands.items one × (got ≡ true)
 
 abbrev select_from : Frame → List Frame → Option (List Operand) → Option (List Frame)
 select_from f fs o = then_if o (λ left. Some (with_stack left f ∷ fs))
 
-tested : (s : Stacks) (r : Option OpenBlock) (b : OpenBlock) (got : Bool) (one : List Operand) → Tested s r b got one → (f : Frame) (fs : List Frame) → Stand (f ∷ fs) s
+tested : (s : TypeStacks) (r : Option OpenBlock) (b : OpenBlock) (got : Bool) (one : List Operand) → Tested s r b got one → (f : Frame) (fs : List Frame) → Stand (f ∷ fs) s
     → (os : List Operand) × (step_by Selects f fs ≡ select_from f fs (select_by f.unreachable os)) × (reverse one ≡ os ++ flat fs) × Agrees b f fs
 tested s r b got one t f fs st =
     let a = agreed s r b f fs t.0 t.1 st in
     let p = popped (λ u. pop_one u I32) b f fs s.operands.items one got a st.operands_are t.2 t.3 in
     (p.0, ap (λ x. then_if x (λ os. select_from f fs (select_by f.unreachable os))) p.1, p.2, a)
 
-pub select_untested : (s : Stacks) (r : Option OpenBlock) (b : OpenBlock) (got : Bool) (one : List Operand) → Inner s r → r ≡ Some b → Pops (pop_one b.unreachable I32) b.height got s.operands.items one → got ≡ false
+pub select_untested : (s : TypeStacks) (r : Option OpenBlock) (b : OpenBlock) (got : Bool) (one : List Operand) → Inner s r → r ≡ Some b → Pops (pop_one b.unreachable I32) b.height got s.operands.items one → got ≡ false
     → (f : Frame) (fs : List Frame) → Stand (f ∷ fs) s → step_by Selects f fs ≡ None
 select_untested s r b got one k e p g f fs st =
     ap (λ x. then_if x (λ os. select_from f fs (select_by f.unreachable os))) (unpopped (λ u. pop_one u I32) b f fs s.operands.items one got (agreed s r b f fs k e st) st.operands_are p g)
 
-pub select_without_second : (s : Stacks) (r : Option OpenBlock) (b : OpenBlock) (got : Bool) (one two : List Operand) (second : Option Operand) → Tested s r b got one → PopsAny b.unreachable b.height second one two → second ≡ None
+pub select_without_second : (s : TypeStacks) (r : Option OpenBlock) (b : OpenBlock) (got : Bool) (one two : List Operand) (second : Option Operand) → Tested s r b got one → PopsAny b.unreachable b.height second one two → second ≡ None
     → (f : Frame) (fs : List Frame) → Stand (f ∷ fs) s → step_by Selects f fs ≡ None
 select_without_second s r b got one two second t p q f fs st =
     let d = tested s r b got one t f fs st in
     d.1 ∙ ap (λ x. select_from f fs (then_if x (λ p. then_if (pop_any f.unreachable p.1) (λ q. then_if (meet p.0 q.0) (λ o. Some (o ∷ q.1)))))) (any_none b f fs d.0 one two second d.3 d.2 p q)
 
-pub select_without_first : (s : Stacks) (r : Option OpenBlock) (b : OpenBlock) (got : Bool) (one two three : List Operand) (second first : Option Operand) (o : Operand) → Tested s r b got one
+pub select_without_first : (s : TypeStacks) (r : Option OpenBlock) (b : OpenBlock) (got : Bool) (one two three : List Operand) (second first : Option Operand) (o : Operand) → Tested s r b got one
     → PopsAny b.unreachable b.height second one two → second ≡ Some o → PopsAny b.unreachable b.height first two three → first ≡ None
     → (f : Frame) (fs : List Frame) → Stand (f ∷ fs) s → step_by Selects f fs ≡ None
 select_without_first s r b got one two three second first o t p q p2 q2 f fs st =
@@ -304,7 +304,7 @@ select_without_first s r b got one two three second first o t p q p2 q2 f fs st 
     d.1 ∙ ap (λ x. select_from f fs (then_if x (λ p. then_if (pop_any f.unreachable p.1) (λ q. then_if (meet p.0 q.0) (λ o. Some (o ∷ q.1)))))) x.1
     ∙ ap (λ x. select_from f fs (then_if x (λ q. then_if (meet o q.0) (λ o. Some (o ∷ q.1))))) (any_none b f fs x.0 two three first d.3 x.2 p2 q2)
 
-pub select_of_two : (s : Stacks) (r : Option OpenBlock) (b : OpenBlock) (got : Bool) (one two three : List Operand) (second first met : Option Operand) (o v : Operand) → Tested s r b got one
+pub select_of_two : (s : TypeStacks) (r : Option OpenBlock) (b : OpenBlock) (got : Bool) (one two three : List Operand) (second first met : Option Operand) (o v : Operand) → Tested s r b got one
     → PopsAny b.unreachable b.height second one two → second ≡ Some o → PopsAny b.unreachable b.height first two three → first ≡ Some v → met ≡ meet o v → met ≡ None
     → (f : Frame) (fs : List Frame) → Stand (f ∷ fs) s → step_by Selects f fs ≡ None
 select_of_two s r b got one two three second first met o v t p q p2 q2 m n f fs st =
@@ -315,7 +315,7 @@ select_of_two s r b got one two three second first met o v t p q p2 q2 m n f fs 
     ∙ ap (λ x. select_from f fs (then_if x (λ q. then_if (meet o q.0) (λ o. Some (o ∷ q.1))))) y.1
     ∙ ap (λ x. select_from f fs (then_if x (λ o. Some (o ∷ y.0)))) (sym m ∙ n)
 
-pub select_goes : (s : Stacks) (r : Option OpenBlock) (b : OpenBlock) (got : Bool) (one two three new : List Operand) (second first met : Option Operand) (o v w : Operand) → Tested s r b got one
+pub select_goes : (s : TypeStacks) (r : Option OpenBlock) (b : OpenBlock) (got : Bool) (one two three new : List Operand) (second first met : Option Operand) (o v w : Operand) → Tested s r b got one
     → PopsAny b.unreachable b.height second one two → second ≡ Some o → PopsAny b.unreachable b.height first two three → first ≡ Some v → met ≡ meet o v → met ≡ Some w → new ≡ three ++ w ∷ []
     → (f : Frame) (fs : List Frame) → Stand (f ∷ fs) s → (gs : List Frame) × (step_by Selects f fs ≡ Some gs) × Stands gs new s.blocks.items
 select_goes s r b got one two three new second first met o v w t p q p2 q2 m n put f fs st =
@@ -338,10 +338,10 @@ map_labels : (bs : List OpenBlock) → map (λ (x : Shape). x.label) (map shape_
 map_labels [] = refl
 map_labels (b ∷ bs) = ap (λ x. seq b.label ∷ x) (map_labels bs)
 
-labels_are : (s : Stacks) (fs : List Frame) → Stand fs s → map (λ (b : OpenBlock). seq b.label) (reverse s.blocks.items) ≡ labels_of fs
+labels_are : (s : TypeStacks) (fs : List Frame) → Stand fs s → map (λ (b : OpenBlock). seq b.label) (reverse s.blocks.items) ≡ labels_of fs
 labels_are s fs st = sym (map_labels (reverse s.blocks.items)) ∙ ap (map (λ (x : Shape). x.label)) st.blocks_are ∙ labels_shapes fs
 
-pub label_there : (s : Stacks) (l n : ℕ) (b d : OpenBlock) → l < n → n ≡ length s.blocks.items → b ≡ get_or s.blocks.items (n - 1 - l) d
+pub label_there : (s : TypeStacks) (l n : ℕ) (b d : OpenBlock) → l < n → n ≡ length s.blocks.items → b ≡ get_or s.blocks.items (n - 1 - l) d
     → (fs : List Frame) → Stand fs s → Some (seq b.label) ≡ slice_get (labels_of fs) l
 label_there s l n b d h is_n e fs st =
     let bs = s.blocks.items in
@@ -351,7 +351,7 @@ label_there s l n b d h is_n e fs st =
     sym (ap (λ x. slice_get x l) (sym (labels_are s fs st)) ∙ slice_get-map (λ (b : OpenBlock). seq b.label) (reverse bs) l
     ∙ ap (option_map (λ (b : OpenBlock). seq b.label)) (slice_get-get_or (reverse bs) l d m) ∙ ap (λ x. Some (seq x.label)) g)
 
-pub no_label : (s : Stacks) (l : ℕ) → length s.blocks.items ≤ l → (fs : List Frame) → Stand fs s → None ≡ slice_get (labels_of fs) l
+pub no_label : (s : TypeStacks) (l : ℕ) → length s.blocks.items ≤ l → (fs : List Frame) → Stand fs s → None ≡ slice_get (labels_of fs) l
 no_label s l h fs st =
     let bs = s.blocks.items in
     let n : length (reverse bs) ≤ l = omega (arith, length-reverse bs) in

@@ -5,7 +5,7 @@ use Rattle.std.proofs.lemmas.List.{take-append-drop}
 use Rattle.std.proofs.lemmas.Option.{slice_get_past, slice_get-get_or}
 use Rattle.std.proofs.Math.Seq.{take-suc}
 use Rattle.wasm_types.specs.declared.instruction.Instr.{Instr}
-use Rattle.validator.specs.declared.stacks.Stacks.{Stacks}
+use Rattle.validator.specs.declared.stacks.TypeStacks.{TypeStacks}
 use Rattle.validator.specs.Context.{Context}
 use Rattle.validator.specs.Table.{class_of}
 use Rattle.validator.specs.Walk.{Frame, then_if, start, step, walk, Checked, at_frames}
@@ -13,7 +13,7 @@ use Rattle.validator.specs.Faults.{CannotGoOn, FirstFault}
 use Rattle.validator.specs.Standing.{Stand, Goes, Stops, no_frame}
 
 -- the check has come to this place, and the stacks have its frames
-abbrev pub Reached : Context → List Instr → ℕ → Stacks → Type 0
+abbrev pub Reached : Context → List Instr → ℕ → TypeStacks → Type 0
 Reached c code at s = (fs : List Frame) × (walk c (take at code) (start c) ≡ Some fs) × Stand fs s
 
 walk_append : (c : Context) (is js : List Instr) (fs : List Frame) → walk c (is ++ js) fs ≡ then_if (walk c is fs) (walk c js)
@@ -36,7 +36,7 @@ walk_next : (c : Context) (code : List Instr) (at : ℕ) (d : Instr) (s fs : Lis
 walk_next c code at d s fs l h =
     ap (λ x. walk c x s) (take-suc code at d l) ∙ walk_append c (take at code) (get_or code at d ∷ []) s ∙ ap (λ o. then_if o (walk c (get_or code at d ∷ []))) h ∙ walk_one c (get_or code at d) fs
 
-pub reached_on : (c : Context) (code : List Instr) (at next : ℕ) (d : Instr) (s t : Stacks) → at < length code → next ≡ suc at → Reached c code at s → ((fs : List Frame) → Stand fs s → false ≡ no_frame fs)
+pub reached_on : (c : Context) (code : List Instr) (at next : ℕ) (d : Instr) (s t : TypeStacks) → at < length code → next ≡ suc at → Reached c code at s → ((fs : List Frame) → Stand fs s → false ≡ no_frame fs)
     → Goes (λ fs. class_of (at_frames c fs) (get_or code at d)) s t → Reached c code next t
 reached_on c code at next d s t l n r open_blocks g = subst (λ m. Reached c code m t) (sym n) (by r.0 r.1 r.2)
   where
@@ -46,7 +46,7 @@ reached_on c code at next d s t l n r open_blocks g = subst (λ m. Reached c cod
         let k = g f fs st in
         (k.0, walk_next c code at d (start c) (f ∷ fs) l h ∙ k.1, k.2)
 
-pub fault_here : (c : Context) (code : List Instr) (at : ℕ) (d : Instr) (s : Stacks) → at < length code → Reached c code at s → ((fs : List Frame) → Stand fs s → false ≡ no_frame fs)
+pub fault_here : (c : Context) (code : List Instr) (at : ℕ) (d : Instr) (s : TypeStacks) → at < length code → Reached c code at s → ((fs : List Frame) → Stand fs s → false ≡ no_frame fs)
     → Stops (λ fs. class_of (at_frames c fs) (get_or code at d)) s → FirstFault c code at
 fault_here c code at d s l r open_blocks g = by r.0 r.1 r.2
   where
@@ -54,7 +54,7 @@ fault_here c code at d s l r open_blocks g = by r.0 r.1 r.2
     by [] h st = let q = open_blocks [] st in cc
     by (f ∷ fs) h st = (f ∷ fs, h, subst (λ o. CannotGoOn c o (f ∷ fs)) (sym (slice_get-get_or code at d l)) (g f fs st))
 
-pub fault_at_end : (c : Context) (code : List Instr) (at place : ℕ) (s : Stacks) → length code ≤ at → at ≤ length code → place ≡ length code → Reached c code at s → ((fs : List Frame) → Stand fs s → false ≡ no_frame fs) → FirstFault c code place
+pub fault_at_end : (c : Context) (code : List Instr) (at place : ℕ) (s : TypeStacks) → length code ≤ at → at ≤ length code → place ≡ length code → Reached c code at s → ((fs : List Frame) → Stand fs s → false ≡ no_frame fs) → FirstFault c code place
 fault_at_end c code at place s l m p r open_blocks =
     let e : at ≡ place = omega arith in
     (r.0, subst (λ n. walk c (take n code) (start c) ≡ Some r.0) e r.1, subst (λ o. CannotGoOn c o r.0) (sym (slice_get_past code place (omega arith))) (λ z. some r.0 z (open_blocks r.0 r.2)))
@@ -87,12 +87,12 @@ fault_refutes c code at f k = by (drop at code) refl
         let q : None ≡ Some [] = sym (ap (λ x. walk c x f.0) e ∙ ap (λ o. then_if o (walk c rest)) stuck) ∙ sym parts ∙ k in
         cc
 
-pub reached_on_slice : (c : Context) (code slice : List Instr) (at : ℕ) (d : Instr) (s t : Stacks) (closed : Bool) → slice ≡ code → at < length slice → Reached c code at s → ((fs : List Frame) → Stand fs s → closed ≡ no_frame fs) → closed ≡ false
+pub reached_on_slice : (c : Context) (code slice : List Instr) (at : ℕ) (d : Instr) (s t : TypeStacks) (closed : Bool) → slice ≡ code → at < length slice → Reached c code at s → ((fs : List Frame) → Stand fs s → closed ≡ no_frame fs) → closed ≡ false
     → Goes (λ fs. class_of (at_frames c fs) (get_or slice at d)) s t → Reached c code (at + 1) t
 reached_on_slice c code slice at d s t closed e l r k o g =
     reached_on c code at (at + 1) d s t (subst (λ x. at < length x) e l) (omega arith) r (λ fs st. sym o ∙ k fs st) (subst (λ x. Goes (λ fs. class_of (at_frames c fs) (get_or x at d)) s t) e g)
 
-pub fault_in_slice : (c : Context) (code slice : List Instr) (at : ℕ) (d : Instr) (s : Stacks) (closed : Bool) → slice ≡ code → at < length slice → Reached c code at s → ((fs : List Frame) → Stand fs s → closed ≡ no_frame fs) → closed ≡ false
+pub fault_in_slice : (c : Context) (code slice : List Instr) (at : ℕ) (d : Instr) (s : TypeStacks) (closed : Bool) → slice ≡ code → at < length slice → Reached c code at s → ((fs : List Frame) → Stand fs s → closed ≡ no_frame fs) → closed ≡ false
     → Stops (λ fs. class_of (at_frames c fs) (get_or slice at d)) s → FirstFault c code at
 fault_in_slice c code slice at d s closed e l r k o g =
     fault_here c code at d s (subst (λ x. at < length x) e l) r (λ fs st. sym o ∙ k fs st) (subst (λ x. Stops (λ fs. class_of (at_frames c fs) (get_or x at d)) s) e g)

@@ -3,15 +3,15 @@ use Rattle.std.specs.Prelude.{◌≡◌, ℕ, List, [], Option, Some, None, slic
 use Rattle.wasm_types.specs.declared.instruction.Instr.{Instr}
 use Rattle.std.specs.declared.result.Result.{Result}
 use Rattle.std.specs.declared.result.Result.TheVariants.{Ok, Err}
-use Rattle.validator.specs.declared.fault.StepFault.{StepFault}
-use Rattle.validator.specs.declared.fault.StepFault.TheVariants as step_fault
+use Rattle.validator.specs.declared.fault.InstructionFault.{InstructionFault}
+use Rattle.validator.specs.declared.fault.InstructionFault.TheVariants as step_fault
 use Rattle.validator.specs.declared.fault.CheckFault.{CheckFault}
 use Rattle.validator.specs.declared.fault.CheckFault.TheVariants.{IllTyped, NoMemory}
 use Rattle.validator.specs.Context.{Context}
 use Rattle.validator.specs.Walk.{Frame, start, step, walk}
 
 -- the instruction is not typed, from whatever cause
-abbrev pub IsIllTyped : {X : Type 0} → Result X StepFault → Type 0
+abbrev pub IsIllTyped : {X : Type 0} → Result X InstructionFault → Type 0
 IsIllTyped (Ok x) = ⊥
 IsIllTyped (Err (step_fault.IllTyped cause)) = Unit {0}
 IsIllTyped (Err step_fault.NoMemory) = ⊥

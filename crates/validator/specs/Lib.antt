@@ -9,3 +9,5 @@ pub mod Module
 pub mod Exports
 pub mod Valid
 pub mod Ends
+pub mod Targets
+pub mod Scan

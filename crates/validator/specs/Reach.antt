@@ -3,7 +3,7 @@ use Rattle.std.specs.Prelude.{◌≡◌, ℕ, zero, suc, ◌+◌, ◌<◌, List,
 use Rattle.wasm_types.specs.declared.value.ValType.{ValType}
 use Rattle.wasm_types.specs.declared.instruction.Instr.{Instr}
 use Rattle.wasm_types.specs.declared.nesting.Enclosing.TheVariants.{FirstArm, Whole}
-use Rattle.control_flow.specs.Targets.{end_from, else_from}
+use Rattle.validator.specs.Targets.{end_from, else_from}
 use Rattle.validator.specs.Context.{Context}
 use Rattle.validator.specs.Walk.{Frame, walk, give, opened}
 

@@ -4,7 +4,7 @@ use Rattle.wasm_types.specs.declared.value.ValType.{ValType}
 use Rattle.wasm_types.specs.declared.nesting.Enclosing.{Enclosing}
 use Rattle.validator.specs.declared.stacks.Next.{Next}
 use Rattle.validator.specs.declared.stacks.OpenBlock.{OpenBlock}
-use Rattle.validator.specs.declared.stacks.Stacks.{Stacks}
+use Rattle.validator.specs.declared.stacks.TypeStacks.{TypeStacks}
 use Rattle.validator.specs.Table.{Class, seq}
 use Rattle.validator.specs.Walk.{Operand, Frame, step_by, pop_any, pop_all, closed}
 
@@ -36,7 +36,7 @@ pub record Stands (fs : List Frame) (operands : List Operand) (blocks : List Ope
   pub operands_are : reverse operands ≡ flat fs
   pub blocks_are : map shape_of (reverse blocks) ≡ shapes fs
 
-abbrev pub Stand : List Frame → Stacks → Type 0
+abbrev pub Stand : List Frame → TypeStacks → Type 0
 Stand fs s = Stands fs s.operands.items s.blocks.items
 
 abbrev pub no_frame : List Frame → Bool
@@ -76,9 +76,9 @@ TakesResult b done old new = (os below : List Operand) → reverse old ≡ os ++
     → (closed (pop_all b.unreachable (seq b.result) os) ≡ done) × (done ≡ true → reverse new ≡ below)
 
 -- an instruction of a class leads from the frames of the old stacks to those of the new
-abbrev pub Goes : (List Frame → Class) → Stacks → Stacks → Type 0
+abbrev pub Goes : (List Frame → Class) → TypeStacks → TypeStacks → Type 0
 Goes class old new = (f : Frame) (fs : List Frame) → Stand (f ∷ fs) old → (gs : List Frame) × (step_by (class (f ∷ fs)) f fs ≡ Some gs) × Stand gs new
 
 -- an instruction of a class suits no frames of the stacks
-abbrev pub Stops : (List Frame → Class) → Stacks → Type 0
+abbrev pub Stops : (List Frame → Class) → TypeStacks → Type 0
 Stops class old = (f : Frame) (fs : List Frame) → Stand (f ∷ fs) old → step_by (class (f ∷ fs)) f fs ≡ None

@@ -12,8 +12,8 @@ use Rattle.wasm_types.specs.declared.instruction.Instr.TheVariants as instr
 use Rattle.wasm_types.specs.declared.instruction.Numeric.TheVariants as numeric
 use Rattle.wasm_types.specs.declared.key.Profile.{Profile}
 use Rattle.wasm_types.specs.declared.key.Profile.TheVariants.{One, Two}
-use Rattle.control_flow.specs.declared.targets.Target.{Target}
-use Rattle.control_flow.specs.Targets.{targets_from}
+use Rattle.validator.specs.declared.targets.Target.{Target}
+use Rattle.validator.specs.Targets.{targets_from}
 use Rattle.validator.specs.declared.fault.ValidFault.{ValidFault}
 use Rattle.validator.specs.declared.fault.ValidFault.TheVariants.{Invalid, NoMemory}
 use Rattle.validator.specs.declared.fault.CheckFault.{CheckFault}

@@ -1,7 +1,7 @@
 //! Why a module is refused.
 
 ghost use Rattle.std.specs.Prelude.{◌≡◌};
-ghost use Rattle.validator.specs.declared.fault.StepFault.TheVariants.{NoMemory};
+ghost use Rattle.validator.specs.declared.fault.InstructionFault.TheVariants.{NoMemory};
 
 use crate::module_cause::ModuleCause;
 use crate::step_cause::StepCause;
@@ -96,7 +96,7 @@ impl<T: Drop> From<AllocFailed<T>> for ValidFault {
 
 /// Why an instruction can't be typed.
 #[derive(Clone, Copy, Debug, PartialEq, Eq)]
-pub(crate) enum StepFault {
+pub(crate) enum InstructionFault {
     /// No rule takes the instruction on.
     IllTyped(StepCause),
     /// A growth was refused.
@@ -122,26 +122,26 @@ impl From<NoMemory> for CheckFault {
     }
 }
 
-impl From<NoMemory> for StepFault {
+impl From<NoMemory> for InstructionFault {
     ghost from_gives = { λ _ fault. fault ≡ NoMemory };
 
-    fn from(_error: NoMemory) -> StepFault {
-        StepFault::NoMemory
+    fn from(_error: NoMemory) -> InstructionFault {
+        InstructionFault::NoMemory
     }
 }
 
-impl From<AllocError> for StepFault {
+impl From<AllocError> for InstructionFault {
     ghost from_gives = { λ _ fault. fault ≡ NoMemory };
 
-    fn from(_error: AllocError) -> StepFault {
-        StepFault::NoMemory
+    fn from(_error: AllocError) -> InstructionFault {
+        InstructionFault::NoMemory
     }
 }
 
-impl<T: Drop> From<AllocFailed<T>> for StepFault {
+impl<T: Drop> From<AllocFailed<T>> for InstructionFault {
     ghost from_gives = { λ _ fault. fault ≡ NoMemory };
 
-    fn from(_error: AllocFailed<T>) -> StepFault {
-        StepFault::NoMemory
+    fn from(_error: AllocFailed<T>) -> InstructionFault {
+        InstructionFault::NoMemory
     }
 }

@@ -6,16 +6,16 @@ ghost use Rattle.validator.specs.Table.{seq};
 ghost use Rattle.validator.specs.Walk.{Checked};
 ghost use Rattle.validator.specs.Faults.{FaultOf};
 
-use crate::fault::{CheckFault, StepFault, ValidCause};
+use crate::fault::{CheckFault, InstructionFault, ValidCause};
 use crate::instruction::step;
 use crate::locals::note_ends;
-use crate::stacks::Stacks;
+use crate::stacks::TypeStacks;
 use crate::step_cause::StepCause;
 use wasm_types::{Body, FuncType, Module, ValType};
 
 /// Types a function's instructions from left to right. What stood in the stacks and the ends is given up.
 pub(crate) fn check_function(
-    stacks: &mut Stacks,
+    stacks: &mut TypeStacks,
     ends: &mut Vec<u64>,
     module: &Module,
     kind: &FuncType,
@@ -38,11 +38,11 @@ pub(crate) fn check_function(
         }
         match step(stacks, module, kind, body, ends, code[at]) {
             Ok(()) => {}
-            Err(StepFault::IllTyped(cause)) => {
+            Err(InstructionFault::IllTyped(cause)) => {
                 let cause = ValidCause::Instruction(code[at], cause);
                 return Err(CheckFault::IllTyped(at as u32, cause));
             }
-            Err(StepFault::NoMemory) => return Err(CheckFault::NoMemory),
+            Err(InstructionFault::NoMemory) => return Err(CheckFault::NoMemory),
         }
     }
     if !stacks.is_closed() {

@@ -9,10 +9,10 @@ ghost use Rattle.validator.specs.Walk.{at_frames, labels_of};
 ghost use Rattle.validator.specs.Standing.{Goes, Stops};
 ghost use Rattle.validator.specs.Faults.{IsIllTyped};
 
-use crate::fault::StepFault;
+use crate::fault::InstructionFault;
 use crate::labels::{labels_of_range, other_label};
 use crate::locals::{local_type, no_local};
-use crate::stacks::Stacks;
+use crate::stacks::TypeStacks;
 use crate::step_cause::{Named, StepCause};
 use crate::table::{is_memory_there, no_function, type_of_function};
 use wasm_types::{
@@ -22,13 +22,13 @@ use wasm_types::{
 
 /// Types the next instruction of a function, whose groups of locals have these ends.
 pub(crate) fn step(
-    stacks: &mut Stacks,
+    stacks: &mut TypeStacks,
     module: &Module,
     kind: &FuncType,
     body: &Body,
     ends: &[u64],
     instr: Instr,
-) -> Result<(), StepFault>
+) -> Result<(), InstructionFault>
     requires { ends.now ≡ ends_from 0 body.now.locals }
     ensures goes { OnOk result (Goes (λ fs. class_of (at_frames (context_of module.now kind.now body.now) fs) instr) stacks.old stacks.new) }
     ensures stops { IsIllTyped result → Stops (λ fs. class_of (at_frames (context_of module.now kind.now body.now) fs) instr) stacks.old }
@@ -51,12 +51,12 @@ pub(crate) fn step(
 }
 
 fn step_plain(
-    stacks: &mut Stacks,
+    stacks: &mut TypeStacks,
     module: &Module,
     kind: &FuncType,
     body: &Body,
     plain: Plain,
-) -> Result<(), StepFault>
+) -> Result<(), InstructionFault>
     ensures goes { OnOk result (Goes (λ fs. plain_class (at_frames (context_of module.now kind.now body.now) fs) plain) stacks.old stacks.new) }
     ensures stops { IsIllTyped result → Stops (λ fs. plain_class (at_frames (context_of module.now kind.now body.now) fs) plain) stacks.old }
 {
@@ -71,7 +71,7 @@ fn step_plain(
     }
 }
 
-fn step_numeric(stacks: &mut Stacks, numeric: Numeric) -> Result<(), StepFault>
+fn step_numeric(stacks: &mut TypeStacks, numeric: Numeric) -> Result<(), InstructionFault>
     ensures goes { OnOk result (Goes (λ _. numeric_class numeric) stacks.old stacks.new) }
     ensures stops { IsIllTyped result → Stops (λ _. numeric_class numeric) stacks.old }
 {
@@ -90,10 +90,10 @@ fn step_numeric(stacks: &mut Stacks, numeric: Numeric) -> Result<(), StepFault>
 }
 
 fn step_block(
-    stacks: &mut Stacks,
+    stacks: &mut TypeStacks,
     block: BlockKind,
     leaves: Option<ValType>,
-) -> Result<(), StepFault>
+) -> Result<(), InstructionFault>
     ensures goes { OnOk result (Goes (λ _. block_class block (seq leaves)) stacks.old stacks.new) }
     ensures stops { IsIllTyped result → Stops (λ _. block_class block (seq leaves)) stacks.old }
 {
@@ -106,14 +106,14 @@ fn step_block(
 }
 
 fn step_index(
-    stacks: &mut Stacks,
+    stacks: &mut TypeStacks,
     module: &Module,
     kind: &FuncType,
     body: &Body,
     ends: &[u64],
     op: IndexOp,
     index: u32,
-) -> Result<(), StepFault>
+) -> Result<(), InstructionFault>
     requires { ends.now ≡ ends_from 0 body.now.locals }
     ensures goes { OnOk result (Goes (λ fs. index_class (at_frames (context_of module.now kind.now body.now) fs) op index) stacks.old stacks.new) }
     ensures stops { IsIllTyped result → Stops (λ fs. index_class (at_frames (context_of module.now kind.now body.now) fs) op index) stacks.old }
@@ -142,7 +142,7 @@ fn step_index(
             None => Err(no_global(module, index)),
             Some(global) => {
                 if !global.mutable {
-                    return Err(StepFault::IllTyped(StepCause::Immutable(index)));
+                    return Err(InstructionFault::IllTyped(StepCause::Immutable(index)));
                 }
                 stacks.fixed(&[global.val_type], &[])
             }
@@ -152,8 +152,8 @@ fn step_index(
 
 // The fault of a global that is not there.
 #[cold]
-fn no_global(module: &Module, index: u32) -> StepFault {
-    StepFault::IllTyped(StepCause::Missing {
+fn no_global(module: &Module, index: u32) -> InstructionFault {
+    InstructionFault::IllTyped(StepCause::Missing {
         what: Named::Global,
         index,
         count: module.globals.as_slice().len(),
@@ -162,8 +162,8 @@ fn no_global(module: &Module, index: u32) -> StepFault {
 
 // The fault of a type that is not there.
 #[cold]
-fn no_type(module: &Module, index: u32) -> StepFault {
-    StepFault::IllTyped(StepCause::Missing {
+fn no_type(module: &Module, index: u32) -> InstructionFault {
+    InstructionFault::IllTyped(StepCause::Missing {
         what: Named::Type,
         index,
         count: module.types.as_slice().len(),
@@ -172,11 +172,11 @@ fn no_type(module: &Module, index: u32) -> StepFault {
 
 // The fault of an alignment above that of the width.
 #[cold]
-fn misaligned(exponent: u32, most: u32) -> StepFault {
-    StepFault::IllTyped(StepCause::Alignment { exponent, most })
+fn misaligned(exponent: u32, most: u32) -> InstructionFault {
+    InstructionFault::IllTyped(StepCause::Alignment { exponent, most })
 }
 
-fn step_branch(stacks: &mut Stacks, label: u32) -> Result<(), StepFault>
+fn step_branch(stacks: &mut TypeStacks, label: u32) -> Result<(), InstructionFault>
     ensures goes { OnOk result (Goes (λ fs. if_some (slice_get (labels_of fs) label) (λ takes. Leaves takes)) stacks.old stacks.new) }
     ensures stops { IsIllTyped result → Stops (λ fs. if_some (slice_get (labels_of fs) label) (λ takes. Leaves takes)) stacks.old }
 {
@@ -186,7 +186,7 @@ fn step_branch(stacks: &mut Stacks, label: u32) -> Result<(), StepFault>
     stacks.branch(target.label)
 }
 
-fn step_branch_if(stacks: &mut Stacks, label: u32) -> Result<(), StepFault>
+fn step_branch_if(stacks: &mut TypeStacks, label: u32) -> Result<(), InstructionFault>
     ensures goes { OnOk result (Goes (λ fs. if_some (slice_get (labels_of fs) label) (λ takes. Fixed (takes ++ I32 ∷ []) takes)) stacks.old stacks.new) }
     ensures stops { IsIllTyped result → Stops (λ fs. if_some (slice_get (labels_of fs) label) (λ takes. Fixed (takes ++ I32 ∷ []) takes)) stacks.old }
 {
@@ -197,29 +197,33 @@ fn step_branch_if(stacks: &mut Stacks, label: u32) -> Result<(), StepFault>
 }
 
 fn step_table(
-    stacks: &mut Stacks,
+    stacks: &mut TypeStacks,
     module: &Module,
     kind: &FuncType,
     body: &Body,
     range: LabelRange,
     default: u32,
-) -> Result<(), StepFault>
+) -> Result<(), InstructionFault>
     ensures goes { OnOk result (Goes (λ fs. table_class (at_frames (context_of module.now kind.now body.now) fs) (labels_in body.now.labels range) default) stacks.old stacks.new) }
     ensures stops { IsIllTyped result → Stops (λ fs. table_class (at_frames (context_of module.now kind.now body.now) fs) (labels_in body.now.labels range) default) stacks.old }
 {
     let Some(labels) = labels_of_range(body.labels.as_slice(), range) else {
-        return Err(StepFault::IllTyped(StepCause::TableRange));
+        return Err(InstructionFault::IllTyped(StepCause::TableRange));
     };
     let Some(target) = stacks.block_at(default) else {
         return Err(stacks.no_label(default));
     };
     if let Some(label) = other_label(stacks, target.label, labels) {
-        return Err(StepFault::IllTyped(StepCause::TableLabel { label, default }));
+        return Err(InstructionFault::IllTyped(StepCause::TableLabel { label, default }));
     }
     stacks.branch_by_index(target.label)
 }
 
-fn step_call(stacks: &mut Stacks, module: &Module, function: u32) -> Result<(), StepFault>
+fn step_call(
+    stacks: &mut TypeStacks,
+    module: &Module,
+    function: u32,
+) -> Result<(), InstructionFault>
     ensures goes { OnOk result (Goes (λ _. if_some (function_type module.now function) (λ kind. Fixed kind.params kind.results)) stacks.old stacks.new) }
     ensures stops { IsIllTyped result → Stops (λ _. if_some (function_type module.now function) (λ kind. Fixed kind.params kind.results)) stacks.old }
 {
@@ -230,12 +234,16 @@ fn step_call(stacks: &mut Stacks, module: &Module, function: u32) -> Result<(), 
 }
 
 // The index of the table's element is above the parameters.
-fn step_call_indirect(stacks: &mut Stacks, module: &Module, index: u32) -> Result<(), StepFault>
+fn step_call_indirect(
+    stacks: &mut TypeStacks,
+    module: &Module,
+    index: u32,
+) -> Result<(), InstructionFault>
     ensures goes { OnOk result (Goes (λ _. if_true (has_table module.now) (if_some (slice_get module.now.types index) (λ kind. Fixed (kind.params ++ I32 ∷ []) kind.results))) stacks.old stacks.new) }
     ensures stops { IsIllTyped result → Stops (λ _. if_true (has_table module.now) (if_some (slice_get module.now.types index) (λ kind. Fixed (kind.params ++ I32 ∷ []) kind.results))) stacks.old }
 {
     if module.tables.as_slice().is_empty() {
-        return Err(StepFault::IllTyped(StepCause::NoTable));
+        return Err(InstructionFault::IllTyped(StepCause::NoTable));
     }
     let Some(callee) = module.types.as_slice().get(index as usize) else {
         return Err(no_type(module, index));
@@ -248,16 +256,16 @@ fn step_call_indirect(stacks: &mut Stacks, module: &Module, index: u32) -> Resul
 }
 
 fn step_memory(
-    stacks: &mut Stacks,
+    stacks: &mut TypeStacks,
     module: &Module,
     op: MemoryOp,
     argument: MemArg,
-) -> Result<(), StepFault>
+) -> Result<(), InstructionFault>
     ensures goes { OnOk result (Goes (λ _. if_true (has_memory module.now) (memory_class op argument.align)) stacks.old stacks.new) }
     ensures stops { IsIllTyped result → Stops (λ _. if_true (has_memory module.now) (memory_class op argument.align)) stacks.old }
 {
     if !is_memory_there(module) {
-        return Err(StepFault::IllTyped(StepCause::NoMemory));
+        return Err(InstructionFault::IllTyped(StepCause::NoMemory));
     }
     match op {
         MemoryOp::Load(load) => {
@@ -278,12 +286,12 @@ fn step_memory(
     }
 }
 
-fn step_pages(stacks: &mut Stacks, module: &Module, op: PagesOp) -> Result<(), StepFault>
+fn step_pages(stacks: &mut TypeStacks, module: &Module, op: PagesOp) -> Result<(), InstructionFault>
     ensures goes { OnOk result (Goes (λ _. if_true (has_memory module.now) (pages_class op)) stacks.old stacks.new) }
     ensures stops { IsIllTyped result → Stops (λ _. if_true (has_memory module.now) (pages_class op)) stacks.old }
 {
     if !is_memory_there(module) {
-        return Err(StepFault::IllTyped(StepCause::NoMemory));
+        return Err(InstructionFault::IllTyped(StepCause::NoMemory));
     }
     match op {
         PagesOp::Size => stacks.fixed(&[], &[ValType::I32]),
@@ -292,20 +300,20 @@ fn step_pages(stacks: &mut Stacks, module: &Module, op: PagesOp) -> Result<(), S
 }
 
 fn step_atomic(
-    stacks: &mut Stacks,
+    stacks: &mut TypeStacks,
     module: &Module,
     op: AtomicOp,
     argument: MemArg,
-) -> Result<(), StepFault>
+) -> Result<(), InstructionFault>
     ensures goes { OnOk result (Goes (λ _. if_true (has_memory module.now) (atomic_class op argument.align)) stacks.old stacks.new) }
     ensures stops { IsIllTyped result → Stops (λ _. if_true (has_memory module.now) (atomic_class op argument.align)) stacks.old }
 {
     if !is_memory_there(module) {
-        return Err(StepFault::IllTyped(StepCause::NoMemory));
+        return Err(InstructionFault::IllTyped(StepCause::NoMemory));
     }
     let width = op.width().exponent();
     if argument.align != width {
-        return Err(StepFault::IllTyped(StepCause::AtomicAlignment {
+        return Err(InstructionFault::IllTyped(StepCause::AtomicAlignment {
             exponent: argument.align,
             width,
         }));
@@ -313,7 +321,7 @@ fn step_atomic(
     step_aligned(stacks, op)
 }
 
-fn step_aligned(stacks: &mut Stacks, op: AtomicOp) -> Result<(), StepFault>
+fn step_aligned(stacks: &mut TypeStacks, op: AtomicOp) -> Result<(), InstructionFault>
     ensures goes { OnOk result (Goes (λ _. atomic_operands op) stacks.old stacks.new) }
     ensures stops { IsIllTyped result → Stops (λ _. atomic_operands op) stacks.old }
 {

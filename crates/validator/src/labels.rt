@@ -6,7 +6,7 @@ ghost use Rattle.validator.specs.Table.{all_take, takes_these, seq};
 ghost use Rattle.validator.specs.Walk.{Frame, labels_of};
 ghost use Rattle.validator.specs.Standing.{Stand};
 
-use crate::stacks::{OpenBlock, Stacks};
+use crate::stacks::{OpenBlock, TypeStacks};
 use wasm_types::{LabelRange, ValType};
 
 // The labels of a branch table, where its range is within the function's.
@@ -23,7 +23,11 @@ pub(crate) fn labels_of_range(labels: &[u32], range: LabelRange) -> Option<&[u32
 }
 
 // The first label that is not there or does not take what is named.
-pub(crate) fn other_label(stacks: &Stacks, takes: Option<ValType>, labels: &[u32]) -> Option<u32>
+pub(crate) fn other_label(
+    stacks: &TypeStacks,
+    takes: Option<ValType>,
+    labels: &[u32],
+) -> Option<u32>
     ensures { (fs : List Frame) → Stand fs stacks.now → is_none result ≡ all_take (labels_of fs) (seq takes) labels.now }
 {
     for label in labels {

@@ -1,4 +1,8 @@
-//! Types a module: a yes says that each function is well typed, so that its run lacks no operand and no target.
+//! Types a module, and keeps what its run needs: exports, targets of blocks, groups of instructions.
+//!
+//! `validate`: the module is well typed and within the limits (`same`, `typed`, `within`), or it is not, and where is
+//! the first place of the fault (`refuses`); the check and the typing rules agree (`checked_is_typed`,
+//! `typed_is_checked`). `Targets::new` and `TargetFinder::find`: the targets, None just where blocks do not nest.
 #![tactic(auto)]
 
 mod exports;
@@ -16,6 +20,7 @@ mod rules;
 mod stacks;
 mod step_cause;
 mod table;
+mod targets;
 mod valid;
 
 pub use fault::{ValidCause, ValidFault};
@@ -25,4 +30,5 @@ pub use laws::{
 };
 pub use module_cause::ModuleCause;
 pub use step_cause::{Named, Needs, Operand, Row, StepCause};
+pub use targets::{Target, TargetFinder, Targets};
 pub use valid::{Valid, validate};

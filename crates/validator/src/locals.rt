@@ -5,7 +5,7 @@ ghost use Rattle.std.specs.List.Sorted.{IsNonDecreasing};
 ghost use Rattle.wasm_types.specs.Locals.{locals_of};
 ghost use Rattle.validator.specs.Ends.{ends_from};
 
-use crate::fault::StepFault;
+use crate::fault::InstructionFault;
 use crate::step_cause::{Named, StepCause};
 use wasm_types::{Body, FuncType, LocalGroup, NoMemory, ValType};
 
@@ -38,9 +38,9 @@ pub(crate) fn local_type(kind: &FuncType, body: &Body, ends: &[u64], local: u32)
 
 /// The fault of a local that is not there.
 #[cold]
-pub(crate) fn no_local(kind: &FuncType, ends: &[u64], index: u32) -> StepFault {
+pub(crate) fn no_local(kind: &FuncType, ends: &[u64], index: u32) -> InstructionFault {
     let grouped = ends.last().copied().unwrap_or(0);
-    StepFault::IllTyped(StepCause::Missing {
+    InstructionFault::IllTyped(StepCause::Missing {
         what: Named::Local,
         index,
         count: kind

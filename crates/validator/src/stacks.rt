@@ -8,7 +8,7 @@ ghost use Rattle.validator.specs.Walk.{Frame, agrees, meet, pop_one, pop_all, kn
 ghost use Rattle.validator.specs.Standing.{Stand, Pops, PopsTo, PopsAny, PopsAnyTo, TakesResult, IsInnermost, Goes, Stops, no_frame};
 ghost use Rattle.validator.specs.Faults.{IsIllTyped};
 
-use crate::fault::StepFault;
+use crate::fault::InstructionFault;
 use crate::step_cause::{Needs, Operand, Row, StepCause};
 use std::alloc::{AllocError, Global};
 use wasm_types::{Enclosing, NoMemory, ValType};
@@ -28,7 +28,7 @@ pub(crate) struct OpenBlock {
 
 /// The operands of all open blocks, None for any type, and the blocks, the innermost last.
 #[derive(Debug, Drop)]
-pub(crate) struct Stacks {
+pub(crate) struct TypeStacks {
     pub(crate) operands: Vec<Option<ValType>>,
     pub(crate) blocks: Vec<OpenBlock>,
 }
@@ -190,10 +190,10 @@ fn put_all(operands: &mut Vec<Option<ValType>>, gives: &[ValType]) -> Result<(),
     Ok(())
 }
 
-impl Stacks {
+impl TypeStacks {
     /// Empty stacks. They take no memory.
-    pub(crate) fn new(alloc: Global) -> Stacks {
-        Stacks {
+    pub(crate) fn new(alloc: Global) -> TypeStacks {
+        TypeStacks {
             operands: Vec::new(alloc),
             blocks: Vec::new(alloc),
         }
@@ -236,8 +236,8 @@ impl Stacks {
 
     /// The fault of a label that is not there.
     #[cold]
-    pub(crate) fn no_label(&self, label: u32) -> StepFault {
-        StepFault::IllTyped(StepCause::Label {
+    pub(crate) fn no_label(&self, label: u32) -> InstructionFault {
+        InstructionFault::IllTyped(StepCause::Label {
             label,
             open: self.blocks.len(),
         })
@@ -245,22 +245,26 @@ impl Stacks {
 
     // The fault of an instruction that needs other operands than the block has.
     #[cold]
-    fn lack(&self, block: OpenBlock, needs: Needs) -> StepFault {
+    fn lack(&self, block: OpenBlock, needs: Needs) -> InstructionFault {
         let all = self.operands.as_slice();
         let (_, within) = all.split_at(block.height.min(all.len()));
-        StepFault::IllTyped(StepCause::Operands {
+        InstructionFault::IllTyped(StepCause::Operands {
             needs,
             finds: Row::of_operands(within),
         })
     }
 
     /// An instruction that takes and leaves operands of these types, the last one on top.
-    pub(crate) fn fixed(&mut self, takes: &[ValType], gives: &[ValType]) -> Result<(), StepFault>
+    pub(crate) fn fixed(
+        &mut self,
+        takes: &[ValType],
+        gives: &[ValType],
+    ) -> Result<(), InstructionFault>
         ensures goes { OnOk result (Goes (λ _. Fixed takes.now gives.now) self.old self.new) }
         ensures stops { IsIllTyped result → Stops (λ _. Fixed takes.now gives.now) self.old }
     {
         let Some(block) = self.innermost() else {
-            return Err(StepFault::IllTyped(StepCause::BehindEnd))
+            return Err(InstructionFault::IllTyped(StepCause::BehindEnd))
         };
         if !take_all(&mut self.operands, block, takes) {
             return Err(self.lack(block, Needs::Upper(Row::of_types(takes, None))));
@@ -275,12 +279,12 @@ impl Stacks {
         above: ValType,
         takes: &[ValType],
         gives: &[ValType],
-    ) -> Result<(), StepFault>
+    ) -> Result<(), InstructionFault>
         ensures goes { OnOk result (Goes (λ _. Fixed (takes.now ++ above ∷ []) gives.now) self.old self.new) }
         ensures stops { IsIllTyped result → Stops (λ _. Fixed (takes.now ++ above ∷ []) gives.now) self.old }
     {
         let Some(block) = self.innermost() else {
-            return Err(StepFault::IllTyped(StepCause::BehindEnd))
+            return Err(InstructionFault::IllTyped(StepCause::BehindEnd))
         };
         if !take_above(&mut self.operands, block, above, takes) {
             return Err(self.lack(block, Needs::Upper(Row::of_types(takes, Some(above)))));
@@ -297,12 +301,12 @@ impl Stacks {
     }
 
     /// `drop`.
-    pub(crate) fn discard(&mut self) -> Result<(), StepFault>
+    pub(crate) fn discard(&mut self) -> Result<(), InstructionFault>
         ensures goes { OnOk result (Goes (λ _. Discards) self.old self.new) }
         ensures stops { IsIllTyped result → Stops (λ _. Discards) self.old }
     {
         let Some(block) = self.innermost() else {
-            return Err(StepFault::IllTyped(StepCause::BehindEnd))
+            return Err(InstructionFault::IllTyped(StepCause::BehindEnd))
         };
         match take_any(&mut self.operands, block) {
             None => Err(self.lack(block, Needs::One)),
@@ -311,12 +315,12 @@ impl Stacks {
     }
 
     /// `select`.
-    pub(crate) fn select(&mut self) -> Result<(), StepFault>
+    pub(crate) fn select(&mut self) -> Result<(), InstructionFault>
         ensures goes { OnOk result (Goes (λ _. Selects) self.old self.new) }
         ensures stops { IsIllTyped result → Stops (λ _. Selects) self.old }
     {
         let Some(block) = self.innermost() else {
-            return Err(StepFault::IllTyped(StepCause::BehindEnd))
+            return Err(InstructionFault::IllTyped(StepCause::BehindEnd))
         };
         let all = self.operands.as_slice();
         let Some(under) = below_one(all, block, all.len(), ValType::I32) else {
@@ -337,12 +341,12 @@ impl Stacks {
     }
 
     /// An instruction that takes operands of these types and whatever is below them, and that isn't left downwards.
-    pub(crate) fn leave(&mut self, takes: &[ValType]) -> Result<(), StepFault>
+    pub(crate) fn leave(&mut self, takes: &[ValType]) -> Result<(), InstructionFault>
         ensures goes { OnOk result (Goes (λ _. Leaves takes.now) self.old self.new) }
         ensures stops { IsIllTyped result → Stops (λ _. Leaves takes.now) self.old }
     {
         let Some(block) = self.innermost() else {
-            return Err(StepFault::IllTyped(StepCause::BehindEnd))
+            return Err(InstructionFault::IllTyped(StepCause::BehindEnd))
         };
         if !take_all(&mut self.operands, block, takes) {
             return Err(self.lack(block, Needs::Upper(Row::of_types(takes, None))));
@@ -359,7 +363,7 @@ impl Stacks {
     }
 
     /// A branch to a label that takes this.
-    pub(crate) fn branch(&mut self, label: Option<ValType>) -> Result<(), StepFault>
+    pub(crate) fn branch(&mut self, label: Option<ValType>) -> Result<(), InstructionFault>
         ensures goes { OnOk result (Goes (λ _. Leaves (seq label)) self.old self.new) }
         ensures stops { IsIllTyped result → Stops (λ _. Leaves (seq label)) self.old }
     {
@@ -370,7 +374,7 @@ impl Stacks {
     }
 
     /// A branch to a label that takes this, where the operand on top says so.
-    pub(crate) fn branch_if(&mut self, label: Option<ValType>) -> Result<(), StepFault>
+    pub(crate) fn branch_if(&mut self, label: Option<ValType>) -> Result<(), InstructionFault>
         ensures goes { OnOk result (Goes (λ _. Fixed (seq label ++ I32 ∷ []) (seq label)) self.old self.new) }
         ensures stops { IsIllTyped result → Stops (λ _. Fixed (seq label ++ I32 ∷ []) (seq label)) self.old }
     {
@@ -381,7 +385,7 @@ impl Stacks {
     }
 
     /// A branch to one of some labels that all take this, which the operand on top chooses.
-    pub(crate) fn branch_by_index(&mut self, label: Option<ValType>) -> Result<(), StepFault>
+    pub(crate) fn branch_by_index(&mut self, label: Option<ValType>) -> Result<(), InstructionFault>
         ensures goes { OnOk result (Goes (λ _. Leaves (seq label ++ I32 ∷ [])) self.old self.new) }
         ensures stops { IsIllTyped result → Stops (λ _. Leaves (seq label ++ I32 ∷ [])) self.old }
     {
@@ -398,12 +402,12 @@ impl Stacks {
         enclosing: Enclosing,
         label: Option<ValType>,
         leaves: Option<ValType>,
-    ) -> Result<(), StepFault>
+    ) -> Result<(), InstructionFault>
         ensures goes { OnOk result (Goes (λ _. Enters takes.now enclosing (seq label) (seq leaves)) self.old self.new) }
         ensures stops { IsIllTyped result → Stops (λ _. Enters takes.now enclosing (seq label) (seq leaves)) self.old }
     {
         let Some(block) = self.innermost() else {
-            return Err(StepFault::IllTyped(StepCause::BehindEnd))
+            return Err(InstructionFault::IllTyped(StepCause::BehindEnd))
         };
         if !take_all(&mut self.operands, block, takes) {
             return Err(self.lack(block, Needs::Upper(Row::of_types(takes, None))));
@@ -420,15 +424,15 @@ impl Stacks {
     }
 
     /// `else`.
-    pub(crate) fn turn(&mut self) -> Result<(), StepFault>
+    pub(crate) fn turn(&mut self) -> Result<(), InstructionFault>
         ensures goes { OnOk result (Goes (λ _. Turning) self.old self.new) }
         ensures stops { IsIllTyped result → Stops (λ _. Turning) self.old }
     {
         let Some(block) = self.innermost() else {
-            return Err(StepFault::IllTyped(StepCause::BehindEnd))
+            return Err(InstructionFault::IllTyped(StepCause::BehindEnd))
         };
         match block.enclosing {
-            Enclosing::Whole => Err(StepFault::IllTyped(StepCause::Else)),
+            Enclosing::Whole => Err(InstructionFault::IllTyped(StepCause::Else)),
             Enclosing::FirstArm => {
                 if !take_result(&mut self.operands, block) {
                     return Err(self.lack(block, Needs::Alone(Row::of_result(block.result))));
@@ -447,15 +451,15 @@ impl Stacks {
     }
 
     /// `end`.
-    pub(crate) fn end(&mut self) -> Result<(), StepFault>
+    pub(crate) fn end(&mut self) -> Result<(), InstructionFault>
         ensures goes { OnOk result (Goes (λ _. Ending) self.old self.new) }
         ensures stops { IsIllTyped result → Stops (λ _. Ending) self.old }
     {
         let Some(block) = self.innermost() else {
-            return Err(StepFault::IllTyped(StepCause::BehindEnd))
+            return Err(InstructionFault::IllTyped(StepCause::BehindEnd))
         };
         if !may_close(block) {
-            return Err(StepFault::IllTyped(StepCause::NoElse(Operand::of(block.result))));
+            return Err(InstructionFault::IllTyped(StepCause::NoElse(Operand::of(block.result))));
         }
         if !take_result(&mut self.operands, block) {
             return Err(self.lack(block, Needs::Alone(Row::of_result(block.result))));

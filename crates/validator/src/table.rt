@@ -3,7 +3,7 @@
 ghost use Rattle.std.specs.Prelude.{◌≡◌, option_copied};
 ghost use Rattle.validator.specs.Context.{function_type, has_memory};
 
-use crate::fault::StepFault;
+use crate::fault::InstructionFault;
 use crate::step_cause::{Named, StepCause};
 use wasm_types::{FuncType, Module};
 
@@ -26,11 +26,11 @@ pub(crate) fn type_of_function(module: &Module, function: u32) -> Option<&FuncTy
 
 /// The fault of a function that has no type.
 #[cold]
-pub(crate) fn no_function(module: &Module, function: u32) -> StepFault {
+pub(crate) fn no_function(module: &Module, function: u32) -> InstructionFault {
     let functions = module.functions.as_slice();
     let (what, index, count) = match functions.get(function as usize) {
         None => (Named::Function, function, functions.len()),
         Some(number) => (Named::Type, *number, module.types.as_slice().len()),
     };
-    StepFault::IllTyped(StepCause::Missing { what, index, count })
+    InstructionFault::IllTyped(StepCause::Missing { what, index, count })
 }

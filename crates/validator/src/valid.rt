@@ -2,7 +2,7 @@
 
 ghost use Rattle.std.specs.Prelude.{◌≡◌, ℕ, ◌&&◌, ◌<◌, ◌≤◌, ◌^◌, true, false, map, take, length, List, IfOk, OnOk, IfErr, IfNone, IfSome, Some, option_copied, option_map, slice_get};
 ghost use Rattle.wasm_types.specs.Limits.{Within};
-ghost use Rattle.control_flow.specs.Targets.{targets_from};
+ghost use Rattle.validator.specs.Targets.{targets_from};
 ghost use Rattle.instruction_groups.specs.Groups.{Describes};
 ghost use Rattle.wasm_types.specs.declared.modules.Body.{Body};
 ghost use Rattle.validator.specs.Module.{rules};
@@ -15,9 +15,9 @@ use crate::function::check_function;
 use crate::limits::keeps_limits;
 use crate::name_hasher::NameHasher;
 use crate::rules::keeps_rules;
-use crate::stacks::Stacks;
+use crate::stacks::TypeStacks;
 use crate::table::type_of_function;
-use control_flow::{TargetFinder, Targets};
+use crate::targets::{TargetFinder, Targets};
 use indexmap::IndexMap;
 use instruction_groups::{Group, groups_of_all};
 use std::alloc::Global;
@@ -79,7 +79,7 @@ pub fn validate(alloc: Global, module: Module) -> Result<Valid, ValidFault>
 // What the checks of the functions work with, one after the other: the memory that one took serves the next.
 #[derive(Drop)]
 struct Workspace {
-    stacks: Stacks,
+    stacks: TypeStacks,
     // Where the groups of locals end.
     ends: Vec<u64>,
     finder: TargetFinder,
@@ -94,7 +94,7 @@ fn check_functions(alloc: Global, module: &Module) -> Result<Vec<Targets>, Valid
 {
     let mut targets = Vec::new(alloc);
     let mut work = Workspace {
-        stacks: Stacks::new(alloc),
+        stacks: TypeStacks::new(alloc),
         ends: Vec::new(alloc),
         finder: TargetFinder::new(alloc),
     };

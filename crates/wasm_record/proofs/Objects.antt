@@ -14,18 +14,18 @@ use Rattle.block_objects.specs.SharedMemory.{shared_memory}
 use Rattle.block_objects.proofs.Laws.{memory_laws}
 use Rattle.event_core.specs.Threads.{opening_thread}
 use Rattle.event_core.specs.declared.pick.Pick.{Pick}
-use Rattle.log_pieces.specs.Piece.{greatest_object}
-use Rattle.replay_laws.specs.Laws.{IsWholeRun}
-use Rattle.replay_laws.specs.RunLog.{run_log}
+use Rattle.run_pieces.specs.Piece.{greatest_object}
+use Rattle.run_pieces.specs.ReplayLaws.{IsWholeRun}
+use Rattle.run_pieces.specs.RunLog.{run_log}
 use Rattle.recorder.specs.ThreadLogAt.{RecordedAt, ThreadLogAt, log_of}
 use Rattle.event_core.specs.Opening.{IsOpeningWorld}
 use Rattle.workers.specs.Recording.{IsRecording}
 use Rattle.run_pieces.specs.Keeps.{KeepsRules}
 use Rattle.run_pieces.proofs.Keeping.{recorded_runs_keep_rules}
-use Rattle.thread_code.specs.ThreadCode.{ThreadAt, thread_code}
-use Rattle.thread_code.proofs.Machine.{threads_are_machines}
-use Rattle.thread_plan.specs.Plans.{PlanValue}
-use Rattle.wasm_instance.specs.Memories.{capacity_by, first_memory}
+use Rattle.thread_step.specs.ThreadCode.{ThreadAt, thread_code}
+use Rattle.thread_step.proofs.Machine.{threads_are_machines}
+use Rattle.wasm_world.specs.Plans.{PlanValue}
+use Rattle.wasm_types.specs.Memories.{capacity_by, first_memory}
 use Rattle.wasm_world.specs.Opening.{WasmWorld, opening_threads, opening_memory, opening_world_of, limits_in}
 
 few_pages : (block : ℕ) (memory : Option MemoryType) → capacity_by (Two block) memory ≤ 256

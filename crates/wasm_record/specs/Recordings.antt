@@ -7,10 +7,10 @@ use Rattle.wasm_types.specs.declared.modules.Module.{Module}
 use Rattle.block_objects.specs.SharedMemory.{shared_memory}
 use Rattle.event_core.specs.declared.pick.Pick.{Pick}
 use Rattle.event_core.specs.Run.{IsRun, run_end}
-use Rattle.thread_plan.specs.Plans.{PlanValue}
-use Rattle.thread_code.specs.ThreadCode.{ThreadAt, thread_code}
-use Rattle.log_pieces.specs.Piece.{PieceValue}
-use Rattle.replay_laws.specs.RunLog.{run_log}
+use Rattle.wasm_world.specs.Plans.{PlanValue}
+use Rattle.thread_step.specs.ThreadCode.{ThreadAt, thread_code}
+use Rattle.run_pieces.specs.Piece.{PieceValue}
+use Rattle.run_pieces.specs.RunLog.{run_log}
 use Rattle.recorder.specs.Picks.{picks_taken, picks_passed}
 use Rattle.recorder.specs.ThreadLogAt.{RecordedAt, log_of}
 use Rattle.run_pieces.specs.PieceOf.{ArePiecesOf}

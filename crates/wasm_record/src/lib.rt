@@ -1,8 +1,28 @@
-//! Recording of WebAssembly threads, by a schedule or at once.
+//! Recordings of a module and a plan, by a schedule or by threads at once, and their pieces.
+//!
+//! `record_schedule` and `record_threads`: a run of them with its log and its end (`key`, `records`);
+//! `Recording::pieces`: pieces of that run (`of_run`). `record_memory` does as `record_workers`, over the shared
+//! memory. `send` and `receive` pass pieces through a channel: as many of the run as `receive` answers are joined
+//! (`received`).
 #![tactic(auto)]
 
+mod fault;
+mod memory_recording;
+mod receiving;
 mod recording;
+mod sending;
+mod thread;
 mod threads;
 
+pub use fault::SendFault;
+pub use memory_recording::record_memory;
+pub use receiving::receive;
+pub use recorder::ThreadLog;
 pub use recording::{Recording, record_schedule};
+pub use run_pieces::{LineRoom, PiecesFault};
+pub use sending::send;
+pub use shared_core::{Hold, Unkept};
+pub use thread::{StripedThread, striped_threads};
 pub use threads::record_threads;
+pub use wasm_world::memory_limits;
+pub use workers::{AtOnce, Never, Timer};

@@ -2,23 +2,18 @@
 
 ghost use Rattle.std.specs.Prelude.{◌≡◌, ◌+◌, ◌-◌, ◌^◌, ◌<◌, ◌≤◌, ℕ, List, ◌++◌, IfOk, IfErr, OnOk, OnErr};
 ghost use Rattle.std.specs.List.{flat_map};
-ghost use Rattle.log_pieces.specs.Line.{line_of};
-ghost use Rattle.thread_plan.specs.Plans.{IsPlanOf};
+ghost use Rattle.run_pieces.specs.Line.{line_of};
+ghost use Rattle.wasm_world.specs.Plans.{IsPlanOf};
 ghost use Rattle.wasm_types.specs.declared.key.Profile.TheVariants.{Two};
 ghost use Rattle.run_pieces.specs.Cut.{IsPiecesFault, pieces_of};
 ghost use Rattle.wasm_record.specs.Recordings.{ArePiecesOfRun, IsKeyOf, RecordsRun};
 
-use log_pieces::Piece;
-use recorder::{Recorded, record};
-use replica::{Failed, Sink};
-use run_pieces::{LineRoom, PiecesFault, pieces, write_lines};
-use schedules::Schedule;
+use recorder::{Recorded, Schedule, record};
+use run_pieces::{Failed, LineRoom, Piece, PiecesFault, Sink, pieces, write_lines};
 use std::alloc::Global;
 use std::marker::Model;
-use thread_plan::Plan;
-use validator::Valid;
 use wasm_types::{Block, NoMemory, Profile, RunKey};
-use wasm_world::open_world;
+use wasm_world::{Plan, Valid, open_world};
 
 /// A recorded run of a module and a plan. Contracts see its key and what was recorded, of which each part is a piece.
 #[derive(Drop)]

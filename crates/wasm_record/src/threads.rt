@@ -2,22 +2,20 @@
 
 ghost use Rattle.std.specs.Prelude.{◌≡◌, IfOk, min};
 ghost use Rattle.wasm_types.specs.declared.sizes.TheConstants.{MOST_STEPS};
-ghost use Rattle.thread_code.specs.ThreadCode.{thread_nanos};
-ghost use Rattle.thread_plan.specs.Plans.{IsPlanOf};
+ghost use Rattle.thread_step.specs.ThreadCode.{thread_nanos};
+ghost use Rattle.wasm_world.specs.Plans.{IsPlanOf};
 ghost use Rattle.wasm_types.specs.declared.key.Profile.TheVariants.{Two};
 ghost use Rattle.wasm_record.specs.Recordings.{IsKeyOf, RecordsThreads};
 
+use crate::memory_recording::record_memory;
 use crate::recording::Recording;
-use memory_threads::record_memory;
+use crate::thread::striped_threads;
 use shared_core::Hold;
 use std::alloc::Global;
 use std::sync::Wait;
 use std::thread::Threads;
-use thread_plan::Plan;
-use validator::Valid;
-use wasm_threads::striped_threads;
 use wasm_types::{Block, MOST_STEPS, NoMemory, Profile, RunKey};
-use wasm_world::open_parts;
+use wasm_world::{Plan, Valid, open_parts};
 use workers::Timer;
 
 /// Records a run of a module and a plan in profile 2 with blocks of that size, in which each thread of the plan is a

@@ -4,8 +4,8 @@ use Rattle.std.proofs.Common.{refl, arith}
 use Rattle.wasm_types.specs.declared.key.Profile.{Profile}
 use Rattle.wasm_types.specs.declared.modules.Module.{Module}
 use Rattle.event_core.specs.Opening.{IsOpeningWorld}
-use Rattle.thread_plan.specs.Plans.{PlanValue}
-use Rattle.thread_code.specs.ThreadCode.{thread_code}
+use Rattle.wasm_world.specs.Plans.{PlanValue}
+use Rattle.wasm_world.specs.ThreadCode.{thread_code}
 use Rattle.wasm_world.specs.Opening.{WasmWorld, opening_world_of}
 use Rattle.wasm_world.proofs.Begun.{opens as world_opens}
 use Rattle.wasm_replay.specs.Replays.{world_or_empty, opened_world, Suits}

@@ -5,14 +5,14 @@ use Rattle.sha2.specs.Sha256.{sha256}
 use Rattle.wasm_types.specs.declared.key.Profile.{Profile}
 use Rattle.wasm_types.specs.declared.key.RunKey.{RunKey}
 use Rattle.wasm_types.specs.declared.modules.Module.{Module}
-use Rattle.block_objects.specs.SharedMemory.{shared_memory}
+use Rattle.wasm_world.specs.SharedMemory.{shared_memory}
 use Rattle.event_core.specs.declared.pick.Pick.{Pick}
 use Rattle.event_core.specs.End.{RunEnd}
 use Rattle.event_core.specs.Run.{IsRun, run_end}
-use Rattle.validator.specs.Valid.{fits_profile}
-use Rattle.thread_plan.specs.Plans.{PlanValue, IsPlanOf}
-use Rattle.wasm_instance.specs.Memories.{block_power}
-use Rattle.thread_code.specs.ThreadCode.{thread_code}
+use Rattle.wasm_world.specs.Valid.{fits_profile}
+use Rattle.wasm_world.specs.Plans.{PlanValue, IsPlanOf}
+use Rattle.wasm_types.specs.Memories.{block_power}
+use Rattle.wasm_world.specs.ThreadCode.{thread_code}
 use Rattle.replica.specs.declared.log.Log.{Log as GatheredLog}
 use Rattle.replica.specs.Log.{key_of}
 use Rattle.replay_laws.specs.Log.{IsBelowLog}

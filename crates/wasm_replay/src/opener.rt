@@ -3,14 +3,10 @@
 ghost use Rattle.std.specs.Prelude.{◌≡◌};
 
 use event_core::World;
-use integer_machine::ThreadState;
 use replay_gate::OpenWorld;
 use std::alloc::Global;
-use thread_plan::Plan;
-use validator::Valid;
-use waiter_queues::SharedSpace;
 use wasm_types::{NoMemory, Profile};
-use wasm_world::open_world;
+use wasm_world::{Plan, SharedSpace, ThreadState, Valid, open_world};
 
 /// A module, a plan of it, and the profile of their runs.
 #[derive(Drop)]

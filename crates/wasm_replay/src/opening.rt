@@ -2,22 +2,19 @@
 
 ghost use Rattle.std.specs.Prelude.{◌≡◌, ◌≤◌, OnOk, IfOk, IfErr};
 ghost use Rattle.event_core.specs.World.{world_of};
-ghost use Rattle.thread_plan.specs.Plans.{IsPlanOf};
-ghost use Rattle.wasm_instance.specs.Memories.{block_power};
+ghost use Rattle.wasm_world.specs.Plans.{IsPlanOf};
+ghost use Rattle.wasm_types.specs.Memories.{block_power};
 ghost use Rattle.wasm_world.specs.Opening.{WasmWorld};
 ghost use Rattle.wasm_replay.specs.Replays.{IsOfRun, IsOfNoRun, IsOpenerOf, IsNotOpened, Opens, HasWorld, is_of, opened_world};
 
 use crate::gathered::Gathered;
 use crate::opener::Opener;
 use crate::replaying::WasmReplayFault;
-use integer_machine::ThreadState;
 use replay_gate::{Replay, ReplayFault};
 use replica::Log;
 use std::alloc::Global;
-use thread_plan::Plan;
-use validator::Valid;
-use waiter_queues::SharedSpace;
 use wasm_types::{Profile, RunKey};
+use wasm_world::{Plan, SharedSpace, ThreadState, Valid};
 
 /// A replay of a WebAssembly run that is made turn by turn.
 pub type WasmReplay<'a> = Replay<ThreadState<'a>, SharedSpace, Gathered<'a>, Opener<'a>>;

@@ -1,7 +1,7 @@
 //! Replay of a gathered log.
 
 ghost use Rattle.std.specs.Prelude.{◌≡◌, true, OnOk, IfOk, IfErr};
-ghost use Rattle.thread_plan.specs.Plans.{IsPlanOf};
+ghost use Rattle.wasm_world.specs.Plans.{IsPlanOf};
 ghost use Rattle.wasm_replay.specs.Replays.{EndsAsRecorded, HasWorld, IsOrderedAnswer, IsRefusal, IsOfRun};
 
 use crate::gathered::Gathered;
@@ -12,8 +12,7 @@ use replay_gate::{ReplayFault, replay};
 use replica::Log;
 use std::alloc::Global;
 use thiserror::Error;
-use thread_plan::Plan;
-use validator::Valid;
+use wasm_world::{Plan, Valid};
 
 /// Why a gathered log is not replayed to its end.
 #[derive(Clone, Copy, Debug, PartialEq, Eq, Error)]

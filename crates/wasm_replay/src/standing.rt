@@ -9,9 +9,8 @@ use replica::Log;
 use rw_objects::{Count, Entry, Found, Kind, Machine, Next, ObjectSpace, Touch, Versions};
 use std::alloc::Global;
 use std::{array, fmt};
-use thread_plan::Plan;
-use validator::Valid;
 use wasm_types::{MOST_THREADS, Outcome, RunKey};
+use wasm_world::{Plan, Valid};
 
 /// Of what claims differ or are wanting.
 #[derive(Clone, Copy, Debug, PartialEq, Eq)]
@@ -56,7 +55,7 @@ pub enum Doing {
 
 /// How far a thread came, and what it does next.
 #[derive(Clone, Copy, Debug, PartialEq, Eq)]
-pub struct Reached {
+pub struct Progress {
     pub steps: u32,
     pub doing: Doing,
 }
@@ -88,7 +87,7 @@ pub enum Standing {
     /// A thread diverges: what the log has at its place, and where the thread stands, if the world is known.
     Diverged {
         logged: Logged,
-        reached: Option<Reached>,
+        reached: Option<Progress>,
     },
     /// No thread goes on: by thread, what it waits for where that is an entry.
     Stuck {
@@ -169,28 +168,20 @@ fn reached_by<M: Machine<S>, S: ObjectSpace>(
     alloc: Global,
     world: &World<M, S>,
     thread: u32,
-) -> Option<Reached> {
+) -> Option<Progress> {
     let steps = world.steps(thread)?;
     let next = world.next(thread)?;
-    Some(Reached {
+    Some(Progress {
         steps,
         doing: doing_next::<S>(alloc, next),
     })
-}
-
-/// The object of a touch.
-fn object_of(found: &Found) -> u32 {
-    match *found {
-        Found::Read { object, .. } => object,
-        Found::Write { object, .. } => object,
-    }
 }
 
 /// The counts of the objects of an entry.
 fn counts(entry: &Entry, versions: &Versions) -> [Count; 3] {
     let found = entry.found.as_slice();
     array::from_fn(|index| match found.get(index) {
-        Some(found) => versions.at(object_of(found)),
+        Some(found) => versions.at(found.object()),
         None => Count::default(),
     })
 }

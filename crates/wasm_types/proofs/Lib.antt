@@ -1,3 +1,4 @@
 pub mod Leb128Laws
 pub mod Powers
 pub mod Widths
+pub mod Putting

@@ -10,3 +10,7 @@ pub mod Values
 pub mod Accesses
 pub mod Widths
 pub mod Sizes
+pub mod Memories
+pub mod Tables
+pub mod Globals
+pub mod Segments

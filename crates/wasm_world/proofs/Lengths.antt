@@ -13,7 +13,7 @@ use Rattle.validator.specs.Module.{rules, memories_fit, memory_fits, import_fits
 use Rattle.validator.specs.Valid.{WellTyped, fits_profile, is_small, import_is_small, has_no_low_extension}
 use Rattle.validator.proofs.Ruled.{both}
 use Rattle.validator.proofs.Small.{all_decides, decides_le}
-use Rattle.wasm_instance.specs.Memories.{first_memory, most_pages, capacity_by, initial_by, declared_maximum}
+use Rattle.wasm_types.specs.Memories.{first_memory, most_pages, capacity_by, initial_by, declared_maximum}
 use Rattle.wasm_world.specs.Opening.{limits_in}
 
 -- what holds of imported and own memories holds of the first

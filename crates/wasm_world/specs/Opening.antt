@@ -12,7 +12,7 @@ use Rattle.event_core.specs.World.{WorldAt}
 use Rattle.thread_plan.specs.Plans.{PlanValue}
 use Rattle.thread_plan.specs.declared.planned_thread.PlannedThread.{PlannedThread}
 use Rattle.thread_step.specs.Opening.{instance_of}
-use Rattle.thread_code.specs.ThreadCode.{ThreadAt, limits_of}
+use Rattle.thread_step.specs.ThreadCode.{ThreadAt, limits_of}
 use Rattle.integer_machine.specs.First.{beginning}
 
 -- threads of WebAssembly over a shared memory

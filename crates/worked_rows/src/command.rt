@@ -1,10 +1,10 @@
 //! One command.
 
 use crate::shelf::Shelf;
+use byte_streams::{MemorySink, MemorySource};
 use commands::Files;
 use log::sink::Discard;
 use program::run;
-use replica::{MemorySink, MemorySource};
 use std::alloc::Global;
 use std::sync::Wait;
 use std::thread::Threads;

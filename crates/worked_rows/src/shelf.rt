@@ -2,8 +2,8 @@
 
 ghost use Rattle.commands.specs.Files.{IsRead};
 
+use byte_streams::StandardSource;
 use commands::{FileFault, FileState, Files};
-use standard_streams::StandardSource;
 use std::alloc::Global;
 use std::fs;
 use std::io::{Cursor, ErrorKind};

@@ -11,10 +11,9 @@ use event_core::Thread;
 use rw_objects::Machine;
 use shared_core::{Hold, Shared};
 use shared_journal::{Seat, Tried};
-use shared_parts::Opening;
+use shared_parts::{Opening, Striped};
 use std::alloc::Global;
 use std::sync::Wait;
-use striped_objects::Striped;
 use wasm_types::NoMemory;
 
 /// Tries to enter a call of a thread, and gives it the reply. Answers whether the call was entered. The memory that the

@@ -1,15 +1,14 @@
-//! `wreplay` records runs of threaded WebAssembly modules by schedules, gathers the pieces of a recorded run and lists
-//! the log that they claim, replays it, and checks modules.
+//! The program: `program::run` with the words, streams, files and threads of the process.
+//!
 #![tactic(auto)]
 
 ghost use Rattle.std.specs.Prelude.{◌≤◌, ◌<◌, ◌-◌, ◌^◌, IfOk, IfSome, length};
 ghost use Rattle.commands.specs.Files.{IsRead};
 
+use byte_streams::{Sink, StandardSink, StandardSource};
 use commands::{FileFault, FileState, Files};
 use log::sink::Discard;
 use program::{OddWord, refuse_words, run};
-use replica::Sink;
-use standard_streams::{StandardSink, StandardSource};
 use std::alloc::Global;
 use std::env::{self, Env, FillError};
 use std::fs::{self, File};

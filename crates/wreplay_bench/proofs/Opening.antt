@@ -10,7 +10,7 @@ use Rattle.rw_objects.specs.Counts.{no_counts}
 use Rattle.rw_objects.specs.Memory.{Memory, memory_with}
 use Rattle.block_objects.specs.declared.limits.MemoryLimits.{MemoryLimits}
 use Rattle.block_objects.specs.Objects.{ObjectAt}
-use Rattle.waiter_queues.specs.Shared.{opening_values}
+use Rattle.striped_memory.specs.Shared.{opening_values}
 use Rattle.block_objects.specs.SharedMemory.{shared_memory}
 use Rattle.rw_objects.specs.Alone.{IsSoundAlone}
 use Rattle.rw_objects.specs.Alone as alone
@@ -20,8 +20,8 @@ use Rattle.thread_plan.specs.Plans.{PlanValue}
 use Rattle.thread_plan.specs.declared.planned_thread.PlannedThread.{PlannedThread}
 use Rattle.thread_step.specs.Opening.{instance_of, opening, opening_by, enter}
 use Rattle.thread_step.specs.Thread.{given, State, Runs, Invocation, stack_with, waiting}
-use Rattle.thread_code.specs.ThreadCode.{ThreadAt, thread_code, limits_of, sleeps_within}
-use Rattle.thread_code.proofs.Machine.{threads_are_machines}
+use Rattle.thread_step.specs.ThreadCode.{ThreadAt, thread_code, limits_of, sleeps_within}
+use Rattle.thread_step.proofs.Machine.{threads_are_machines}
 use Rattle.integer_machine.specs.First.{first_of, beginning}
 use Rattle.wreplay_bench.specs.declared.ended.Ended.{Ended}
 use Rattle.wreplay_bench.specs.Alone.{AloneAt, alone_with, no_entry, Goes, GoesTo, IsOpening, IsOver, RunsTo}

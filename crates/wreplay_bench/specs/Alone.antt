@@ -9,10 +9,10 @@ use Rattle.rw_objects.specs.Memory.{Memory, memory_with, memory_of}
 use Rattle.block_objects.specs.declared.limits.MemoryLimits.{MemoryLimits}
 use Rattle.block_objects.specs.Objects.{ObjectAt}
 use Rattle.block_objects.specs.SharedMemory.{shared_memory}
-use Rattle.waiter_queues.specs.Shared.{opening_values}
+use Rattle.striped_memory.specs.Shared.{opening_values}
 use Rattle.event_core.specs.End.{outcome_of}
 use Rattle.thread_plan.specs.Plans.{PlanValue}
-use Rattle.thread_code.specs.ThreadCode.{ThreadAt, thread_code, limits_of}
+use Rattle.thread_step.specs.ThreadCode.{ThreadAt, thread_code, limits_of}
 use Rattle.integer_machine.specs.First.{first_of}
 use Rattle.wreplay_bench.specs.declared.alone.Alone.{Alone}
 use Rattle.wreplay_bench.specs.declared.ended.Ended.{Ended}

@@ -3,14 +3,14 @@
 ghost use Rattle.std.specs.Prelude.{◌≡◌, ◌≤◌, true, IfOk, OnOk};
 ghost use Rattle.rw_objects.specs.Counts.{no_counts};
 ghost use Rattle.rw_objects.specs.Memory.{memory_of, memory_with};
-ghost use Rattle.waiter_queues.specs.Shared.{opening_values};
+ghost use Rattle.striped_memory.specs.Shared.{opening_values};
 ghost use Rattle.rw_objects.specs.Alone.{IsSoundAlone};
 ghost use Rattle.event_core.specs.End.{outcome_of};
 ghost use Rattle.thread_plan.specs.Plans.{IsPlanOf};
-ghost use Rattle.wasm_instance.specs.Segments.{segments_fit};
-ghost use Rattle.wasm_instance.specs.Memories.{first_memory};
-ghost use Rattle.wasm_instance.specs.Memories.{initial_by};
-ghost use Rattle.thread_code.specs.ThreadCode.{thread_code};
+ghost use Rattle.wasm_types.specs.Segments.{segments_fit};
+ghost use Rattle.wasm_types.specs.Memories.{first_memory};
+ghost use Rattle.wasm_types.specs.Memories.{initial_by};
+ghost use Rattle.thread_step.specs.ThreadCode.{thread_code};
 ghost use Rattle.wreplay_bench.specs.Alone.{GoesTo, IsOpening, IsOver, alone_of};
 
 use crate::ended::Ended;
@@ -20,9 +20,9 @@ use event_core::outcome_of;
 use integer_machine::{ThreadState, memory_limits};
 use rw_objects::{Machine, NoLog, Versioned};
 use std::alloc::Global;
+use striped_memory::SharedSpace;
 use thread_plan::Plan;
 use validator::Valid;
-use waiter_queues::SharedSpace;
 use wasm_types::{Block, MOST_PAGES, Module, NoMemory, Profile};
 
 /// A thread of a plan and its memory, with no other thread.

@@ -5,17 +5,14 @@ ghost use Rattle.block_objects.specs.Bounds.{InBounds};
 ghost use Rattle.wreplay_bench.specs.OnePage.{one_page};
 
 use block_objects::{MemoryLimits, ObjectValue, operations_within_fit};
-use shared_core::{Opened, Shared, Unkept};
-use shared_journal::{Seat, Tried};
-use shared_parts::Opening;
+use shared_core::{Opened, Opening, Seat, Shared, Tried, Unkept};
 use shared_threads::{Work, run_threads};
 use std::alloc::Global;
 use std::marker::Brand;
 use std::sync::{Mutex, RwLock, Wait};
 use std::thread;
 use std::thread::Threads;
-use striped_memory::StripedMemory;
-use waiter_queues::SharedSpace;
+use striped_memory::{SharedSpace, StripedMemory};
 use wasm_types::{Action, Block, Extent, Load, NoMemory, Op, ValType};
 
 /// One page in blocks of 64 bytes, which does not grow.

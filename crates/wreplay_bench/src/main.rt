@@ -1,5 +1,8 @@
-//! Work for measurements, which `make bench` runs: steps of scripts, accesses of a memory, the same under locks by
-//! threads at once, decoding and validating of a module, and the run of one thread.
+//! Work for measurements, which `make bench` runs.
+//!
+//! Steps of scripts, accesses of a memory, the same under locks by threads at once, decoding and validating of a module
+//! (`decoded`, `validated`: they count exactly), and one thread alone (`run_bytes`: how it stands, and after how many
+//! steps).
 #![tactic(auto)]
 
 mod accesses;

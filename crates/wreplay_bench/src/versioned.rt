@@ -11,7 +11,7 @@ use crate::plain::address_of;
 use block_objects::MemoryLimits;
 use rw_objects::{Entry, Found, Versioned};
 use std::alloc::Global;
-use waiter_queues::SharedSpace;
+use striped_memory::SharedSpace;
 use wasm_types::{Access, Action, Extent, Load, MOST_PAGES, NoMemory, Op, Reply, ValType, Value};
 
 /// The numbers that each operation carries.

@@ -1,4 +1,4 @@
-use Rattle.byte_reader.specs.Reading.{items_at}
+use Rattle.binary_decoder.specs.Reading.{items_at}
 use Rattle.binary_decoder.specs.Reader.{with_front}
 use Rattle.binary_decoder.proofs.Loop.{goes_on, ends, is_done}
 use Rattle.binary_decoder.proofs.parts.push_items.Goals as goal

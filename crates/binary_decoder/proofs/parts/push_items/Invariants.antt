@@ -1,5 +1,5 @@
 use Rattle.std.proofs.Common.{◌≡◌, ◌-◌}
-use Rattle.byte_reader.specs.Reading.{items_at}
+use Rattle.binary_decoder.specs.Reading.{items_at}
 use Rattle.binary_decoder.specs.Reader.{with_front}
 use Rattle.binary_decoder.proofs.parts.push_items.Given as goal
 

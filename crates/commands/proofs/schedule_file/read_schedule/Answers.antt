@@ -1,6 +1,6 @@
 use Rattle.std.proofs.Common.{ℕ, List, ◌∙◌, sym, ap, subst}
 use Rattle.std.specs.Prelude.{Result}
-use Rattle.event_core.specs.declared.pick.Pick.{Pick}
+use Rattle.wasm_record.specs.Pick.{Pick}
 use Rattle.pick_schedule.specs.Schedule.{schedule_of, IsFaultOf}
 use Rattle.pick_schedule.proofs.Beginnings.{beginning_judged}
 use Rattle.commands.proofs.schedule_file.read_schedule.Goals as goal

@@ -11,8 +11,8 @@ pub returns : goal.returns
 returns c = λ first h.
     let m : c.module-module.result.now ≡ c.args.valid.now = c.module-module.ensures.module in
     let bodies : c.as_slice-bodies.result.now ≡ c.args.valid.now.bodies = c.as_slice-bodies.ensures ∙ ap (λ (x : Module). x.bodies) m in
-    let globals : c.in_ok-globals.globals.items ≡ words_of (Rattle.wasm_instance.specs.Globals.opening_globals c.args.valid.now) = c.in_ok-globals.ensures.words ∙ ap (λ x. words_of (Rattle.wasm_instance.specs.Globals.opening_globals x)) m in
-    let range = subst (λ x. Rattle.thread_words.specs.Words.AreInRange (Rattle.wasm_instance.specs.Globals.opening_globals x)) m c.in_ok-globals.ensures.range in
+    let globals : c.in_ok-globals.globals.items ≡ words_of (Rattle.wasm_types.specs.Globals.opening_globals c.args.valid.now) = c.in_ok-globals.ensures.words ∙ ap (λ x. words_of (Rattle.wasm_types.specs.Globals.opening_globals x)) m in
+    let range = subst (λ x. Rattle.thread_words.specs.Words.AreInRange (Rattle.wasm_types.specs.Globals.opening_globals x)) m c.in_ok-globals.ensures.range in
     let labels : c.new.result.items ≡ [] = search rules in
     let exported : c.entered-exported.result ≡ record { function = c.args.function; place = 0; words = 0; labels = 0 } = c.entered-exported.ensures in
     elim c.match-module.branch [

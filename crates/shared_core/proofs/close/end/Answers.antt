@@ -1,7 +1,7 @@
 -- The parts are those of the space to which the journal leads.
 use Rattle.std.proofs.Common.{sym, ap, ◌∙◌}
 use Rattle.rw_objects.specs.Counts.{count_at}
-use Rattle.striped_objects.proofs.Wholes.{one_whole}
+use Rattle.shared_parts.proofs.Wholes.{one_whole}
 use Rattle.shared_parts.specs.Calls.{memory_after_calls}
 use Rattle.shared_parts.proofs.Writes.{fixed_after}
 use Rattle.shared_journal.proofs.Enters.{memory_is}

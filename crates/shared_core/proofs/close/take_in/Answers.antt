@@ -1,5 +1,5 @@
 use Rattle.std.proofs.Common.{arith, ◌≡◌, ◌≤◌, ◌+◌, length, subst, ap, ◌∙◌}
-use Rattle.striped_objects.specs.Cut.{AllSound}
+use Rattle.shared_parts.specs.Cut.{AllSound}
 use Rattle.shared_core.specs.Ends.{AreLedTo}
 use Rattle.shared_parts.specs.Calls.{AreWithin, calls_of, memory_after_calls}
 use Rattle.shared_core.proofs.Whole.{parts_whole, no_others}

@@ -1,5 +1,5 @@
 use Rattle.std.proofs.Common.{rules, ◌≡◌, false, nat_lt, sym, ap}
-use Rattle.striped_objects.specs.Parts.{has_lane}
+use Rattle.shared_parts.specs.Parts.{has_lane}
 use Rattle.shared_parts.proofs.Writes.{no_lane}
 use Rattle.shared_core.proofs.parts.wait_for.Goals as goal
 

@@ -1,5 +1,5 @@
 use Rattle.std.proofs.Common.{◌≡◌, ◌+◌, ◌≤◌, length, drop}
-use Rattle.striped_objects.specs.Parts.{lane_writes}
+use Rattle.shared_parts.specs.Parts.{lane_writes}
 use Rattle.shared_parts.proofs.stripe.lane_writes.Given as goal
 
 abbrev pub invariant-loop-touch : goal.invariant-loop-touch

@@ -1,7 +1,7 @@
 use Rattle.std.proofs.Common.{◌≡◌, ◌*◌, ℕ, List, box_value, ap, subst, sym, ◌∙◌}
 use Rattle.block_objects.specs.Objects.{QueueAt, block_bytes, blocks_in}
 use Rattle.block_objects.specs.Memory.{MemoryAt}
-use Rattle.striped_objects.specs.Parts.{AreParts}
+use Rattle.shared_parts.specs.Parts.{AreParts}
 use Rattle.waiter_queues.specs.Shared.{shared_values}
 use Rattle.striped_memory.specs.Quarters.{dealt}
 use Rattle.striped_memory.specs.MemoryParts.{memory_lane, memory_fixed, memory_held}

@@ -1,6 +1,6 @@
 use Rattle.std.proofs.Common.{◌≡◌, ◌∙◌, ◌+◌, Some, sym, ap, add-one, arith}
 use Rattle.std.proofs.Math.Facts.{Fits-of_lt}
-use Rattle.control_flow.specs.declared.targets.Target.{Target}
+use Rattle.validator.specs.declared.targets.Target.{Target}
 use Rattle.thread_words.proofs.FunctionCode.{end_there}
 use Rattle.thread_words.proofs.functions.behind_end_by.Goals as goal
 

@@ -1,9 +1,9 @@
 use Rattle.std.proofs.Common.{◌≡◌, List, sym, subst, length, ◌≤◌}
 use Rattle.std.specs.Prelude.{Some}
 use Rattle.event_core.specs.Opening.{AllFresh, opening_world}
-use Rattle.integer_machine.specs.Sound.{ThreadWithRoom, thread_of}
-use Rattle.thread_code.specs.ThreadCode.{thread_code}
-use Rattle.waiter_queues.specs.Shared.{shared_values}
+use Rattle.wasm_world.specs.Sound.{ThreadWithRoom, thread_of}
+use Rattle.thread_step.specs.ThreadCode.{thread_code}
+use Rattle.wasm_world.specs.Shared.{shared_values}
 use Rattle.wasm_world.specs.Opening.{opening_world_of}
 use Rattle.wasm_types.specs.declared.sizes.TheConstants.{MOST_THREADS}
 use Rattle.threaded_replay.proofs.replaying.begin.Goals as goal

@@ -1,7 +1,7 @@
 use Rattle.std.proofs.lemmas.Result.{IfOk-weaker, IfErr-weaker}
 use Rattle.event_core.specs.Opening.{opening_world}
-use Rattle.integer_machine.specs.Sound.{thread_of}
-use Rattle.waiter_queues.specs.Shared.{shared_values}
+use Rattle.wasm_world.specs.Sound.{thread_of}
+use Rattle.wasm_world.specs.Shared.{shared_values}
 use Rattle.wasm_replay.specs.Replays.{gathered_log}
 use Rattle.threaded_replay.proofs.Ending.{no_memory, end_by_name, fault_by_name}
 use Rattle.threaded_replay.proofs.replaying.replay_in.Goals as goal

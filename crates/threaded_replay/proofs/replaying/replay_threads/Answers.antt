@@ -1,5 +1,5 @@
 use Rattle.std.proofs.Common.{◌≡◌, true, sym, subst, ◌∙◌}
-use Rattle.validator.specs.Valid.{fits_profile}
+use Rattle.wasm_world.specs.Valid.{fits_profile}
 use Rattle.threaded_replay.proofs.Ending.{threads_end, threads_refusal, every_order, as_recorded}
 use Rattle.threaded_replay.proofs.replaying.replay_threads.Goals as goal
 

@@ -3,7 +3,7 @@ use Rattle.std.specs.Prelude.{option_map, IfNone, IfSome, Some}
 use Rattle.wasm_types.specs.Nesting.{Nests}
 use Rattle.wasm_types.specs.declared.modules.Body.{Body}
 use Rattle.validator.specs.Valid.{IsOfFunction}
-use Rattle.control_flow.specs.Targets.{targets_from}
+use Rattle.validator.specs.Targets.{targets_from}
 use Rattle.validator.specs.Context.{context_of}
 use Rattle.validator.proofs.CheckedNests.{checked_nests}
 use Rattle.validator.proofs.Ruled.{has_some_type, kind_has_one_result, body_is_short, body_there, located, typed_at}

@@ -1,6 +1,6 @@
 -- The names of the opened memory.
 use Rattle.shared_core.specs.Begins.{names_of, lane_names}
-use Rattle.waiter_queues.specs.Shared.{shared_values}
+use Rattle.striped_memory.specs.Shared.{shared_values}
 use Rattle.wreplay_bench.proofs.locks.run_loads.Given as goal
 
 abbrev pub ghosts-run_threads-J-Naming : goal.ghosts-run_threads-J-Naming

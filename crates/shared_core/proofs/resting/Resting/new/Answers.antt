@@ -2,7 +2,7 @@
 use Rattle.std.specs.Prelude.{replicate}
 use Rattle.std.specs.List.{list_any}
 use Rattle.std.proofs.Common.{rules, ◌≡◌, ◌∙◌, ap}
-use Rattle.shared_core.specs.declared.resting.Standing.TheVariants.{Goes}
+use Rattle.shared_core.specs.declared.resting.SeatState.TheVariants.{Goes}
 use Rattle.shared_core.specs.Resting.{rests}
 use Rattle.shared_core.proofs.Rests.{none_rests_new}
 use Rattle.shared_core.proofs.resting.Resting.new.Goals as goal

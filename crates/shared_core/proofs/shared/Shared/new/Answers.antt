@@ -3,7 +3,7 @@ use Rattle.std.specs.Prelude.{replicate}
 use Rattle.std.proofs.Common.{zero, suc, rules, arith, ◌≡◌, ℕ, length, sym, ap, ◌∙◌, subst, refl}
 use Rattle.rw_objects.specs.declared.count.Count.{Count}
 use Rattle.rw_objects.specs.Counts.{count_at, no_counts, no_count}
-use Rattle.striped_objects.specs.Cut.{AllSound}
+use Rattle.shared_parts.specs.Cut.{AllSound}
 use Rattle.shared_parts.specs.Calls.{IsLegalHistory, memory_after_calls}
 use Rattle.shared_core.proofs.shared.Shared.new.Goals as goal
 

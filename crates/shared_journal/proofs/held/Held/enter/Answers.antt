@@ -7,7 +7,7 @@ use Rattle.std.proofs.Common.{List}
 use Rattle.rw_objects.specs.Space.{is_ready, reply_of}
 use Rattle.rw_objects.specs.Counts.{all_found, count_at, counts_after}
 use Rattle.rw_objects.specs.Memory.{entry_of, memory_after}
-use Rattle.striped_objects.specs.Cut.{AllSound, decision_at}
+use Rattle.shared_parts.specs.Cut.{AllSound, decision_at}
 use Rattle.shared_parts.specs.Calls.{memory_after_calls, entries_in, threads_in}
 use Rattle.shared_parts.proofs.Writes.{memory_with_call, values_with_call, fixed_after}
 use Rattle.shared_journal.proofs.Grows.{seat_grows}

@@ -1,6 +1,6 @@
 use Rattle.std.proofs.Common.{◌≡◌, ◌∙◌, sym, ap, subst, arith}
-use Rattle.striped_objects.specs.Parts.{part_values, lane_writes}
-use Rattle.striped_objects.specs.Cut.{decision_at, AllSound}
+use Rattle.shared_parts.specs.Parts.{part_values, lane_writes}
+use Rattle.shared_parts.specs.Cut.{decision_at, AllSound}
 use Rattle.rw_objects.specs.Space.{values_after}
 use Rattle.shared_parts.specs.Calls.{memory_after_calls}
 use Rattle.shared_parts.specs.Writes.{writes}

@@ -1,4 +1,0 @@
-pub mod Language
-pub mod Fault
-pub mod Reading
-pub mod Moves

@@ -1,7 +1,0 @@
-use base.Fraction.{full_share, left}
-use denote.Param.Send.{IsSend}
-use Rattle.call_chain.specs.contracts.grown.Half.{the_row}
-use Rattle.call_chain.proofs.Sent.{number_keyless}
-
-pub send : IsSend the_row
-send = record { owned = λ d vs. ((λ vss. (tt, ((λ uss. (tt, tt)), tt))), number_keyless d.name d.number (left full_share)); leaving = λ k f vs. tt }

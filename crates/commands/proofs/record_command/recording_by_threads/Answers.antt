@@ -1,0 +1,13 @@
+-- What the timer can say is what was asked for.
+use Rattle.std.proofs.Common.{Bool, sym, subst}
+use Rattle.std.proofs.lemmas.Result.{IfOk-weaker}
+use Rattle.commands.specs.Records.{IsRunOfThreads}
+use Rattle.commands.proofs.record_command.recording_by_threads.Goals as goal
+
+pub returns-then-times_out-clause-records : goal.returns-then-times_out-clause-records
+returns-then-times_out-clause-records g c =
+    IfOk-weaker c.record_threads.result _ _ (λ r h. subst (λ (b : Bool). IsRunOfThreads c.args.program.now.valid c.args.program.now.plan c.args.request.now b r.recorded) (sym c.if-times_out.true) h) c.record_threads.ensures.records
+
+pub returns-else-times_out-clause-records : goal.returns-else-times_out-clause-records
+returns-else-times_out-clause-records g c =
+    IfOk-weaker c.record_threads-else-times_out.result _ _ (λ r h. subst (λ (b : Bool). IsRunOfThreads c.args.program.now.valid c.args.program.now.plan c.args.request.now b r.recorded) (sym c.if-times_out.false) h) c.record_threads-else-times_out.ensures.records

@@ -1,0 +1,214 @@
+//! Recordings, by the schedules in files or by threads.
+
+ghost use Rattle.std.specs.Prelude.{◌≡◌, ◌⊎◌, ◌<◌, ◌≤◌, List, OnOk, IfOk, IfErr};
+ghost use Rattle.wasm_record.specs.Cut.{IsPiecesFault};
+ghost use Rattle.thread_plan.specs.Plans.{IsPlanOf};
+ghost use Rattle.wasm_record.specs.Pick.{Pick};
+ghost use Rattle.wasm_types.specs.declared.key.Profile.TheVariants.{Two};
+ghost use Rattle.wasm_record.specs.Recordings.{IsKeyOf};
+ghost use Rattle.commands.specs.Records.{IsScheduleFile, IsScheduleRefused, IsOrderRefused, IsRecordRefusal, IsRecordedBy, IsRecordAnswer, IsRecordRefused, IsRunOf, IsRunOfThreads, IsAnswerOf, answer_of};
+
+use crate::fault::Fault;
+use crate::files::Files;
+use crate::program::{Program, read_program};
+use crate::record_answer::RecordAnswer;
+use crate::schedule_file::read_schedule;
+use crate::stopped::stopped_line;
+use command_words::{RecordOrder, RecordRequest};
+use debug_views::report;
+use log::Log;
+use pick_schedule::Schedule;
+use replica::MOST_ENTRIES;
+use std::alloc::Global;
+use std::sync::Wait;
+use std::thread::Threads;
+use wasm_record::{AtOnce, Never, PiecesFault, Recording, Unkept, record_schedule, record_threads};
+use wasm_types::NoMemory;
+
+/// Whether pieces of so many entries can be.
+fn check_size(entries: u32) -> Result<(), PiecesFault>
+    ensures some { OnOk result (0 < entries) }
+    ensures few { OnOk result (entries ≤ 4096) }
+    ensures refused { IfErr result (IsPiecesFault entries) }
+{
+    if entries == 0 {
+        return Err(PiecesFault::Empty);
+    }
+    if entries as usize > MOST_ENTRIES {
+        return Err(PiecesFault::TooMany);
+    }
+    Ok(())
+}
+
+/// What a run by the schedule in a file came to. The schedule is judged before the size of the pieces.
+fn record_by_schedule<L: Log, F: Files>(
+    rt: &L,
+    alloc: Global,
+    files: &mut F,
+    program: &Program,
+    path: &str,
+    request: &RecordRequest<'_>,
+) -> Result<RecordAnswer, Fault>
+    requires { IsPlanOf program.now.valid program.now.plan }
+    ensures recorded { IfOk result (λ answer. (picks : List Pick) × IsScheduleFile (F.holds files.old path.now) picks × IsAnswerOf program.now.valid program.now.plan request.now (IsRunOf program.now.valid program.now.plan request.now picks) answer) }
+    ensures refused { IfErr result (λ fault. IsScheduleRefused (F.holds files.old path.now) (F.fails files.old path.now) fault
+        ⊎ ((picks : List Pick) × IsScheduleFile (F.holds files.old path.now) picks × IsRecordRefusal request.now.size fault)) }
+{
+    let picks = match read_schedule(rt, alloc, files, path) {
+        Ok(picks) => picks,
+        Err(fault) => return Err(fault),
+    };
+    record_picks(alloc, program, &picks, request)
+}
+
+/// What a run by picks came to. The size of the pieces is judged before.
+fn record_picks(
+    alloc: Global,
+    program: &Program,
+    picks: &Schedule,
+    request: &RecordRequest<'_>,
+) -> Result<RecordAnswer, Fault>
+    requires { IsPlanOf program.now.valid program.now.plan }
+    ensures recorded { IfOk result (λ answer. IsAnswerOf program.now.valid program.now.plan request.now (IsRunOf program.now.valid program.now.plan request.now picks.now) answer) }
+    ensures refused { IfErr result (IsRecordRefusal request.now.size) }
+{
+    if let Err(fault) = check_size(request.size) {
+        return Err(Fault::Pieces(fault));
+    }
+    let Program { valid, plan } = program;
+    let block = request.block;
+    let steps = request.steps;
+    match record_schedule(alloc, valid, plan, request.run, block, picks, steps) {
+        Ok(recording) => answered(alloc, recording, request),
+        Err(NoMemory) => Err(Fault::NoMemory),
+    }
+}
+
+/// The recording of a run of threads at once, with a timer that always or never says that a time is over.
+fn recording_by_threads<T: Threads + Wait + Sync>(
+    threads: &T,
+    alloc: Global,
+    program: &Program,
+    times_out: bool,
+    request: &RecordRequest<'_>,
+) -> Result<Recording, NoMemory>
+    requires { IsPlanOf program.now.valid program.now.plan }
+    ensures key { IfOk result (λ r. IsKeyOf program.now.valid program.now.plan request.now.run (Two request.now.block) r.key) }
+    ensures records { IfOk result (λ r. IsRunOfThreads program.now.valid program.now.plan request.now times_out r.recorded) }
+{
+    let Program { valid, plan } = program;
+    let RecordRequest {
+        run,
+        block,
+        steps,
+        ..
+    } = *request;
+    if times_out {
+        record_threads(
+            threads, alloc, valid, plan, run, block, steps, &AtOnce, &Unkept,
+        )
+    } else {
+        record_threads(
+            threads, alloc, valid, plan, run, block, steps, &Never, &Unkept,
+        )
+    }
+}
+
+/// What a run of threads at once came to. The size of the pieces is judged before.
+fn record_by_threads<T: Threads + Wait + Sync>(
+    threads: &T,
+    alloc: Global,
+    program: &Program,
+    times_out: bool,
+    request: &RecordRequest<'_>,
+) -> Result<RecordAnswer, Fault>
+    requires { IsPlanOf program.now.valid program.now.plan }
+    ensures recorded { IfOk result (λ answer. IsAnswerOf program.now.valid program.now.plan request.now (IsRunOfThreads program.now.valid program.now.plan request.now times_out) answer) }
+    ensures refused { IfErr result (IsRecordRefusal request.now.size) }
+{
+    if let Err(fault) = check_size(request.size) {
+        return Err(Fault::Pieces(fault));
+    }
+    match recording_by_threads(threads, alloc, program, times_out, request) {
+        Ok(recording) => answered(alloc, recording, request),
+        Err(NoMemory) => Err(Fault::NoMemory),
+    }
+}
+
+/// What a run came to in which the threads go on as was asked for.
+fn recorded_by<L: Log, T: Threads + Wait + Sync, F: Files>(
+    rt: &L,
+    threads: &T,
+    alloc: Global,
+    files: &mut F,
+    program: &Program,
+    request: &RecordRequest<'_>,
+) -> Result<RecordAnswer, Fault>
+    requires { IsPlanOf program.now.valid program.now.plan }
+    ensures recorded { IfOk result (λ answer. IsRecordedBy (F.holds files.old) program.now.valid program.now.plan request.now request.now.order answer) }
+    ensures refused { IfErr result (λ fault. IsOrderRefused (F.holds files.old) (F.fails files.old) request.now request.now.order fault) }
+{
+    match request.order {
+        RecordOrder::Schedule(path) => {
+            record_by_schedule(rt, alloc, files, program, path, request)
+        }
+        RecordOrder::Threads { times_out } => {
+            record_by_threads(threads, alloc, program, times_out, request)
+        }
+    }
+}
+
+/// What a run came to: its report, or the lines of its pieces, and which threads stopped at `--steps`. The module is
+/// read and judged, then the plan, then the schedule, if the threads go on by one, then the size of the pieces.
+pub fn record<L: Log, T: Threads + Wait + Sync, F: Files>(
+    rt: &L,
+    threads: &T,
+    alloc: Global,
+    files: &mut F,
+    request: &RecordRequest<'_>,
+) -> Result<RecordAnswer, Fault>
+    ensures recorded { IfOk result (λ answer. IsRecordAnswer (F.holds files.old) request.now answer) }
+    ensures refused { IfErr result (λ fault. IsRecordRefused (F.holds files.old) (F.fails files.old) request.now fault) }
+{
+    let program = match read_program(rt, alloc, files, request.module, request.plan) {
+        Ok(program) => program,
+        Err(fault) => return Err(fault),
+    };
+    recorded_by(rt, threads, alloc, files, &program, request)
+}
+
+/// The report of a recording, or the lines of its pieces, for which room is taken, and the line of the threads that
+/// stopped at `--steps`.
+fn written(
+    alloc: Global,
+    recording: Recording,
+    request: &RecordRequest<'_>,
+) -> Result<RecordAnswer, NoMemory>
+    requires some { 0 < request.now.size }
+    requires few { request.now.size ≤ 4096 }
+    ensures answer { IfOk result (λ answer. answer ≡ answer_of request.now recording) }
+{
+    let stopped = stopped_line(alloc, request.steps, recording.recorded().log())?;
+    if !request.report {
+        return RecordAnswer::of_lines(alloc, recording, request.size, stopped);
+    }
+    let text = report(alloc, recording.recorded().end())?;
+    Ok(RecordAnswer::of_text(text.into_bytes(), stopped))
+}
+
+/// The same, or the program's fault.
+fn answered(
+    alloc: Global,
+    recording: Recording,
+    request: &RecordRequest<'_>,
+) -> Result<RecordAnswer, Fault>
+    requires some { 0 < request.now.size }
+    requires few { request.now.size ≤ 4096 }
+    ensures answer { IfOk result (λ answer. answer ≡ answer_of request.now recording) }
+    ensures refused { IfErr result (IsRecordRefusal request.now.size) }
+{
+    match written(alloc, recording, request) {
+        Ok(answer) => Ok(answer),
+        Err(NoMemory) => Err(Fault::NoMemory),
+    }
+}

@@ -1,0 +1,119 @@
+//! The view of a replay that stops.
+
+ghost use Rattle.std.specs.Prelude.{◌+◌, ◌≤◌, length, OnOk, IfOk, IfErr, string_bytes};
+ghost use Rattle.block_objects.specs.SharedMemory.{shared_memory};
+ghost use Rattle.debug_views.specs.Text.{IsShown, IsView};
+ghost use Rattle.debug_views.specs.Values.{IsFault, memory_bytes};
+ghost use Rattle.event_core.specs.World.{world_of};
+ghost use Rattle.wasm_world.specs.ThreadCode.{thread_code};
+ghost use Rattle.wasm_world.specs.Plans.{IsPlanOf};
+ghost use Rattle.wasm_replay.specs.Replays.{HasWorld, IsOfRun};
+ghost use Rattle.debug_views.specs.Standing.{notes_if};
+ghost use Rattle.debug_views.specs.Views.{IsViewOfLog, IsNotViewed};
+
+use crate::fault::ViewFault;
+use crate::notes::notes_if;
+use crate::text::view;
+use crate::values::is_in_view;
+use event_core::World;
+use integer_machine::{ThreadState, memory_limits};
+use replay_breaks::{Break, Stopped, run_to};
+use replica::Log;
+use std::alloc::Global;
+use thiserror::Error;
+use wasm_replay::{Standing, Unreplayed, WasmReplayFault, open_replay};
+use wasm_types::Block;
+use wasm_world::{Plan, SharedSpace, Valid};
+
+/// Why a log is not viewed.
+#[derive(Clone, Copy, Debug, PartialEq, Eq, Error)]
+pub enum WasmViewFault {
+    /// Refusals 51, 55, 56 and 58: the log is not replayed to a stop.
+    #[error("{0}")]
+    Replay(Unreplayed),
+    /// Refusals 61 and 62: the view can't be shown.
+    #[error("{0}")]
+    View(ViewFault),
+}
+
+/// Shows a world at which a replay stopped, with where its threads stand if names are asked for. A range that passes
+/// the memory is refused before memory is wanted for names.
+fn show(
+    alloc: Global,
+    valid: &Valid,
+    world: &World<ThreadState<'_>, SharedSpace>,
+    block: Block,
+    stopped: Stopped,
+    breaks: &[Break],
+    names: bool,
+    from: u32,
+    len: u32,
+) -> Result<String, ViewFault>
+    requires { IsShown stopped breaks.now }
+    ensures view { IfOk result (λ text. IsView shared_memory thread_code (world_of world.now) block stopped breaks.now (notes_if names valid.now.source (world_of world.now).threads) from len (string_bytes text)) }
+    ensures within { IfOk result (λ text. from + len ≤ length (memory_bytes shared_memory (world_of world.now))) }
+    ensures fault { IfErr result (IsFault (memory_bytes shared_memory (world_of world.now)) from len) }
+{
+    if !is_in_view(world, from, len) {
+        return Err(ViewFault::OutOfView);
+    }
+    let Ok(notes) = notes_if(alloc, names, valid, world) else {
+        return Err(ViewFault::NoMemory);
+    };
+    view(
+        alloc,
+        world,
+        block,
+        stopped,
+        breaks,
+        notes.as_slice(),
+        from,
+        len,
+    )
+}
+
+/// Replays a log that was gathered, in this order, up to the first break that holds, or until no thread goes on, and
+/// shows the world at which it stops. The bytes shown are those from an address on, so many. On a log below that of a
+/// run of the module and plan, the values and threads of that world are recorded ones alone. Where names are asked for,
+/// behind the line of each thread stands where it is, by the names in the module's bytes. That the range passes that
+/// world's memory is said before any want of memory for its view.
+pub fn view_log(
+    alloc: Global,
+    valid: &Valid,
+    plan: &Plan,
+    log: &Log,
+    order: &[u32],
+    breaks: &[Break],
+    names: bool,
+    from: u32,
+    len: u32,
+) -> Result<String, WasmViewFault>
+    requires { IsPlanOf valid.now plan.now }
+    ensures of_run { OnOk result (IsOfRun valid.now plan.now log.now) }
+    // There is a world from which the runs of the log begin; of it speak the clauses below.
+    ensures has_world { HasWorld valid.now plan.now log.now }
+    ensures shown { IfOk result (λ text. IsViewOfLog valid.now plan.now log.now order.now breaks.now names from len (string_bytes text)) }
+    ensures refused { IfErr result (IsNotViewed valid.now plan.now log.now order.now breaks.now from len) }
+{
+    let mut replay = match open_replay(alloc, valid, plan, log) {
+        Ok(replay) => replay,
+        Err(fault) => {
+            let standing = Standing::unopened(valid, plan, log, fault);
+            return Err(WasmViewFault::Replay(Unreplayed { fault, standing }));
+        }
+    };
+    let stopped = run_to(alloc, &mut replay, order, breaks);
+    if let Stopped::Fault(fault) = stopped {
+        let standing = Standing::of(alloc, log, fault, Some(replay.world()));
+        let fault = WasmReplayFault::Replay(fault);
+        return Err(WasmViewFault::Replay(Unreplayed { fault, standing }));
+    }
+    let block = memory_limits(valid.module(), log.key().profile).block;
+    let world = replay.world();
+    match show(
+        alloc, valid, world, block, stopped, breaks, names, from, len,
+    ) {
+        Ok(text) => Ok(text),
+        Err(fault) => Err(WasmViewFault::View(fault)),
+    }
+}

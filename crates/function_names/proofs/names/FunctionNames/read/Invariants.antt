@@ -1,8 +1,0 @@
-use Rattle.std.proofs.Common.{◌≡◌, ◌-◌, ℕ}
-use Rattle.function_names.specs.Names.{entry_at, entries_of, whole_items, named_or}
-use Rattle.function_names.specs.Kept.{name_of}
-use Rattle.function_names.proofs.names.FunctionNames.read.Given as goal
-
--- the entries so far have named functions, and then those that are left
-abbrev pub invariant-loop : goal.invariant-loop
-invariant-loop l = (function : ℕ) → named_or (name_of l.self function) function (whole_items entry_at (l.count - l.counter) l.cursor.rest.now) ≡ named_or (name_of l.fn.self function) function (entries_of l.fn.cursor.rest.now)

@@ -1,3 +1,0 @@
-pub mod DoubleSteps
-pub mod FirstWrites
-pub mod Steps

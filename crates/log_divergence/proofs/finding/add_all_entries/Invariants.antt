@@ -1,9 +1,0 @@
--- The clashes so far and those of the threads that are left are all.
-use Rattle.std.proofs.Common.{◌≡◌, ◌++◌, ◌-◌}
-use Rattle.std.specs.List.{flat_map, range_with_len}
-use Rattle.replica.specs.Log.{items_at}
-use Rattle.log_divergence.specs.Divergence.{clash_of_item, entry_clashes}
-use Rattle.log_divergence.proofs.finding.add_all_entries.Given as goal
-
-abbrev pub invariant-loop-thread : goal.invariant-loop-thread
-invariant-loop-thread l = l.found.items ++ flat_map (λ t. flat_map (clash_of_item t) (items_at l.log t)) (range_with_len l.thread (16 - l.thread)) ≡ l.initial.found.items ++ entry_clashes l.log

@@ -1,7 +1,0 @@
-use Rattle.replica.specs.Log.{log_of}
-use Rattle.piece_channel.specs.Channels.{HasReceived}
-use Rattle.piece_channel.proofs.receiving.receive.Given as goal
-
--- as many pieces were received as there were rounds
-abbrev pub invariant-loop-received : goal.invariant-loop-received
-invariant-loop-received g l = HasReceived (log_of l.initial.replica) (log_of l.replica) l.received

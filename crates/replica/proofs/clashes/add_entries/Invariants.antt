@@ -1,0 +1,9 @@
+-- The clashes so far and those of the items that are left are all.
+use Rattle.std.proofs.Common.{◌≡◌, ◌++◌}
+use Rattle.std.specs.List.{flat_map}
+use Rattle.replica.specs.Log.{items_at}
+use Rattle.replica.specs.Divergence.{clash_of_item}
+use Rattle.replica.proofs.clashes.add_entries.Given as goal
+
+abbrev pub invariant-loop-place : goal.invariant-loop-place
+invariant-loop-place l = l.found.items ++ flat_map (clash_of_item l.thread) l.place-iterator ≡ l.initial.found.items ++ flat_map (clash_of_item l.thread) (items_at l.log l.thread)

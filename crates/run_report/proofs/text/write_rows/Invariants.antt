@@ -1,8 +1,0 @@
-use Rattle.std.proofs.Common.{◌≡◌, ◌++◌}
-use Rattle.std.specs.Prelude.{string_bytes}
-use Rattle.run_report.specs.Report.{rows_text}
-use Rattle.run_report.proofs.text.write_rows.Given as goal
-
--- the rows so far are written
-abbrev pub invariant-loop-row : goal.invariant-loop-row
-invariant-loop-row l = string_bytes l.text ≡ string_bytes l.fn.text ++ rows_text l.memory l.row

@@ -1,4 +1,0 @@
-pub mod Acts
-pub mod Asking
-pub mod Machine
-pub mod Runs

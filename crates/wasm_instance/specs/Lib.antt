@@ -1,4 +1,0 @@
-pub mod Memories
-pub mod Tables
-pub mod Globals
-pub mod Segments
