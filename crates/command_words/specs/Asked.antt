@@ -90,8 +90,8 @@ pub record IsViewAsked (rows : List Row) (v : ViewRequest) : Type 0 where
 
 -- a command and its values ask for this
 abbrev pub IsAsked : Text → List Row → Request → Type 0
-IsAsked name rows (Gather skips objects) = (name ≡ codes "gather") × (skips ≡ is_text (codes "true") (first_of (codes "skip") rows))
-    × (objects ≡ is_text (codes "true") (first_of (codes "objects") rows))
+IsAsked name rows (Gather skips objects contradictions) = (name ≡ codes "gather") × (skips ≡ is_text (codes "true") (first_of (codes "skip") rows))
+    × (objects ≡ is_text (codes "true") (first_of (codes "objects") rows)) × (contradictions ≡ is_text (codes "true") (first_of (codes "contradictions") rows))
 IsAsked name rows (Check path) = (name ≡ codes "check") × (first_of (codes "MODULE") rows ≡ Some path.now)
 IsAsked name rows (Record r) = (name ≡ codes "record") × IsRecordAsked rows r
 IsAsked name rows (Replay r by_threads) = (name ≡ codes "replay") × IsReplayAsked rows r × IsTurnsAsked rows by_threads

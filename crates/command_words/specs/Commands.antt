@@ -24,7 +24,7 @@ abbrev pub with_why : App → App
 with_why a = with_rule a (flag_rule (codes "why"))
 
 abbrev pub gather : App
-gather = with_why (with_rule (with_rule (new_app (codes "gather")) (flag_rule (codes "skip"))) (flag_rule (codes "objects")))
+gather = with_why (with_rule (with_rule (with_rule (new_app (codes "gather")) (flag_rule (codes "skip"))) (flag_rule (codes "objects"))) (flag_rule (codes "contradictions")))
 
 abbrev pub check : App
 check = with_why (with_rule (new_app (codes "check")) (file_rule (codes "MODULE")))

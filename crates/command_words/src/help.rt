@@ -64,6 +64,13 @@ a block, the waiters of a block, or the length of the memory, as in
 
   0.0 access w1@0/0; 1: bytes 0..63
 
+With --contradictions lines behind the counts say what no one run can have:
+
+  clash 0.1              two pieces claim place 1 of thread 0 differently
+  clash 0 end            two pieces claim the end of thread 0 differently
+  double w1@0 0.0 1.2    place 0 of thread 0 and place 2 of thread 1 both claim
+                         the write of object 1 that found version 0
+
 A whole log has as many ends as the run has threads, and 0 in the other counts.";
 
 /// How `gather` refuses.

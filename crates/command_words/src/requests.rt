@@ -70,11 +70,12 @@ pub struct ViewRequest<'a> {
 /// What a command line asks for.
 #[derive(Drop)]
 pub enum Request<'a> {
-    /// The listing of piece lines, whether those that cannot be joined are passed over, and whether it says which bytes
-    /// each object is.
+    /// The listing of piece lines, whether those that cannot be joined are passed over, whether it says which bytes each
+    /// object is, and whether it says what contradicts itself.
     Gather {
         skips: bool,
         objects: bool,
+        contradictions: bool,
     },
     /// The summary of the module in the file at this path.
     Check(&'a str),

@@ -191,6 +191,11 @@ static OF_GATHER: &[ArgumentRow] = &[
         takes: Takes::Nothing,
         help: "Say behind each entry which bytes its objects are",
     },
+    ArgumentRow {
+        name: "contradictions",
+        takes: Takes::Nothing,
+        help: "Say behind the counts what contradicts itself, a line each",
+    },
     WHY,
 ];
 

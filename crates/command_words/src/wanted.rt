@@ -293,6 +293,7 @@ pub(crate) fn request_of<'a>(
         "gather" => Ok(Ok(Request::Gather {
             skips: has_text(matches, "skip", "true"),
             objects: has_text(matches, "objects", "true"),
+            contradictions: has_text(matches, "contradictions", "true"),
         })),
         "check" => match value(matches, "MODULE") {
             Some(path) => Ok(Ok(Request::Check(path))),

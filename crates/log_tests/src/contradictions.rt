@@ -1,7 +1,10 @@
-//! Contradictions of logs that were gathered from few pieces.
+//! Contradictions of logs that were gathered from few pieces, and the lines that listings have for them.
 
+use byte_streams::{MemorySink, MemorySource};
 use log_pieces::read_line;
-use replica::{Diverging, EventAt, Replica, divergence};
+use replica::{
+    Diverging, EventAt, ListingForm, Replica, Skipped, divergence, gather, gather_skipping,
+};
 use std::alloc::Global;
 use std::test::Fail;
 use wasm_types::{Profile, RunKey};
@@ -80,7 +83,7 @@ fn contradictions_come_in_their_order(rt: HostRuntime) -> Result<(), Fail> {
         (&[FIRST, SECOND], &[]),
         (&[THIRD, FIRST], &[first_version]),
         (
-            &[FOURTH, THIRD, SECOND, FIRST, OTHER_END],
+            CONTRADICTING,
             &[clash(0, None), first_version, second_version],
         ),
         (
@@ -90,6 +93,136 @@ fn contradictions_come_in_their_order(rt: HostRuntime) -> Result<(), Fail> {
     ];
     for (lines, want) in rows {
         assert_eq!(rt; gathered(alloc, lines)?.as_slice(), want);
+    }
+    Ok(())
+}
+
+/// A listing that tells the contradictions of its log.
+pub(crate) const TELLING: ListingForm = ListingForm {
+    objects: false,
+    contradictions: true,
+};
+
+/// The pieces of two threads, which claim the end of thread 0 differently, and both writes of object 1 twice.
+pub(crate) const CONTRADICTING: &[&str] = &[FOURTH, THIRD, SECOND, FIRST, OTHER_END];
+
+/// Their listing, without its contradictions.
+const CONTRADICTING_LISTED: &str = "\
+run aaaaaaaaaaaaaaaaaaaaaaaaaaaaaaaaaaaaaaaaaaaaaaaaaaaaaaaaaaaaaaaa:1
+0.0 access w1@0/0
+0.1 access w1@1/0
+0 end clash
+1.0 access w1@0/0
+1.1 access w1@1/0
+1 end steps=8 places=2 i32 3
+ends 1 missing 0 strays 0 clashes 1
+";
+
+/// Their listing.
+pub(crate) const CONTRADICTING_TOLD: &str = "\
+run aaaaaaaaaaaaaaaaaaaaaaaaaaaaaaaaaaaaaaaaaaaaaaaaaaaaaaaaaaaaaaaa:1
+0.0 access w1@0/0
+0.1 access w1@1/0
+0 end clash
+1.0 access w1@0/0
+1.1 access w1@1/0
+1 end steps=8 places=2 i32 3
+ends 1 missing 0 strays 0 clashes 1
+clash 0 end
+double w1@0 0.0 1.0
+double w1@1 0.1 1.1
+";
+
+/// The listing of pieces that claim the first entry and the end of thread 0 differently.
+const CLASHES_TOLD: &str = "\
+run aaaaaaaaaaaaaaaaaaaaaaaaaaaaaaaaaaaaaaaaaaaaaaaaaaaaaaaaaaaaaaaa:1
+0.0 clash
+0.1 access w1@1/0
+0 end clash
+1.0 access w1@0/0
+ends 0 missing 0 strays 0 clashes 2
+clash 0.0
+clash 0 end
+";
+
+/// The same, and behind its one entry that is no clash which bytes its object is.
+const CLASHES_TOLD_WITH_OBJECTS: &str = "\
+run aaaaaaaaaaaaaaaaaaaaaaaaaaaaaaaaaaaaaaaaaaaaaaaaaaaaaaaaaaaaaaaa:1
+0.0 clash
+0.1 access w1@1/0; 1: bytes 0..63
+0 end clash
+1.0 access w1@0/0; 1: bytes 0..63
+ends 0 missing 0 strays 0 clashes 2
+clash 0.0
+clash 0 end
+";
+
+/// The listing of pieces that claim one write twice and nothing else.
+const DOUBLE_TOLD: &str = "\
+run aaaaaaaaaaaaaaaaaaaaaaaaaaaaaaaaaaaaaaaaaaaaaaaaaaaaaaaaaaaaaaaa:1
+0.0 access w1@0/0
+1.0 access w1@0/0
+ends 0 missing 0 strays 0 clashes 0
+double w1@0 0.0 1.0
+";
+
+/// The listing of pieces that agree.
+const AGREEING_TOLD: &str = "\
+run aaaaaaaaaaaaaaaaaaaaaaaaaaaaaaaaaaaaaaaaaaaaaaaaaaaaaaaaaaaaaaaa:1
+0.0 access w1@0/0
+0.1 access w1@1/0
+0 end steps=8 places=2 i32 1
+ends 1 missing 0 strays 0 clashes 0
+";
+
+/// The listing of no piece.
+const NOTHING_TOLD: &str = "run none\nends 0 missing 0 strays 0 clashes 0\n";
+
+/// The text of pieces, a line each.
+pub(crate) fn text_of(alloc: Global, lines: &[&str]) -> Result<String, Fail> {
+    let mut text = String::new(alloc);
+    for line in lines {
+        text.push_str(line)?;
+        text.push_str("\n")?;
+    }
+    Ok(text)
+}
+
+/// Whether pieces are listed so, also where lines that cannot be joined would be passed over.
+fn is_listed(alloc: Global, lines: &[&str], form: ListingForm, want: &str) -> Result<bool, Fail> {
+    let text = text_of(alloc, lines)?;
+    let mut source = MemorySource::new(text.as_bytes(), 1000, None);
+    let mut sink = MemorySink::new(alloc, 1000, None);
+    gather(alloc, &mut source, &mut sink, form)?;
+    let mut again = MemorySource::new(text.as_bytes(), 1000, None);
+    let mut other = MemorySink::new(alloc, 1000, None);
+    let skipped = gather_skipping(alloc, &mut again, &mut other, form)?;
+    Ok(
+        skipped == Skipped { bad: 0, foreign: 0 }
+            && sink.taken() == want.as_bytes()
+            && other.taken() == want.as_bytes(),
+    )
+}
+
+#[test]
+fn listings_tell_contradictions_where_the_form_asks(rt: HostRuntime) -> Result<(), Fail> {
+    let alloc = rt.alloc();
+    let both = ListingForm {
+        objects: true,
+        ..TELLING
+    };
+    let clashing: &[&str] = &[THIRD, FIRST, OTHER_END, SECOND, OTHER_FIRST];
+    let rows: [(&[&str], ListingForm, &str); 7] = [
+        (CONTRADICTING, TELLING, CONTRADICTING_TOLD),
+        (CONTRADICTING, ListingForm::default(), CONTRADICTING_LISTED),
+        (clashing, TELLING, CLASHES_TOLD),
+        (clashing, both, CLASHES_TOLD_WITH_OBJECTS),
+        (&[THIRD, FIRST], TELLING, DOUBLE_TOLD),
+        (&[FIRST, SECOND], TELLING, AGREEING_TOLD),
+        (&[], TELLING, NOTHING_TOLD),
+    ];
+    for (lines, form, want) in rows {
+        assert!(rt; is_listed(alloc, lines, form, want)?, "{want}");
     }
     Ok(())
 }

@@ -53,24 +53,28 @@ fn is_listed(
 #[test]
 fn objects_are_told_where_the_form_asks(rt: HostRuntime) -> Result<(), Fail> {
     let alloc = rt.alloc();
+    let with_objects = ListingForm {
+        objects: true,
+        ..ListingForm::default()
+    };
     let plain = b"\
 run aaaaaaaaaaaaaaaaaaaaaaaaaaaaaaaaaaaaaaaaaaaaaaaaaaaaaaaaaaaaaaaa:1
 0.0 access r0@0 r1@7 w4@2/1
 ends 0 missing 0 strays 0 clashes 0
 ";
-    assert!(rt; is_listed(alloc, Profile::One, ListingForm::Plain, plain)?);
+    assert!(rt; is_listed(alloc, Profile::One, ListingForm::default(), plain)?);
     let told = b"\
 run aaaaaaaaaaaaaaaaaaaaaaaaaaaaaaaaaaaaaaaaaaaaaaaaaaaaaaaaaaaaaaaa:1
 0.0 access r0@0 r1@7 w4@2/1; 0: length; 1: bytes 0..63; 4: waiters 64..127
 ends 0 missing 0 strays 0 clashes 0
 ";
-    assert!(rt; is_listed(alloc, Profile::One, ListingForm::WithObjects, told)?);
+    assert!(rt; is_listed(alloc, Profile::One, with_objects, told)?);
     let larger = b"\
 run aaaaaaaaaaaaaaaaaaaaaaaaaaaaaaaaaaaaaaaaaaaaaaaaaaaaaaaaaaaaaaaa:1:4096
 0.0 access r0@0 r1@7 w4@2/1; 0: length; 1: bytes 0..4095; 4: waiters 4096..8191
 ends 0 missing 0 strays 0 clashes 0
 ";
     let profile = Profile::Two(Block::new(4096)?);
-    assert!(rt; is_listed(alloc, profile, ListingForm::WithObjects, larger)?);
+    assert!(rt; is_listed(alloc, profile, with_objects, larger)?);
     Ok(())
 }

@@ -2,6 +2,7 @@
 //! `bench/test_growths.py` does it, the call answers so, or does what it does with ample memory. Without it none is
 //! refused, and the tests pass, too.
 
+use crate::contradictions::{CONTRADICTING, CONTRADICTING_TOLD, TELLING, text_of};
 use crate::replicas::{WHOLE, WHOLE_TEXT, delivered};
 use byte_streams::{MemorySink, MemorySource, Sink, Source};
 use log_pieces::{End, Piece};
@@ -113,12 +114,34 @@ fn gathering_with_refused_memory_writes_no_other_bytes(rt: HostRuntime) -> Resul
     let alloc = rt.alloc();
     let mut source = MemorySource::new(WHOLE.as_bytes(), 100, None);
     let mut sink = MemorySink::new(alloc, 10, None);
-    match gather(alloc, &mut source, &mut sink, ListingForm::Plain) {
+    match gather(alloc, &mut source, &mut sink, ListingForm::default()) {
         Ok(()) => assert_eq!(rt; sink.taken(), WHOLE_TEXT.as_bytes()),
         // A sink over memory fails where its own memory is refused.
         Err(GatherFault::SinkFailed) => {
             assert_eq!(rt; sink.failures(), 1);
             assert!(rt; WHOLE_TEXT.as_bytes().starts_with(sink.taken()));
+        }
+        Err(fault) => {
+            assert_eq!(rt; fault, GatherFault::NoMemory);
+            assert!(rt; sink.taken().is_empty());
+        }
+    }
+    assert_eq!(rt; source.failures(), 0);
+    Ok(())
+}
+
+#[test]
+fn contradictions_with_refused_memory_are_an_answer(rt: HostRuntime) -> Result<(), Fail> {
+    let alloc = rt.alloc();
+    let text = text_of(alloc, CONTRADICTING)?;
+    let mut source = MemorySource::new(text.as_bytes(), 100, None);
+    let mut sink = MemorySink::new(alloc, 10, None);
+    match gather(alloc, &mut source, &mut sink, TELLING) {
+        Ok(()) => assert_eq!(rt; sink.taken(), CONTRADICTING_TOLD.as_bytes()),
+        // A sink over memory fails where its own memory is refused.
+        Err(GatherFault::SinkFailed) => {
+            assert_eq!(rt; sink.failures(), 1);
+            assert!(rt; CONTRADICTING_TOLD.as_bytes().starts_with(sink.taken()));
         }
         Err(fault) => {
             assert_eq!(rt; fault, GatherFault::NoMemory);

@@ -150,7 +150,7 @@ fn no_text() -> Gathered {
 fn gather_over(alloc: Global, text: &str, devices: &Devices, wanted: &[u8]) -> Gathered {
     let mut source = MemorySource::new(text.as_bytes(), devices.most, devices.source_fails_at);
     let mut sink = MemorySink::new(alloc, devices.most, devices.sink_fails_at);
-    let answer = gather(alloc, &mut source, &mut sink, ListingForm::Plain);
+    let answer = gather(alloc, &mut source, &mut sink, ListingForm::default());
     Gathered {
         answer,
         source_failures: source.failures(),

@@ -45,9 +45,9 @@ fn run_over(alloc: Global, text: &[u8], devices: &Devices, skips: bool) -> Gathe
     let mut source = MemorySource::new(text, devices.most, devices.source_fails_at);
     let mut sink = MemorySink::new(alloc, devices.most, devices.sink_fails_at);
     let answer = if skips {
-        gather_skipping(alloc, &mut source, &mut sink, ListingForm::Plain)
+        gather_skipping(alloc, &mut source, &mut sink, ListingForm::default())
     } else {
-        match gather(alloc, &mut source, &mut sink, ListingForm::Plain) {
+        match gather(alloc, &mut source, &mut sink, ListingForm::default()) {
             Ok(()) => Ok(Skipped { bad: 0, foreign: 0 }),
             Err(fault) => Err(fault),
         }
@@ -244,7 +244,7 @@ fn skipping_with_refused_memory_writes_no_other_bytes(rt: HostRuntime) -> Result
     let alloc = rt.alloc();
     let mut source = MemorySource::new(WHOLE.as_bytes(), 100, None);
     let mut sink = MemorySink::new(alloc, 10, None);
-    match gather_skipping(alloc, &mut source, &mut sink, ListingForm::Plain) {
+    match gather_skipping(alloc, &mut source, &mut sink, ListingForm::default()) {
         Ok(skipped) => {
             assert_eq!(rt; skipped, Skipped { bad: 0, foreign: 0 });
             assert_eq!(rt; sink.taken(), WHOLE_TEXT.as_bytes());

@@ -4,7 +4,7 @@ ghost use Rattle.std.specs.Prelude.{◌≡◌, ℕ, ◌+◌, ◌<◌, ◌≤◌,
 ghost use Rattle.log_pieces.specs.Piece.{PieceValue};
 ghost use Rattle.replica.specs.Gathered.{IsText, IsListing};
 ghost use Rattle.replica.specs.declared.fault.GatherFault.TheVariants as faults;
-ghost use Rattle.replica.specs.declared.form.ListingForm.TheVariants.{Plain};
+ghost use Rattle.replica.specs.Listing.{plain};
 
 use crate::fitful::{FitfulReader, FitfulWriter, FullWriter};
 use byte_streams::{Failed, Sink, Source, StandardSink, StandardSource, write_all};
@@ -42,12 +42,12 @@ fn gathered<R: Read + Drop, W: Write>(
     output: W,
 ) -> (Result<(), GatherFault>, W)
     ensures listed { OnOk result.0 ((text held : List ℕ) → R.remaining input ≡ Some text → W.contents output ≡ Some held
-        → (pieces : List PieceValue) × (listing : List ℕ) × IsText text pieces × IsListing Plain pieces listing × (W.contents result.1 ≡ Some (held ++ listing))) }
+        → (pieces : List PieceValue) × (listing : List ℕ) × IsText text pieces × IsListing plain pieces listing × (W.contents result.1 ≡ Some (held ++ listing))) }
     ensures unwritten { OnErr result.0 ((result.0 ≡ Err faults.SinkFailed → ⊥) → W.contents result.1 ≡ W.contents output) }
 {
     let mut source = StandardSource::new(input);
     let mut sink = StandardSink::new(output);
-    let answer = gather(alloc, &mut source, &mut sink, ListingForm::Plain);
+    let answer = gather(alloc, &mut source, &mut sink, ListingForm::default());
     (answer, sink.into_inner())
 }
 

@@ -47,9 +47,9 @@ module _ (holds : List ℕ → List ℕ → Type 0) (fails brought : List ℕ �
   shown_done asked asks text items counted said (Err fault) is same done shown = tt
 
   -- so is a listing
-  pub gather_done : (asked : Request) (objects : Bool) (counted : Skipped → Type 0) (said : List ℕ → Type 0) (listed : List ℕ) → asked ≡ request.Gather false objects → IsListed (form_of objects) brought ended listed → said []
+  pub gather_done : (asked : Request) (objects contradictions : Bool) (counted : Skipped → Type 0) (said : List ℕ → Type 0) (listed : List ℕ) → asked ≡ request.Gather false objects contradictions → IsListed (form_of objects contradictions) brought ended listed → said []
       → took listed → IsShown took (IsDone holds fails brought ended broke counted said asked)
-  gather_done asked objects counted said listed is done none shown = subst (λ (q : Request). IsShown took (IsDone holds fails brought ended broke counted said q)) (sym is) (listed, (done, none), shown)
+  gather_done asked objects contradictions counted said listed is done none shown = subst (λ (q : Request). IsShown took (IsDone holds fails brought ended broke counted said q)) (sym is) (listed, (done, none), shown)
 
   -- a recording is done where its text was shown, and its line told
   pub record_done : (asked : Request) (r : RecordRequest) (answer : AnswerAt) (counted : Skipped → Type 0) (said : List ℕ → Type 0) {T : Type 0} (result : Result T Fault) → asked ≡ request.Record r
@@ -70,49 +70,49 @@ module _ (holds : List ℕ → List ℕ → Type 0) (fails brought : List ℕ �
       subst (λ (q : Request). IsStopped holds fails brought ended broke took unwritten unwritable q fault) (sym is) (inl (refused, kept))
 
   -- gathering stops at what the source brought, at its failure, or at the output's
-  module _ {T : Type 0} (objects : Bool) where
+  module _ {T : Type 0} (objects contradictions : Bool) where
     stops : (fault : GatherFault)
         → ((n : ℕ) (reason : LineFault) → ◌≡◌ {A = Result T GatherFault} (Err fault) (Err (gathering.BadLine n reason)) → (text : List ℕ) × brought text × IsBadLine ended text n)
         → ((n : ℕ) (own first : RunKey) → ◌≡◌ {A = Result T GatherFault} (Err fault) (Err (gathering.OtherRun n own first)) → (text : List ℕ) × brought text × IsOtherRun text n own first)
         → (◌≡◌ {A = Result T GatherFault} (Err fault) (Err gathering.SourceFailed) → ((text : List ℕ) × brought text × IsCutText text) × broke)
-        → (◌≡◌ {A = Result T GatherFault} (Err fault) (Err gathering.SinkFailed) → IsCut took (IsListed (form_of objects) brought ended) × unwritable)
+        → (◌≡◌ {A = Result T GatherFault} (Err fault) (Err gathering.SinkFailed) → IsCut took (IsListed (form_of objects contradictions) brought ended) × unwritable)
         → ((◌≡◌ {A = Result T GatherFault} (Err fault) (Err gathering.SinkFailed) → ⊥) → unwritten)
-        → IsStopped holds fails brought ended broke took unwritten unwritable (request.Gather false objects) (fault_of fault)
+        → IsStopped holds fails brought ended broke took unwritten unwritable (request.Gather false objects contradictions) (fault_of fault)
     stops (gathering.BadLine n reason) bad other source sink kept = inl (bad n reason refl, kept (λ e. absurd cc))
     stops (gathering.OtherRun n own first) bad other source sink kept = inl (other n own first refl, kept (λ e. absurd cc))
     stops gathering.NoMemory bad other source sink kept = inl (tt, kept (λ e. absurd cc))
     stops gathering.SourceFailed bad other source sink kept = inl (source refl, kept (λ e. absurd cc))
     stops gathering.SinkFailed bad other source sink kept = let s = sink refl in inr (refl, s.1, (s.0.0, s.0.1, s.0.2, (s.0.3, tt), s.0.4, s.0.5))
 
-    pub gather_stops : (asked : Request) (told : Fault) (fault : GatherFault) → asked ≡ request.Gather false objects → told ≡ fault_of fault
+    pub gather_stops : (asked : Request) (told : Fault) (fault : GatherFault) → asked ≡ request.Gather false objects contradictions → told ≡ fault_of fault
         → ((n : ℕ) (reason : LineFault) → ◌≡◌ {A = Result T GatherFault} (Err fault) (Err (gathering.BadLine n reason)) → (text : List ℕ) × brought text × IsBadLine ended text n)
         → ((n : ℕ) (own first : RunKey) → ◌≡◌ {A = Result T GatherFault} (Err fault) (Err (gathering.OtherRun n own first)) → (text : List ℕ) × brought text × IsOtherRun text n own first)
         → (◌≡◌ {A = Result T GatherFault} (Err fault) (Err gathering.SourceFailed) → ((text : List ℕ) × brought text × IsCutText text) × broke)
-        → (◌≡◌ {A = Result T GatherFault} (Err fault) (Err gathering.SinkFailed) → IsCut took (IsListed (form_of objects) brought ended) × unwritable)
+        → (◌≡◌ {A = Result T GatherFault} (Err fault) (Err gathering.SinkFailed) → IsCut took (IsListed (form_of objects contradictions) brought ended) × unwritable)
         → ((◌≡◌ {A = Result T GatherFault} (Err fault) (Err gathering.SinkFailed) → ⊥) → unwritten)
         → IsStopped holds fails brought ended broke took unwritten unwritable asked told
     gather_stops asked told fault is tells bad other source sink kept =
         subst (λ (r : Request). IsStopped holds fails brought ended broke took unwritten unwritable r told) (sym is)
-        (subst (IsStopped holds fails brought ended broke took unwritten unwritable (request.Gather false objects)) (sym tells) (stops fault bad other source sink kept))
+        (subst (IsStopped holds fails brought ended broke took unwritten unwritable (request.Gather false objects contradictions)) (sym tells) (stops fault bad other source sink kept))
 
   -- gathering past bad lines stops at the source's failure, or at the output's
-  module _ {T : Type 0} (objects : Bool) where
+  module _ {T : Type 0} (objects contradictions : Bool) where
     skipping : (fault : GatherFault) → IsDeviceFault fault
         → (◌≡◌ {A = Result T GatherFault} (Err fault) (Err gathering.SourceFailed) → broke)
-        → (◌≡◌ {A = Result T GatherFault} (Err fault) (Err gathering.SinkFailed) → IsCut took (IsListedSkipping (form_of objects) brought ended (λ skipped. Unit {0})) × unwritable)
+        → (◌≡◌ {A = Result T GatherFault} (Err fault) (Err gathering.SinkFailed) → IsCut took (IsListedSkipping (form_of objects contradictions) brought ended (λ skipped. Unit {0})) × unwritable)
         → ((◌≡◌ {A = Result T GatherFault} (Err fault) (Err gathering.SinkFailed) → ⊥) → unwritten)
-        → IsStopped holds fails brought ended broke took unwritten unwritable (request.Gather true objects) (fault_of fault)
+        → IsStopped holds fails brought ended broke took unwritten unwritable (request.Gather true objects contradictions) (fault_of fault)
     skipping (gathering.BadLine n reason) device source sink kept = absurd device
     skipping (gathering.OtherRun n own first) device source sink kept = absurd device
     skipping gathering.NoMemory device source sink kept = inl (tt, kept (λ e. absurd cc))
     skipping gathering.SourceFailed device source sink kept = inl (source refl, kept (λ e. absurd cc))
     skipping gathering.SinkFailed device source sink kept = let s = sink refl in inr (refl, s.1, s.0)
 
-    pub skipping_stops : (asked : Request) (told : Fault) (fault : GatherFault) → asked ≡ request.Gather true objects → told ≡ fault_of fault → IsDeviceFault fault
+    pub skipping_stops : (asked : Request) (told : Fault) (fault : GatherFault) → asked ≡ request.Gather true objects contradictions → told ≡ fault_of fault → IsDeviceFault fault
         → (◌≡◌ {A = Result T GatherFault} (Err fault) (Err gathering.SourceFailed) → broke)
-        → (◌≡◌ {A = Result T GatherFault} (Err fault) (Err gathering.SinkFailed) → IsCut took (IsListedSkipping (form_of objects) brought ended (λ skipped. Unit {0})) × unwritable)
+        → (◌≡◌ {A = Result T GatherFault} (Err fault) (Err gathering.SinkFailed) → IsCut took (IsListedSkipping (form_of objects contradictions) brought ended (λ skipped. Unit {0})) × unwritable)
         → ((◌≡◌ {A = Result T GatherFault} (Err fault) (Err gathering.SinkFailed) → ⊥) → unwritten)
         → IsStopped holds fails brought ended broke took unwritten unwritable asked told
     skipping_stops asked told fault is tells device source sink kept =
         subst (λ (r : Request). IsStopped holds fails brought ended broke took unwritten unwritable r told) (sym is)
-        (subst (IsStopped holds fails brought ended broke took unwritten unwritable (request.Gather true objects)) (sym tells) (skipping fault device source sink kept))
+        (subst (IsStopped holds fails brought ended broke took unwritten unwritable (request.Gather true objects contradictions)) (sym tells) (skipping fault device source sink kept))

@@ -8,7 +8,6 @@ use Rattle.log_pieces.specs.Piece.{PieceValue}
 use Rattle.replica.specs.Gathered.{IsText, IsListing, IsBadLine, IsOtherRun, IsCutText}
 use Rattle.replica.specs.Judged.{AreJudged, IsSkipped}
 use Rattle.replica.specs.declared.form.ListingForm.{ListingForm}
-use Rattle.replica.specs.declared.form.ListingForm.TheVariants.{Plain, WithObjects}
 use Rattle.replica.specs.declared.skipping.Skipped.{Skipped}
 use Rattle.replica.specs.declared.fault.GatherFault.{GatherFault}
 use Rattle.replica.specs.declared.fault.GatherFault.TheVariants as gathering
@@ -29,10 +28,9 @@ abbrev pub fault_of : GatherFault → Fault
 fault_of gathering.SinkFailed = SinkFailed
 fault_of fault = Gather fault
 
--- what a listing says of each entry
-abbrev pub form_of : Bool → ListingForm
-form_of false = Plain
-form_of true = WithObjects
+-- what a listing says
+abbrev pub form_of : Bool → Bool → ListingForm
+form_of objects contradictions = record { objects = objects; contradictions = contradictions }
 
 module _ {Sink : Type 0} (takes : List ℕ → Sink → Type 0) where
   -- a beginning of the text was taken
@@ -121,8 +119,8 @@ module _ (holds : List ℕ → List ℕ → Type 0) (fails : List ℕ → Type 0
   -- the text of a command that is done; `counted` says that the numbers of lines passed over were told, and `said` that
   -- a recording's line of the threads that stopped was, or nothing
   abbrev pub IsDone : (Skipped → Type 0) → (List ℕ → Type 0) → Request → List ℕ → Type 0
-  IsDone counted said (request.Gather false objects) text = IsListed (form_of objects) brought ended text × said []
-  IsDone counted said (request.Gather true objects) text = IsListedSkipping (form_of objects) brought ended counted text
+  IsDone counted said (request.Gather false objects contradictions) text = IsListed (form_of objects contradictions) brought ended text × said []
+  IsDone counted said (request.Gather true objects contradictions) text = IsListedSkipping (form_of objects contradictions) brought ended counted text
   IsDone counted said (request.Check path) text = IsChecked (holds path.now) text × said []
   IsDone counted said (request.Record r) text = (answer : AnswerAt) × IsRecordAnswer holds r answer × (text ≡ answer.text) × said answer.stopped
   IsDone counted said (request.Replay r by_threads) text = IsReplayedText holds r text × said []
@@ -130,8 +128,8 @@ module _ (holds : List ℕ → List ℕ → Type 0) (fails : List ℕ → Type 0
 
   -- when each fault is answered
   abbrev pub IsRefused : Request → Fault → Type 0
-  IsRefused (request.Gather false objects) fault = IsGatherRefused brought ended broke fault
-  IsRefused (request.Gather true objects) fault = IsSkippingRefused broke fault
+  IsRefused (request.Gather false objects contradictions) fault = IsGatherRefused brought ended broke fault
+  IsRefused (request.Gather true objects contradictions) fault = IsSkippingRefused broke fault
   IsRefused (request.Check path) fault = IsCheckRefused (holds path.now) (fails path.now) fault
   IsRefused (request.Record r) fault = IsRecordRefused holds fails r fault
   IsRefused (request.Replay r by_threads) fault = IsReplayRefused holds fails r by_threads fault

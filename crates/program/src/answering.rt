@@ -125,14 +125,13 @@ fn tell_skipped<E: Sink>(errors: &mut E, skipped: &Skipped)
     let _ = write_all(errors, line.as_str().as_bytes());
 }
 
-/// What a listing says of each entry.
-fn form_of(objects: bool) -> ListingForm
-    ensures { result ≡ form_of objects }
+/// What a listing says.
+fn form_of(objects: bool, contradictions: bool) -> ListingForm
+    ensures { result ≡ form_of objects contradictions }
 {
-    if objects {
-        ListingForm::WithObjects
-    } else {
-        ListingForm::Plain
+    ListingForm {
+        objects,
+        contradictions,
     }
 }
 
@@ -190,17 +189,22 @@ fn perform<L: Log, T: Threads + Wait + Sync, F: Files, R: Source, W: Sink, E: Si
         Request::Gather {
             skips: false,
             objects,
-        } => match gather(alloc, source, output, form_of(*objects)) {
+            contradictions,
+        } => match gather(alloc, source, output, form_of(*objects, *contradictions)) {
             Ok(()) => Ok(()),
             Err(fault) => Err(fault_of(fault)),
         },
         Request::Gather {
             skips: true,
             objects,
-        } => match gather_and_tell(alloc, source, output, errors, form_of(*objects)) {
-            Ok(()) => Ok(()),
-            Err(fault) => Err(fault_of(fault)),
-        },
+            contradictions,
+        } => {
+            let form = form_of(*objects, *contradictions);
+            match gather_and_tell(alloc, source, output, errors, form) {
+                Ok(()) => Ok(()),
+                Err(fault) => Err(fault_of(fault)),
+            }
+        }
         Request::Check(path) => match check(rt, alloc, files, path) {
             Ok(text) => show(output, &text),
             Err(fault) => Err(fault),

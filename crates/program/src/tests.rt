@@ -61,6 +61,13 @@ const MIXED: &str = "zz\n\
     49525001bbbbbbbbbbbbbbbbbbbbbbbbbbbbbbbbbbbbbbbbbbbbbbbbbbbbbbbbbbbbbbbb01000000000000000300000000000001030000000000000002\n\
     \n";
 
+/// Two pieces, the first entries of threads 0 and 1, which both claim the write of object 1 that found version 0.
+const TWICE_WRITTEN: &str = "\
+    49525001aaaaaaaaaaaaaaaaaaaaaaaaaaaaaaaaaaaaaaaaaaaaaaaaaaaaaaaaaaaaaaaa0100000000000000000000\
+    00000100000001010000000100000000000000000000000000000000\n\
+    49525001aaaaaaaaaaaaaaaaaaaaaaaaaaaaaaaaaaaaaaaaaaaaaaaaaaaaaaaaaaaaaaaa0100000000000000010000\
+    00000100000001010000000100000000000000000000000000000000\n";
+
 /// A file of which no read fails.
 const fn file<'a>(path: &'a str, bytes: &'a [u8]) -> MemoryFile<'a> {
     MemoryFile {
@@ -250,6 +257,40 @@ fn refuses_where_reading_or_writing_fails(rt: HostRuntime) {
         let done = run_on(&rt, rt.alloc(), case);
         assert!(rt; is_done(&done, 1, *output, *errors, ""), "{errors}");
     }
+}
+
+/// Words, and what is written behind the entries that were written twice.
+const TOLD: &[(&[&str], &str)] = &[
+    (&["wreplay", "gather"], ""),
+    (
+        &["wreplay", "gather", "--contradictions"],
+        "double w1@0 0.0 1.0\n",
+    ),
+];
+
+#[test]
+fn tells_contradictions_where_it_is_asked_to(rt: HostRuntime) -> Result<(), Fail> {
+    let rows = TOLD;
+    for (words, told) in rows {
+        let case = Case {
+            words: *words,
+            lines: TWICE_WRITTEN,
+            read_fails_at: None,
+            most: 65536,
+            write_fails_at: None,
+        };
+        let listing = format!(in rt.alloc();
+            "\
+run aaaaaaaaaaaaaaaaaaaaaaaaaaaaaaaaaaaaaaaaaaaaaaaaaaaaaaaaaaaaaaaa:1
+0.0 access w1@0/0
+1.0 access w1@0/0
+ends 0 missing 0 strays 0 clashes 0
+{told}"
+        )?;
+        let done = run_on(&rt, rt.alloc(), case);
+        assert!(rt; is_done(&done, 0, listing.as_str(), "", ""), "{told}");
+    }
+    Ok(())
 }
 
 #[test]

@@ -1,5 +1,6 @@
--- The listing of a log: the run, by rising thread its items by rising place and its end, and the counts.
-use Rattle.std.specs.Prelude.{ℕ, suc, List, [], ◌∷◌, ◌++◌, Option, Some, None, codes}
+-- The listing of a log: the run, by rising thread its items by rising place and its end, the counts, and the lines of
+-- its contradictions where the form tells of them.
+use Rattle.std.specs.Prelude.{ℕ, suc, List, [], ◌∷◌, ◌++◌, Option, Some, None, false, codes}
 use Rattle.std.specs.List.{flat_map}
 use Rattle.std.specs.Fmt.{decimal}
 use Rattle.wasm_types.specs.Text.{key_text}
@@ -14,6 +15,7 @@ use Rattle.replica.specs.declared.log.Log.{Log}
 use Rattle.replica.specs.Counts.{ends, missing, strays, clashes}
 use Rattle.replica.specs.declared.form.ListingForm.{ListingForm}
 use Rattle.replica.specs.Objects.{blocks_of, objects_text}
+use Rattle.replica.specs.Contradictions.{contradictions_text}
 
 abbrev pub item_text : Flat Entry → List ℕ
 item_text (Known entry) = entry_text entry
@@ -43,8 +45,13 @@ abbrev pub counts_line : ℕ → ℕ → ℕ → ℕ → List ℕ
 counts_line ends missing strays clashes =
     codes "ends " ++ decimal ends ++ codes " missing " ++ decimal missing ++ codes " strays " ++ decimal strays ++ codes " clashes " ++ decimal clashes ++ 10 ∷ []
 
+-- the form that says nothing more
+abbrev pub plain : ListingForm
+plain = record { objects = false; contradictions = false }
+
 abbrev pub listing : ListingForm → Log → List ℕ
-listing form log = codes "run " ++ key_text log.key ++ 10 ∷ [] ++ lines_from (blocks_of form log.key.profile) 0 log.threads ++ counts_line (ends log) (missing log) (strays log) (clashes log)
+listing form log = codes "run " ++ key_text log.key ++ 10 ∷ [] ++ lines_from (blocks_of form log.key.profile) 0 log.threads
+    ++ counts_line (ends log) (missing log) (strays log) (clashes log) ++ contradictions_text form log
 
 -- the listing where no piece came
 abbrev pub empty_listing : List ℕ

@@ -10,12 +10,10 @@ use Rattle.rw_objects.specs.Touch.{object_of}
 use Rattle.join_laws.specs.declared.flat.Flat.{Flat}
 use Rattle.join_laws.specs.declared.flat.Flat.TheVariants.{Known, Clash}
 use Rattle.replica.specs.declared.form.ListingForm.{ListingForm}
-use Rattle.replica.specs.declared.form.ListingForm.TheVariants.{Plain, WithObjects}
 
 -- the power by which objects are told, where the form tells of them
 abbrev pub blocks_of : ListingForm → Profile → Option ℕ
-blocks_of Plain profile = None
-blocks_of WithObjects profile = Some (block_power profile)
+blocks_of form profile = if form.objects then Some (block_power profile) else None
 
 -- the first byte of the block of an object, or of a queue
 abbrev pub block_first : ℕ → ℕ → ℕ

@@ -8,21 +8,21 @@ use Rattle.program.proofs.answering.perform.Goals as goal
 
 pub returns-in-Err-clause-stopped : goal.returns-in-Err-clause-stopped
 returns-in-Err-clause-stopped g c =
-    skipping_stops _ _ _ _ _ _ _ _ c.in-Gather-true-default.objects c.args.request.now c.fault_of.result c.in-Err.fault (cc (c.in-Gather-true-default.is)) c.fault_of.ensures
+    skipping_stops _ _ _ _ _ _ _ _ c.in-Gather-true-default-default.objects c.in-Gather-true-default-default.contradictions c.args.request.now c.fault_of.result c.in-Err.fault (cc (c.in-Gather-true-default-default.is)) c.fault_of.ensures
     c.in-Err.ensures.errors c.in-Err.ensures.source_failed
     (λ e. let s = c.in-Err.ensures.sink_failed e in
     let d = s.0.3 in
-    ((s.0.0, s.0.1, s.0.2, record { text = d.text; came = d.came; end = d.end; lines = d.lines; judged = d.judged; skipped = d.skipped; kept = d.kept; is_skipped = d.is_skipped; is_listing = subst (λ (f : ListingForm). IsListing f d.kept s.0.0) c.form_of.ensures d.is_listing; told = d.told }, s.0.4, s.0.5), s.1))
+    ((s.0.0, s.0.1, s.0.2, record { text = d.text; came = d.came; end = d.end; lines = d.lines; judged = d.judged; skipped = d.skipped; kept = d.kept; is_skipped = d.is_skipped; is_listing = subst (λ (f : ListingForm). IsListing f d.kept s.0.0) c.form_of-form.ensures d.is_listing; told = d.told }, s.0.4, s.0.5), s.1))
     c.in-Err.ensures.unwritten
 
 pub returns-in-Err-gather-clause-stopped : goal.returns-in-Err-gather-clause-stopped
 returns-in-Err-gather-clause-stopped g c =
-    gather_stops _ _ _ _ _ _ _ _ c.in-Gather-false-default.objects c.args.request.now c.fault_of-in-Err-gather.result c.in-Err-gather.fault (cc (c.in-Gather-false-default.is)) c.fault_of-in-Err-gather.ensures
+    gather_stops _ _ _ _ _ _ _ _ c.in-Gather-false-default-default.objects c.in-Gather-false-default-default.contradictions c.args.request.now c.fault_of-in-Err-gather.result c.in-Err-gather.fault (cc (c.in-Gather-false-default-default.is)) c.fault_of-in-Err-gather.ensures
     (λ n reason e. c.in-Err-gather.ensures.bad_line n reason e)
     (λ n e. c.in-Err-gather.ensures.other_run n e)
     (λ e. let s = c.in-Err-gather.ensures.source_failed e in s)
     (λ e. let s = c.in-Err-gather.ensures.sink_failed e in
-    ((s.0.listed, s.0.taken.0, s.0.taken.1, record { text = s.0.text; came = s.0.came; end = s.0.end; pieces = s.0.pieces; lines = s.0.lines; is_listing = subst (λ (f : ListingForm). IsListing f s.0.pieces s.0.listed) c.form_of-in-Gather-false-default.ensures s.0.is_listing }, s.0.taken.2, s.0.taken.3), s.1))
+    ((s.0.listed, s.0.taken.0, s.0.taken.1, record { text = s.0.text; came = s.0.came; end = s.0.end; pieces = s.0.pieces; lines = s.0.lines; is_listing = subst (λ (f : ListingForm). IsListing f s.0.pieces s.0.listed) c.form_of.ensures s.0.is_listing }, s.0.taken.2, s.0.taken.3), s.1))
     c.in-Err-gather.ensures.unwritten
 
 pub returns-in-Ok-check-clause-stopped : goal.returns-in-Ok-check-clause-stopped
@@ -64,8 +64,8 @@ returns-in-Ok-gather-clause-done g c =
     let tells : List ℕ → Type 0 = λ text. g.E.Sink.takes c.args.errors.now text c.args.errors.now ⊎ (g.E.Sink.failed c.args.errors.now ≡ g.E.Sink.failed c.args.errors.now + 1) in
     let none = none_said tells c.args.why (inl (g.met.E.Sink.takes_nothing c.args.errors.now)) in
     let s = c.in-Ok-gather.ensures.listed in
-    gather_done _ (λ path. Unit {0}) brought (g.R.Source.ended c.gather.new.source) (Unit {0}) took (Unit {0}) (Unit {0}) c.args.request.now c.in-Gather-false-default.objects (λ skipped. tells (skipped_text skipped ++ 10 ∷ [])) (IsSaid tells c.args.why) s.listed (cc (c.in-Gather-false-default.is))
-    (record { text = s.text; came = s.came; end = s.end; pieces = s.pieces; lines = s.lines; is_listing = subst (λ (f : ListingForm). IsListing f s.pieces s.listed) c.form_of-in-Gather-false-default.ensures s.is_listing }) none s.taken
+    gather_done _ (λ path. Unit {0}) brought (g.R.Source.ended c.gather.new.source) (Unit {0}) took (Unit {0}) (Unit {0}) c.args.request.now c.in-Gather-false-default-default.objects c.in-Gather-false-default-default.contradictions (λ skipped. tells (skipped_text skipped ++ 10 ∷ [])) (IsSaid tells c.args.why) s.listed (cc (c.in-Gather-false-default-default.is))
+    (record { text = s.text; came = s.came; end = s.end; pieces = s.pieces; lines = s.lines; is_listing = subst (λ (f : ListingForm). IsListing f s.pieces s.listed) c.form_of.ensures s.is_listing }) none s.taken
 
 pub returns-in-Ok-record-clause-stopped : goal.returns-in-Ok-record-clause-stopped
 returns-in-Ok-record-clause-stopped g c =

@@ -1,10 +1,10 @@
-use Rattle.std.proofs.Common.{◌≡◌, ℕ, ◌+◌, ◌<◌, ◌≤◌, List, ◌++◌, length, take, get_or, rules, refl, sym, ap, ◌∙◌, arith}
+use Rattle.std.proofs.Common.{◌≡◌, ℕ, ◌+◌, ◌<◌, ◌≤◌, List, ◌++◌, length, take, get_or, rules, sym, ap, ◌∙◌, arith}
 use Rattle.std.specs.Prelude.{None}
 use Rattle.std.proofs.Output.{has_written_append, has_written_of_eq}
 use Rattle.std.proofs.lemmas.List.{take_all}
 use Rattle.replica.specs.declared.thread_log.ThreadLog.{ThreadLog}
 use Rattle.replica.specs.Listing.{thread_lines, lines_from}
-use Rattle.replica.proofs.ListingLemmas.{lines_more}
+use Rattle.replica.proofs.ListingLemmas.{lines_more, plain_listing}
 use Rattle.replica.proofs.texts.LogDisplay.fmt.Goals as goal
 
 pub loop-thread-preserved : goal.loop-thread-preserved
@@ -26,4 +26,4 @@ returns-clause-writes g c plain ok =
     let counts = c.write-2.ensures.writes threads.plain ok in
     let past : length c.args.self.now.threads ≤ c.loop-thread.thread = rw (← c.threads-log-items.ensures.value) c.loop-thread-test.false in
     let all : take c.loop-thread.thread c.args.self.now.threads ≡ c.args.self.now.threads = take_all c.loop-thread.thread c.args.self.now.threads past in
-    has_written_of_eq _ _ _ _ _ (rw (c.key.ensures, all, c.ends.ensures, c.missing.ensures, c.strays.ensures, c.clashes.ensures) refl) (has_written_append _ _ _ _ _ _ (has_written_append _ _ _ _ _ _ run threads) counts)
+    has_written_of_eq _ _ _ _ _ (rw (c.key.ensures, all, c.ends.ensures, c.missing.ensures, c.strays.ensures, c.clashes.ensures) (plain_listing c.args.self.now)) (has_written_append _ _ _ _ _ _ (has_written_append _ _ _ _ _ _ run threads) counts)
