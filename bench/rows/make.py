@@ -80,6 +80,20 @@ recorded('bounded', 'counter.wasm', COUNTER, 'counter.plan', TWO, b'go 0 8\ngo 1
 recorded('nothing', 'counter.wasm', COUNTER, 'counter.plan', TWO, b'')
 recorded('over', 'counter.wasm', COUNTER, 'counter.plan', TWO, b'out 0\ngo 5 4\ngo 0 8\ngo 0 3\ngo 1 8\n')
 
+# runs that numbers draw
+def drawn(module_file, module, plan_file, plan, number, timeouts=False, steps=None):
+    """Records, reports, gathers and replays the run that a number draws."""
+    world = World(module, plan); world.draw(number, timeouts, 1000000 if steps is None else steps)
+    options = ' --random --run %d' % number + (' --timeouts now' if timeouts else '') + (' --steps %d' % steps if steps is not None else '')
+    files = '%s %s' % (module_file, plan_file)
+    command('record %s%s --report' % (files, options), world.report())
+    name = 'drawn_%s_%d%s' % (module_file[:-5], number, '' if steps is None else '_%d' % steps)
+    script.append('record %s%s > %s.pieces' % (files, options, name)); expected.append('$ wreplay ' + script[-1] + '\n')
+    command('gather < %s.pieces' % name, world.listing(digest(module, plan), number))
+    command('replay %s %s.pieces --order 1,0' % (files, name), world.report())
+for number in (0, 1, 2, 3, 4, 5, 6, 7, 2 ** 64 - 1): drawn('counter.wasm', COUNTER, 'counter.plan', TWO, number)
+drawn('counter.wasm', COUNTER, 'counter.plan', TWO, 7, steps=3)
+
 # two readers and a writer
 SHARED = Module([('r', [], 'i32', load(0)), ('s', [], None, [('i32.const', 0), ('i32.const', 7), 'i32.store', 'end'])])
 keep('readers.wasm', SHARED.bytes); READERS = plan_of('r', 'r', 's'); keep('readers.plan', READERS)
@@ -121,6 +135,10 @@ for name, timeout in (('limited', 1000), ('endless', -1)):
     keep(name + '.wasm', m.bytes); keep(name + '.plan', plan_of('f', 'n'))
     recorded(name + '1', name + '.wasm', m, name + '.plan', plan_of('f', 'n'), b'go 0 4\nout 0\ngo 1 4\ngo 0 1\n', orders=('', '1,1,1,1', '0,1,0,1'))
     recorded(name + '2', name + '.wasm', m, name + '.plan', plan_of('f', 'n'), b'go 0 4\ngo 1 4\nout 0\ngo 0 2\n', orders=('', '1,1,1,1', '0,1,0,1'))
+
+for number in range(4): drawn('five.wasm', FIVE, 'five.plan', FIVES, number)
+LIMITED = Module([('f', [], 'i32', wait(0, 0, 1000)), ('n', [], 'i32', notify(1) + ['end'])])
+for number in range(6): drawn('limited.wasm', LIMITED, 'limited.plan', plan_of('f', 'n'), number, number % 2 == 1)
 
 # traps, and accesses that are narrower than their operands
 TRAPS = Module([('d', [], 'i32', [('i32.const', -2147483648), ('i32.const', -1), 'i32.div_s', 'end']), ('u', [], 'i32', [('i32.const', 1), 'i32.atomic.load', 'end'])])
@@ -346,7 +364,7 @@ RECORD = 'record counter.wasm counter.plan'
 REPORT = RECORD + ' --schedule first.schedule --report'
 REPLAY = 'replay counter.wasm counter.plan first.pieces'
 for more in (' --report', ' --report --run 1', ' --schedule first.schedule --threads'):
-    usage(RECORD + more, "'record' takes either '--schedule <FILE>' or '--threads'")
+    usage(RECORD + more, "'record' takes one of '--schedule <FILE>', '--threads' and '--random'")
 for size in (96, 32): usage(REPORT + ' --block %d' % size, "'--block <N>' takes 64, 128, 256, 512, 1024, 2048 or 4096")
 usage(REPORT + ' --steps 1000000001', "'--steps <N>' takes a number from 0 to 1000000000")
 unexpected(REPORT + ' --size -1', '-1', 'record [OPTIONS] <MODULE> <PLAN>', True)

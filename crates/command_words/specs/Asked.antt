@@ -41,11 +41,21 @@ is_text expected (Some text) = bytes_eq text expected
 abbrev pub IsBlockOf : Option ℕ → ℕ → Type 0
 IsBlockOf size power = (size ≡ Some (2 ^ power)) × (6 ≤ power) × (power ≤ 12)
 
--- the values that a parser found say that threads go on so: by a schedule, or at once, and not both
+-- the flag is there
+abbrev pub has_flag : Text → List Row → Bool
+has_flag name rows = is_text (codes "true") (first_of name rows)
+
+-- waits time out
+abbrev pub times_out_in : List Row → Bool
+times_out_in rows = is_text (codes "now") (first_of (codes "timeouts") rows)
+
+-- the values that a parser found say that threads go on so, and in no other way: by a schedule, at once, or at random
 abbrev pub IsOrderAsked : List Row → RecordOrder → Type 0
-IsOrderAsked rows (order.Schedule path) = (first_of (codes "schedule") rows ≡ Some path.now) × (is_text (codes "true") (first_of (codes "threads") rows) ≡ false)
-IsOrderAsked rows (order.Threads times_out) = (first_of (codes "schedule") rows ≡ None) × (is_text (codes "true") (first_of (codes "threads") rows) ≡ true)
-    × (times_out ≡ is_text (codes "now") (first_of (codes "timeouts") rows))
+IsOrderAsked rows (order.Schedule path) = (first_of (codes "schedule") rows ≡ Some path.now) × (has_flag (codes "threads") rows ≡ false) × (has_flag (codes "random") rows ≡ false)
+IsOrderAsked rows (order.Threads times_out) =
+    (first_of (codes "schedule") rows ≡ None) × (has_flag (codes "threads") rows ≡ true) × (has_flag (codes "random") rows ≡ false) × (times_out ≡ times_out_in rows)
+IsOrderAsked rows (order.Random times_out) =
+    (first_of (codes "schedule") rows ≡ None) × (has_flag (codes "threads") rows ≡ false) × (has_flag (codes "random") rows ≡ true) × (times_out ≡ times_out_in rows)
 
 -- the values that a parser found ask for this recording
 pub record IsRecordAsked (rows : List Row) (r : RecordRequest) : Type 0 where

@@ -39,7 +39,8 @@ with_numbers a = with_rule (with_rule (with_rule (with_rule a (default_rule (cod
 
 -- how the threads of a recording go on
 abbrev pub with_orders : App → App
-with_orders a = with_rule (with_rule (with_rule a (option_rule (codes "schedule"))) (flag_rule (codes "threads"))) (default_rule (codes "timeouts") (codes "never"))
+with_orders a = with_rule (with_rule (with_rule (with_rule a (option_rule (codes "schedule"))) (flag_rule (codes "threads"))) (flag_rule (codes "random")))
+    (default_rule (codes "timeouts") (codes "never"))
 
 abbrev pub recording : App
 recording = with_why (with_rule (with_numbers (with_orders (on_program (new_app (codes "record"))))) (flag_rule (codes "report")))

@@ -128,10 +128,10 @@ Example:
 
 /// What `record` reads and writes.
 pub(crate) const RECORD_ABOUT: &str = "\
-Runs the threads of a plan, by a schedule or at once, and writes the log of that
-run as lines of pieces, which `wreplay gather` lists and `wreplay replay`
-replays. With --report it writes what the run came to: the pages of memory, each
-16 bytes that are not all zero, and how each thread ended.
+Runs the threads of a plan, by a schedule, at once or at random, and writes the
+log of that run as lines of pieces, which `wreplay gather` lists and `wreplay
+replay` replays. With --report it writes what the run came to: the pages of
+memory, each 16 bytes that are not all zero, and how each thread ended.
 
 MODULE is a WebAssembly module, as `wreplay check` takes it. PLAN says which
 exported functions run as threads, numbered from 0, with their arguments:
@@ -152,6 +152,12 @@ With --threads each thread of the plan is a thread of the system, and they run
 at once: each run may come out otherwise, and each can be replayed. Whatever can
 still go on when they have ended goes on. `--timeouts now` lets each wait that
 has a time-out time out at once.
+
+With --random the number of the run draws the schedule: which thread goes on,
+and for how many accesses, until no thread can go on. The same number makes the
+same run on every machine, so a loop over --run tries many schedules, and a run
+that shows a fault is named by its number. `--timeouts now` draws time-outs of
+waits too.
 
 With --why standard error has the line `threads stopped at --steps N: T ..`
 where threads T were still running when they had made N steps.";
@@ -176,7 +182,8 @@ Refusals (exit status 1), the first of them in this order:
 Example:
   wreplay record examples/lost.wasm examples/lost.plan \\
       --schedule examples/lost.schedule > pieces.txt
-  wreplay record examples/lost.wasm examples/lost.plan --threads > pieces.txt";
+  wreplay record examples/lost.wasm examples/lost.plan --threads > pieces.txt
+  wreplay record examples/lost.wasm examples/lost.plan --random --run 7 --report";
 
 /// What `replay` reads and writes.
 pub(crate) const REPLAY_ABOUT: &str = "\

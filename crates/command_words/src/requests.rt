@@ -9,6 +9,8 @@ pub enum RecordOrder<'a> {
     Schedule(&'a str),
     /// At once, as threads of the system; waits that have a time-out time out at once, or never.
     Threads { times_out: bool },
+    /// By a schedule that the number of the run draws; time-outs of waits are drawn too, or none.
+    Random { times_out: bool },
 }
 
 /// A recording: the files of the module and the plan, how the threads go on, and how it is made and written.

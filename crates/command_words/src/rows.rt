@@ -94,9 +94,14 @@ static OF_RECORD: &[ArgumentRow] = &[
         help: "Run the threads at once, as the system lets them",
     },
     ArgumentRow {
+        name: "random",
+        takes: Takes::Nothing,
+        help: "Run the threads by the random schedule that --run draws",
+    },
+    ArgumentRow {
         name: "timeouts",
         takes: Takes::ValueOr("WHEN", "never"),
-        help: "With --threads: when waits time out, never or now",
+        help: "With --threads or --random: when waits time out, never or now",
     },
     ArgumentRow {
         name: "run",
@@ -218,7 +223,7 @@ impl Subcommand {
         match self {
             Subcommand::Check => "Decode and validate a module, and summarize it",
             Subcommand::Record => {
-                "Run threads by a schedule or at once, and write the pieces of the log"
+                "Run threads by a schedule, at once or at random, and write the log"
             }
             Subcommand::Replay => "Make a recorded run again, and write what it came to",
             Subcommand::View => "Stop a replay where it matters, and show it",

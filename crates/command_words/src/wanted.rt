@@ -24,7 +24,8 @@ use wasm_types::{Block, MOST_STEPS, NoMemory};
 const MISSING: &str = "error: a value is missing\n";
 
 /// What is said where it is not clear how the threads of a recording go on.
-const BAD_RECORD_ORDER: &str = "error: 'record' takes either '--schedule <FILE>' or '--threads'\n";
+const BAD_RECORD_ORDER: &str =
+    "error: 'record' takes one of '--schedule <FILE>', '--threads' and '--random'\n";
 
 /// What is said of a number that is none.
 const BAD_RUN: &str = "error: '--run <N>' takes a number from 0 to 18446744073709551615\n";
@@ -104,16 +105,18 @@ pub(crate) fn has_text(matches: &ArgMatches<'_>, id: &str, text: &str) -> bool
     }
 }
 
-/// How the threads of a recording go on, as the values of `record` say; None where they say it twice, or not at all.
+/// How the threads of a recording go on, as the values of `record` say; None where they say it in two ways, or in none.
 fn record_order<'a>(matches: &ArgMatches<'a>) -> Option<RecordOrder<'a>>
     ensures asked { IfSome result (IsOrderAsked (rows_of (found_of matches.now))) }
     ensures none { IfNone result ((order : RecordOrder) → IsOrderAsked (rows_of (found_of matches.now)) order → ⊥) }
 {
     let threads = has_text(matches, "threads", "true");
+    let random = has_text(matches, "random", "true");
     let times_out = has_text(matches, "timeouts", "now");
-    match value(matches, "schedule") {
-        Some(path) if !threads => Some(RecordOrder::Schedule(path)),
-        None if threads => Some(RecordOrder::Threads { times_out }),
+    match (value(matches, "schedule"), threads, random) {
+        (Some(path), false, false) => Some(RecordOrder::Schedule(path)),
+        (None, true, false) => Some(RecordOrder::Threads { times_out }),
+        (None, false, true) => Some(RecordOrder::Random { times_out }),
         _ => None,
     }
 }

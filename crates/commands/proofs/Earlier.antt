@@ -62,6 +62,7 @@ module _ {holds later : List ℕ → List ℕ → Type 0} (held : (path bytes : 
   pub recorded_earlier : (m : Module) (plan : PlanValue) (request : RecordRequest) (o : RecordOrder) (answer : AnswerAt) → IsRecordedBy later m plan request o answer → IsRecordedBy holds m plan request o answer
   recorded_earlier m plan request (order.Schedule path) answer h = (h.0, (h.1.0, held path.now h.1.0 h.1.1, h.1.2), h.2)
   recorded_earlier m plan request (order.Threads times_out) answer h = h
+  recorded_earlier m plan request (order.Random times_out) answer h = h
 
   module _ {fails breaks : List ℕ → Type 0} (failed : (path : List ℕ) → breaks path → fails path) where
     schedule_order_earlier : (path : List ℕ) (size : ℕ) (fault : Fault) → IsScheduleRefused (later path) (breaks path) fault ⊎ ((picks : List Pick) × IsScheduleFile (later path) picks × IsRecordRefusal size fault)
@@ -72,3 +73,4 @@ module _ {holds later : List ℕ → List ℕ → Type 0} (held : (path bytes : 
     pub order_refused_earlier : (request : RecordRequest) (o : RecordOrder) (fault : Fault) → IsOrderRefused later breaks request o fault → IsOrderRefused holds fails request o fault
     order_refused_earlier request (order.Schedule path) fault h = schedule_order_earlier path.now request.size fault h
     order_refused_earlier request (order.Threads times_out) fault h = h
+    order_refused_earlier request (order.Random times_out) fault h = h

@@ -14,7 +14,7 @@ use Rattle.replica.specs.End.{End}
 use Rattle.wasm_record.specs.Cut.{pieces_of, IsPiecesFault}
 use Rattle.wasm_types.specs.declared.sizes.TheConstants.{MOST_STEPS}
 use Rattle.wasm_record.specs.ThreadLogAt.{ThreadLogAt, RecordedAt}
-use Rattle.wasm_record.specs.Recordings.{RecordingAt, IsKeyOf, RecordsRun, RecordsThreads}
+use Rattle.wasm_record.specs.Recordings.{RecordingAt, IsKeyOf, RecordsRun, RecordsThreads, RecordsRandom}
 use Rattle.debug_views.specs.Report.{report_text}
 use Rattle.command_words.specs.declared.requests.RecordOrder.{RecordOrder}
 use Rattle.command_words.specs.declared.requests.RecordOrder.TheVariants as order
@@ -92,11 +92,16 @@ IsRunOf m plan request picks = RecordsRun m plan (Two request.block) picks reque
 abbrev pub IsRunOfThreads : Module → PlanValue → RecordRequest → Bool → RecordedAt → Type 0
 IsRunOfThreads m plan request times_out = RecordsThreads m plan (Two request.block) (λ t s. times_out) (min request.steps MOST_STEPS)
 
+-- the run is recorded that the number of the run draws, with time-outs or without
+abbrev pub IsRandomRunOf : Module → PlanValue → RecordRequest → Bool → RecordedAt → Type 0
+IsRandomRunOf m plan request times_out = RecordsRandom m plan (Two request.block) request.run times_out request.steps
+
 module _ (holds : List ℕ → List ℕ → Type 0) where
   -- the module and the plan in the files, and what is recorded of them, by the order that was asked for
   abbrev pub IsRecordedBy : Module → PlanValue → RecordRequest → RecordOrder → AnswerAt → Type 0
   IsRecordedBy m plan request (order.Schedule path) answer = (picks : List Pick) × IsScheduleFile (holds path.now) picks × IsAnswerOf m plan request (IsRunOf m plan request picks) answer
   IsRecordedBy m plan request (order.Threads times_out) answer = IsAnswerOf m plan request (IsRunOfThreads m plan request times_out) answer
+  IsRecordedBy m plan request (order.Random times_out) answer = IsAnswerOf m plan request (IsRandomRunOf m plan request times_out) answer
 
   pub record IsRecordAnswer (request : RecordRequest) (answer : AnswerAt) : Type 0 where
     pub m : Module
@@ -109,6 +114,7 @@ module _ (holds : List ℕ → List ℕ → Type 0) where
   IsOrderRefused fails request (order.Schedule path) fault = IsScheduleRefused (holds path.now) (fails path.now) fault
       ⊎ ((picks : List Pick) × IsScheduleFile (holds path.now) picks × IsRecordRefusal request.size fault)
   IsOrderRefused fails request (order.Threads times_out) fault = IsRecordRefusal request.size fault
+  IsOrderRefused fails request (order.Random times_out) fault = IsRecordRefusal request.size fault
 
   -- the first refusal: of the module, else of the plan, else of the schedule, else of the size of the pieces
   abbrev pub IsRecordRefused : (List ℕ → Type 0) → RecordRequest → Fault → Type 0

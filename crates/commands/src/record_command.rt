@@ -1,4 +1,4 @@
-//! Recordings, by the schedules in files or by threads.
+//! Recordings, by the schedules in files, by threads or at random.
 
 ghost use Rattle.std.specs.Prelude.{◌≡◌, ◌⊎◌, ◌<◌, ◌≤◌, List, OnOk, IfOk, IfErr};
 ghost use Rattle.wasm_record.specs.Cut.{IsPiecesFault};
@@ -6,7 +6,7 @@ ghost use Rattle.thread_plan.specs.Plans.{IsPlanOf};
 ghost use Rattle.wasm_record.specs.Pick.{Pick};
 ghost use Rattle.wasm_types.specs.declared.key.Profile.TheVariants.{Two};
 ghost use Rattle.wasm_record.specs.Recordings.{IsKeyOf};
-ghost use Rattle.commands.specs.Records.{IsScheduleFile, IsScheduleRefused, IsOrderRefused, IsRecordRefusal, IsRecordedBy, IsRecordAnswer, IsRecordRefused, IsRunOf, IsRunOfThreads, IsAnswerOf, answer_of};
+ghost use Rattle.commands.specs.Records.{IsScheduleFile, IsScheduleRefused, IsOrderRefused, IsRecordRefusal, IsRecordedBy, IsRecordAnswer, IsRecordRefused, IsRunOf, IsRunOfThreads, IsRandomRunOf, IsAnswerOf, answer_of};
 
 use crate::fault::Fault;
 use crate::files::Files;
@@ -22,7 +22,10 @@ use replica::MOST_ENTRIES;
 use std::alloc::Global;
 use std::sync::Wait;
 use std::thread::Threads;
-use wasm_record::{AtOnce, Never, PiecesFault, Recording, Unkept, record_schedule, record_threads};
+use wasm_record::{
+    AtOnce, Never, PiecesFault, RandomRun, Recording, Unkept, record_drawn, record_schedule,
+    record_threads,
+};
 use wasm_types::NoMemory;
 
 /// Whether pieces of so many entries can be.
@@ -135,6 +138,33 @@ fn record_by_threads<T: Threads + Wait + Sync>(
     }
 }
 
+/// What the run came to that the number of the run draws. The size of the pieces is judged before.
+fn record_at_random<R: Wait>(
+    rt: &R,
+    alloc: Global,
+    program: &Program,
+    times_out: bool,
+    request: &RecordRequest<'_>,
+) -> Result<RecordAnswer, Fault>
+    requires { IsPlanOf program.now.valid program.now.plan }
+    ensures recorded { IfOk result (λ answer. IsAnswerOf program.now.valid program.now.plan request.now (IsRandomRunOf program.now.valid program.now.plan request.now times_out) answer) }
+    ensures refused { IfErr result (IsRecordRefusal request.now.size) }
+{
+    if let Err(fault) = check_size(request.size) {
+        return Err(Fault::Pieces(fault));
+    }
+    let Program { valid, plan } = program;
+    let run = RandomRun {
+        number: request.run,
+        timeouts: times_out,
+        steps: request.steps,
+    };
+    match record_drawn(rt, alloc, valid, plan, request.block, run) {
+        Ok(recording) => answered(alloc, recording, request),
+        Err(NoMemory) => Err(Fault::NoMemory),
+    }
+}
+
 /// What a run came to in which the threads go on as was asked for.
 fn recorded_by<L: Log, T: Threads + Wait + Sync, F: Files>(
     rt: &L,
@@ -154,6 +184,9 @@ fn recorded_by<L: Log, T: Threads + Wait + Sync, F: Files>(
         }
         RecordOrder::Threads { times_out } => {
             record_by_threads(threads, alloc, program, times_out, request)
+        }
+        RecordOrder::Random { times_out } => {
+            record_at_random(threads, alloc, program, times_out, request)
         }
     }
 }

@@ -44,6 +44,7 @@ plan_path (View v) = v.replay.plan.now
 abbrev pub schedule_of : RecordOrder → List ℕ
 schedule_of (order.Schedule path) = path.now
 schedule_of (order.Threads times_out) = codes "--threads"
+schedule_of (order.Random times_out) = codes "--random"
 
 abbrev pub schedule_path : Request → List ℕ
 schedule_path (Record r) = schedule_of r.order

@@ -42,6 +42,7 @@ fn schedule_of<'a>(order: &RecordOrder<'a>) -> &'a str
     match order {
         RecordOrder::Schedule(path) => path,
         RecordOrder::Threads { .. } => "--threads",
+        RecordOrder::Random { .. } => "--random",
     }
 }
 

@@ -1,13 +1,11 @@
 //! Contradictions of logs that were gathered from few pieces, and the lines that listings have for them.
 
-use byte_streams::{MemorySink, MemorySource};
+use crate::skipping::{run_in_form, working};
 use log_pieces::read_line;
-use replica::{
-    Diverging, EventAt, ListingForm, Replica, Skipped, divergence, gather, gather_skipping,
-};
+use replica::{Diverging, EventAt, ListingForm, Replica, Skipped, divergence};
 use std::alloc::Global;
 use std::test::Fail;
-use wasm_types::{Profile, RunKey};
+use wasm_types::{NoMemory, Profile, RunKey};
 
 // The first entry of thread 0, which writes version 0 of object 1.
 const FIRST: &str = "\
@@ -179,7 +177,7 @@ ends 1 missing 0 strays 0 clashes 0
 const NOTHING_TOLD: &str = "run none\nends 0 missing 0 strays 0 clashes 0\n";
 
 /// The text of pieces, a line each.
-pub(crate) fn text_of(alloc: Global, lines: &[&str]) -> Result<String, Fail> {
+pub(crate) fn text_of(alloc: Global, lines: &[&str]) -> Result<String, NoMemory> {
     let mut text = String::new(alloc);
     for line in lines {
         text.push_str(line)?;
@@ -189,40 +187,54 @@ pub(crate) fn text_of(alloc: Global, lines: &[&str]) -> Result<String, Fail> {
 }
 
 /// Whether pieces are listed so, also where lines that cannot be joined would be passed over.
-fn is_listed(alloc: Global, lines: &[&str], form: ListingForm, want: &str) -> Result<bool, Fail> {
+fn is_listed(
+    alloc: Global,
+    lines: &[&str],
+    form: ListingForm,
+    want: &[u8],
+) -> Result<bool, NoMemory> {
+    let none = Skipped { bad: 0, foreign: 0 };
     let text = text_of(alloc, lines)?;
-    let mut source = MemorySource::new(text.as_bytes(), 1000, None);
-    let mut sink = MemorySink::new(alloc, 1000, None);
-    gather(alloc, &mut source, &mut sink, form)?;
-    let mut again = MemorySource::new(text.as_bytes(), 1000, None);
-    let mut other = MemorySink::new(alloc, 1000, None);
-    let skipped = gather_skipping(alloc, &mut again, &mut other, form)?;
-    Ok(
-        skipped == Skipped { bad: 0, foreign: 0 }
-            && sink.taken() == want.as_bytes()
-            && other.taken() == want.as_bytes(),
-    )
+    for skips in [false, true] {
+        let found = run_in_form(alloc, text.as_bytes(), &working(1000), skips, form);
+        if found.answer != Ok(none) || found.sink.taken() != want {
+            return Ok(false);
+        }
+    }
+    Ok(true)
 }
+
+/// The pieces that clash, and a listing of all that can be said.
+const CLASHING: &[&str] = &[THIRD, FIRST, OTHER_END, SECOND, OTHER_FIRST];
+
+const SAYING_ALL: ListingForm = ListingForm {
+    objects: true,
+    contradictions: true,
+};
+
+const SAYING_NOTHING: ListingForm = ListingForm {
+    objects: false,
+    contradictions: false,
+};
+
+/// Pieces, the form of a listing, and the listing.
+static LISTED: &[(&[&str], ListingForm, &str)] = &[
+    (CONTRADICTING, TELLING, CONTRADICTING_TOLD),
+    (CONTRADICTING, SAYING_NOTHING, CONTRADICTING_LISTED),
+    (CLASHING, TELLING, CLASHES_TOLD),
+    (CLASHING, SAYING_ALL, CLASHES_TOLD_WITH_OBJECTS),
+    (&[THIRD, FIRST], TELLING, DOUBLE_TOLD),
+    (&[FIRST, SECOND], TELLING, AGREEING_TOLD),
+    (&[], TELLING, NOTHING_TOLD),
+];
 
 #[test]
 fn listings_tell_contradictions_where_the_form_asks(rt: HostRuntime) -> Result<(), Fail> {
-    let alloc = rt.alloc();
-    let both = ListingForm {
-        objects: true,
-        ..TELLING
-    };
-    let clashing: &[&str] = &[THIRD, FIRST, OTHER_END, SECOND, OTHER_FIRST];
-    let rows: [(&[&str], ListingForm, &str); 7] = [
-        (CONTRADICTING, TELLING, CONTRADICTING_TOLD),
-        (CONTRADICTING, ListingForm::default(), CONTRADICTING_LISTED),
-        (clashing, TELLING, CLASHES_TOLD),
-        (clashing, both, CLASHES_TOLD_WITH_OBJECTS),
-        (&[THIRD, FIRST], TELLING, DOUBLE_TOLD),
-        (&[FIRST, SECOND], TELLING, AGREEING_TOLD),
-        (&[], TELLING, NOTHING_TOLD),
-    ];
-    for (lines, form, want) in rows {
-        assert!(rt; is_listed(alloc, lines, form, want)?, "{want}");
+    for (lines, form, want) in LISTED {
+        assert!(rt;
+            is_listed(rt.alloc(), lines, *form, want.as_bytes())?,
+            "{want}"
+        );
     }
     Ok(())
 }

@@ -13,7 +13,7 @@ use wasm_types::NoMemory;
 
 /// How bytes come and go: how many at a call, and which call of the source and of the sink fails.
 #[derive(Clone, Copy)]
-struct Devices {
+pub(crate) struct Devices {
     most: usize,
     source_fails_at: Option<u64>,
     sink_fails_at: Option<u64>,
@@ -21,7 +21,7 @@ struct Devices {
 }
 
 /// That so many bytes come and go at a call, and none fails.
-fn working(most: usize) -> Devices
+pub(crate) fn working(most: usize) -> Devices
     requires { 0 < most }
 {
     Devices {
@@ -33,21 +33,32 @@ fn working(most: usize) -> Devices
 
 /// What gathering came to: the answer, how many calls of the source and of the sink failed, and what was written.
 #[derive(Drop)]
-struct Gathered {
-    answer: Result<Skipped, GatherFault>,
+pub(crate) struct Gathered {
+    pub(crate) answer: Result<Skipped, GatherFault>,
     source_failures: u64,
     sink_failures: u64,
-    sink: MemorySink,
+    pub(crate) sink: MemorySink,
 }
 
 /// Gathers the text, and passes over what cannot be joined where `skips`.
 fn run_over(alloc: Global, text: &[u8], devices: &Devices, skips: bool) -> Gathered {
+    run_in_form(alloc, text, devices, skips, ListingForm::default())
+}
+
+/// The same in a form of the listing.
+pub(crate) fn run_in_form(
+    alloc: Global,
+    text: &[u8],
+    devices: &Devices,
+    skips: bool,
+    form: ListingForm,
+) -> Gathered {
     let mut source = MemorySource::new(text, devices.most, devices.source_fails_at);
     let mut sink = MemorySink::new(alloc, devices.most, devices.sink_fails_at);
     let answer = if skips {
-        gather_skipping(alloc, &mut source, &mut sink, ListingForm::default())
+        gather_skipping(alloc, &mut source, &mut sink, form)
     } else {
-        match gather(alloc, &mut source, &mut sink, ListingForm::default()) {
+        match gather(alloc, &mut source, &mut sink, form) {
             Ok(()) => Ok(Skipped { bad: 0, foreign: 0 }),
             Err(fault) => Err(fault),
         }

@@ -8,6 +8,8 @@ mod breaks;
 #[cfg(test)]
 mod logs;
 #[cfg(test)]
+mod random;
+#[cfg(test)]
 mod recordings;
 #[cfg(test)]
 mod refused;

@@ -15,6 +15,7 @@ use Rattle.recorder.specs.Picks.{picks_taken, picks_passed}
 use Rattle.recorder.specs.ThreadLogAt.{RecordedAt, log_of}
 use Rattle.run_pieces.specs.PieceOf.{ArePiecesOf}
 use Rattle.workers.specs.Recording.{IsRecording}
+use Rattle.random_record.specs.Draw.{IsRandomRun}
 use Rattle.wasm_world.specs.Opening.{WasmWorld, opening_world_of}
 
 -- which run, and what was recorded of it
@@ -43,6 +44,12 @@ pub record RecordsThreads (m : Module) (plan : PlanValue) (profile : Profile) (m
   pub world : WasmWorld
   pub opens : opening_world_of m plan profile ≡ Some world
   pub recording : IsRecording shared_memory thread_code may steps world recorded
+
+-- from the opening world the number draws a run, of which the log and the end are recorded
+pub record RecordsRandom (m : Module) (plan : PlanValue) (profile : Profile) (number : ℕ) (timeouts : Bool) (steps : ℕ) (recorded : RecordedAt) : Type 0 where
+  pub world : WasmWorld
+  pub opens : opening_world_of m plan profile ≡ Some world
+  pub random : IsRandomRun shared_memory thread_code steps number timeouts world recorded
 
 -- the picks are a run of the module and the plan, of which the log is recorded
 pub record HasLogOf (m : Module) (plan : PlanValue) (profile : Profile) (world : WasmWorld) (picks : List Pick) (recorded : RecordedAt) : Type 0 where

@@ -1,6 +1,6 @@
-//! Recordings of a module and a plan, by a schedule or by threads at once, and their pieces.
+//! Recordings of a module and a plan, by a schedule, by threads at once or at random, and their pieces.
 //!
-//! `record_schedule` and `record_threads`: a run of them with its log and its end (`key`, `records`);
+//! `record_schedule`, `record_threads`, `record_drawn`: a run of them with its log and its end (`key`, `records`);
 //! `Recording::pieces`: pieces of that run (`of_run`). `record_memory` does as `record_workers`, over the shared
 //! memory. `send` and `receive` pass pieces through a channel: as many of the run as `receive` answers are joined
 //! (`received`).
@@ -8,6 +8,7 @@
 
 mod fault;
 mod memory_recording;
+mod random;
 mod receiving;
 mod recording;
 mod sending;
@@ -16,6 +17,8 @@ mod threads;
 
 pub use fault::SendFault;
 pub use memory_recording::record_memory;
+pub use random::record_drawn;
+pub use random_record::RandomRun;
 pub use receiving::receive;
 pub use recorder::ThreadLog;
 pub use recording::{Recording, record_schedule};

@@ -1,0 +1,94 @@
+-- Stretches that are drawn one behind the other.
+use Rattle.std.proofs.Common.{◌≡◌, ℕ, ◌<◌, Bool, List, [], ◌∷◌, ◌++◌, length, map, replicate, Some, slice_get, sym, ap, ◌∙◌, subst, append_assoc}
+use Rattle.std.proofs.lemmas.List.{append-nil, length-replicate}
+use Rattle.std.proofs.lemmas.Grind.{flat_map-append}
+use Rattle.rw_objects.specs.Space.{Space}
+use Rattle.rw_objects.specs.Code.{Code}
+use Rattle.rw_objects.specs.declared.entry.Entry.{Entry}
+use Rattle.event_core.specs.declared.pick.Pick.{Pick}
+use Rattle.event_core.specs.World.{WorldAt}
+use Rattle.event_core.specs.Run.{entries, IsRun, end_of_world}
+use Rattle.pick_schedule.specs.declared.stretches.Stretch.{Stretch}
+use Rattle.pick_schedule.specs.Stretches.{picks_of, picks_in}
+use Rattle.rand_pcg.specs.Lcg.{Lcg}
+use Rattle.recorder.specs.Recorded.{list_at, AreRecorded}
+use Rattle.recorder.specs.ThreadLogAt.{RecordedAt}
+use Rattle.recorder.proofs.Rest.{taken_is_run, list_none}
+use Rattle.recorder.proofs.RecordedLog.{recorded_log}
+use Rattle.recorder.proofs.Stretches.{none_recorded, recorded_joined}
+use Rattle.replay_laws.specs.RunLog.{end_of_thread}
+use Rattle.random_record.specs.Words.{generator_of, exponent_of, below, behind_word, accesses_by, word_of}
+use Rattle.random_record.specs.Draw.{candidates, IsDrawn, IsRandomRun}
+use Rattle.random_record.specs.Making.{MakesStretch, DrawsOn, MakesDrawn}
+use Rattle.random_record.proofs.Stretches.{recorded_taken, recorded_leads}
+
+module _ {State Op Reply Value Fixed : Type 0} (space : Space Op Reply Value Fixed) (code : Code State Op Reply Fixed) (steps : ℕ) (timeouts : Bool) (exponent : ℕ) where
+  -- none yet
+  pub draws_none : (g : Lcg) (w : WorldAt State Value Fixed) (lists : List (List Entry)) → DrawsOn space code steps timeouts exponent g g w w lists lists
+  draws_none g w lists = record { stretches = []; recorded = none_recorded space code steps w lists 0; drawn = λ ss d. d }
+
+  -- one
+  pub draws_one : (g : Lcg) (w v : WorldAt State Value Fixed) (p : Pick) (lists news : List (List Entry)) → slice_get (candidates space code steps timeouts w) (below (word_of g) (length (candidates space code steps timeouts w))) ≡ Some p
+      → MakesStretch space code steps p (accesses_by exponent (word_of (behind_word g))) w v lists news → DrawsOn space code steps timeouts exponent g (behind_word (behind_word g)) w v lists news
+  draws_one g w v p lists news is x =
+      let s : Stretch = record { pick = p; times = x.times } in
+      let leads = recorded_leads space code steps (replicate x.times p) w v lists news x.recorded in
+      record {
+        stretches = s ∷ [];
+        recorded = subst (λ ps. AreRecorded space code steps ps w v lists news 0 0) (sym (append-nil (replicate x.times p))) x.recorded;
+        drawn = λ ss d. (record { pick = is; stretch = x.stretch }, subst (λ z. IsDrawn space code steps timeouts exponent (behind_word (behind_word g)) z ss) leads d);
+      }
+
+  -- one, by the draws of its pick and its accesses
+  pub draw_made : (g h i : Lcg) (events count at : ℕ) (picks : List Pick) (w v : WorldAt State Value Fixed) (p : Pick) (lists news : List (List Entry)) → picks ≡ candidates space code steps timeouts w → count ≡ length picks
+      → at ≡ below (word_of g) count → slice_get picks at ≡ Some p → h ≡ behind_word g → events ≡ accesses_by exponent (word_of h) → i ≡ behind_word h
+      → MakesStretch space code steps p events w v lists news → DrawsOn space code steps timeouts exponent g i w v lists news
+  draw_made g h i events count at picks w v p lists news are counted drawn got next many last x =
+      let here : slice_get (candidates space code steps timeouts w) (below (word_of g) (length (candidates space code steps timeouts w))) ≡ Some p =
+      ap (λ ps. slice_get ps (below (word_of g) (length ps))) (sym are) ∙ ap (λ n. slice_get picks (below (word_of g) n)) (sym counted) ∙ ap (slice_get picks) (sym drawn) ∙ got in
+      let as_many : events ≡ accesses_by exponent (word_of (behind_word g)) = many ∙ ap (λ z. accesses_by exponent (word_of z)) next in
+      subst (λ z. DrawsOn space code steps timeouts exponent g z w v lists news) (sym (last ∙ ap behind_word next))
+      (draws_one g w v p lists news here (subst (λ n. MakesStretch space code steps p n w v lists news) as_many x))
+
+  -- others behind them
+  pub draws_on : (g h i : Lcg) (w v u : WorldAt State Value Fixed) (one two three : List (List Entry)) → DrawsOn space code steps timeouts exponent g h w v one two → DrawsOn space code steps timeouts exponent h i v u two three
+      → DrawsOn space code steps timeouts exponent g i w u one three
+  draws_on g h i w v u one two three x y =
+      record {
+        stretches = x.stretches ++ y.stretches;
+        recorded =
+            subst (λ ps. AreRecorded space code steps ps w u one three 0 0) (sym (flat_map-append picks_of x.stretches y.stretches))
+            (recorded_joined space code steps (picks_in x.stretches) (picks_in y.stretches) w v u one two three 0 0 0 x.recorded y.recorded);
+        drawn = λ ss d. subst (IsDrawn space code steps timeouts exponent g w) (sym (append_assoc x.stretches y.stretches ss)) (x.drawn (y.stretches ++ ss) (y.drawn ss d));
+      }
+
+-- all of them
+module _ {State Op Reply Value Fixed : Type 0} (space : Space Op Reply Value Fixed) (code : Code State Op Reply Fixed) (steps : ℕ) (timeouts : Bool) (number : ℕ) where
+  pub draws_all : (h : Lcg) (w v : WorldAt State Value Fixed) (lists news : List (List Entry)) → DrawsOn space code steps timeouts (exponent_of number) (behind_word (generator_of number)) h w v lists news → candidates space code steps timeouts v ≡ []
+      → MakesDrawn space code steps number timeouts w v lists news
+  draws_all h w v lists news x none = record {
+    stretches = x.stretches;
+    recorded = x.recorded;
+    drawn = subst (IsDrawn space code steps timeouts (exponent_of number) (behind_word (generator_of number)) w) (append-nil x.stretches) (x.drawn [] none);
+  }
+
+  -- what is left of them
+  pub random_run : (w v : WorldAt State Value Fixed) (lists news : List (List Entry)) (recorded : RecordedAt) → MakesDrawn space code steps number timeouts w v lists news → lists ≡ replicate (length w.threads) []
+      → map (λ l. l.entries) recorded.threads ≡ news → map (λ l. l.end) recorded.threads ≡ map (end_of_thread code) v.threads → recorded.end ≡ end_of_world space code v → recorded.passed ≡ 0
+      → IsRandomRun space code steps number timeouts w recorded
+  random_run w v lists news recorded x empty logged ends ended none =
+      let ps = picks_in x.stretches in
+      let all = recorded_taken space code steps ps w v lists news x.recorded in
+      let leads = recorded_leads space code steps ps w v lists news x.recorded in
+      let many : length lists ≡ length w.threads = ap length empty ∙ length-replicate (length w.threads) [] in
+      record {
+        stretches = x.stretches;
+        drawn = x.drawn;
+        run = subst (IsRun space code w) all (taken_is_run space code steps w ps);
+        log =
+            recorded_log space code w v ps leads news recorded.threads logged ends
+            (λ t l. x.recorded.logs t (subst (λ n. t < n) (sym many) l) ∙ ap (λ qs. list_at lists t ++ entries space code w qs t) all ∙ ap (λ l. l ++ entries space code w ps t) (ap (λ ls. list_at ls t) empty ∙ list_none (length w.threads) t))
+            (x.recorded.len ∙ many);
+        end = ended ∙ ap (end_of_world space code) leads;
+        none_passed = none;
+      }

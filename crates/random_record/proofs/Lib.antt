@@ -1,0 +1,6 @@
+pub mod Words
+pub mod Taken
+pub mod Counting
+pub mod Stretches
+pub mod Drawing
+pub mod Once

@@ -1,0 +1,19 @@
+use Rattle.std.proofs.Common.{ap, ◌∙◌}
+use Rattle.event_core.specs.World.{world_of}
+use Rattle.random_record.specs.Words.{accesses_by, word_of}
+use Rattle.random_record.proofs.Drawing.{draws_none, draw_made}
+use Rattle.random_record.proofs.recording.draw_stretch.Goals as goal
+
+pub returns-clause-draws : goal.returns-clause-draws
+returns-clause-draws g c =
+    let space = g.S.ObjectSpace.meaning in
+    let code = g.M.Machine.code in
+    let draw = c.args.draw in
+    draw_made space code draw.steps draw.timeouts c.args.draws.now.exponent c.args.draws.now.generator c.below.new.self.generator c.accesses-accesses.new.self.generator c.accesses-accesses.result c.len-count.result c.below.result c.candidates-picks.result
+    (world_of c.args.world.now) (world_of c.make_stretch.new.world) c.at-pick.result c.args.logs.now c.make_stretch.new.logs
+    c.candidates-picks.ensures c.len-count.ensures c.below.ensures.value c.at-pick.ensures c.below.ensures.generator
+    (c.accesses-accesses.ensures.value ∙ ap (λ e. accesses_by e (word_of c.below.new.self.generator)) c.below.ensures.exponent)
+    c.accesses-accesses.ensures.generator c.in_ok-make_stretch.ensures
+
+pub returns-then-count-eq0-clause-draws : goal.returns-then-count-eq0-clause-draws
+returns-then-count-eq0-clause-draws g c = draws_none g.S.ObjectSpace.meaning g.M.Machine.code c.args.draw.steps c.args.draw.timeouts c.args.draws.now.exponent c.args.draws.now.generator (world_of c.args.world.now) c.args.logs.now

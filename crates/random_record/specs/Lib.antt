@@ -1,0 +1,5 @@
+pub mod Words
+pub mod Few
+pub mod Draw
+pub mod Making
+pub use Rattle.pick_schedule.specs.Stretches

@@ -1,0 +1,90 @@
+//! Recording by stretches that are drawn.
+
+ghost use Rattle.std.specs.Prelude.{◌≡◌, [], true, false, length, IfOk, OnOk};
+ghost use Rattle.event_core.specs.World.{world_of};
+ghost use Rattle.random_record.specs.Draw.{candidates, IsRandomRun};
+ghost use Rattle.random_record.specs.Making.{DrawsOn, MakesDrawn};
+
+use crate::candidates::candidates;
+use crate::draws::Draws;
+use crate::stretch::make_stretch;
+use event_core::World;
+use recorder::{Logs, Recorded, thread_logs};
+use rw_objects::{Machine, ObjectSpace};
+use std::alloc::Global;
+use std::sync::Wait;
+use wasm_types::NoMemory;
+
+/// Which run is drawn of a world.
+#[derive(Clone, Copy, Debug, PartialEq, Eq)]
+pub struct RandomRun {
+    /// The number that draws it.
+    pub number: u64,
+    /// Whether time-outs of waits are drawn, too.
+    pub timeouts: bool,
+    /// How many steps a thread makes at most: up to 1,000,000,000; a larger number counts as that.
+    pub steps: u32,
+}
+
+/// Draws a stretch, if some pick can be drawn, and makes it. Answers whether there is one.
+fn draw_stretch<M: Machine<S>, S: ObjectSpace>(
+    world: &mut World<M, S>,
+    logs: &mut Logs,
+    draws: &mut Draws,
+    draw: RandomRun,
+) -> Result<bool, NoMemory>
+    requires { length logs.old ≡ length (world_of world.old).threads }
+    ensures draws { OnOk result (DrawsOn S.meaning M.code draw.steps draw.timeouts draws.old.exponent draws.old.generator draws.new.generator (world_of world.old) (world_of world.new) logs.old logs.new) }
+    ensures exponent { OnOk result (draws.new.exponent ≡ draws.old.exponent) }
+    ensures none { IfOk result (λ made. made ≡ false → candidates S.meaning M.code draw.steps draw.timeouts (world_of world.new) ≡ []) }
+{
+    let picks = candidates(world, draw.timeouts, draw.steps);
+    let count = picks.len();
+    if count == 0 {
+        return Ok(false);
+    }
+    let pick = picks.at(draws.below(count));
+    let accesses = draws.accesses();
+    make_stretch(world, logs, pick, accesses, draw.steps)?;
+    Ok(true)
+}
+
+/// Makes the stretches that are drawn, until no pick can be drawn.
+fn make_drawn<M: Machine<S>, S: ObjectSpace, R: Wait>(
+    rt: &R,
+    world: &mut World<M, S>,
+    logs: &mut Logs,
+    draw: RandomRun,
+) -> Result<(), NoMemory>
+    requires { length logs.old ≡ length (world_of world.old).threads }
+    ensures { OnOk result (MakesDrawn S.meaning M.code draw.steps draw.number draw.timeouts (world_of world.old) (world_of world.new) logs.old logs.new) }
+{
+    let mut draws = Draws::new(draw.number);
+    for _ in rt.forever() {
+        if !draw_stretch(world, logs, &mut draws, draw)? {
+            return Ok(());
+        }
+    }
+    unreachable!()
+}
+
+/// Records the run that a number draws, until no thread that made fewer than `draw.steps` steps has a pick that can be
+/// drawn. A run is made of stretches: the number's generator picks one of the picks that can be made, each as likely,
+/// and how many accesses it may make, and the pick is made again and again up to that many accesses, or until it cannot
+/// be made. How long stretches are on the average is drawn once for a run, as 1, 2, 4, .. or 64 accesses: so threads
+/// change places often in some runs and seldom in others (compare CHESS, Musuvathi and Qadeer 2007, and PCT, Burckhardt
+/// and others 2010). The same number gives the same run of the same world.
+pub fn record_random<M: Machine<S> + Drop, S: ObjectSpace + Drop, R: Wait>(
+    rt: &R,
+    alloc: Global,
+    mut world: World<M, S>,
+    draw: RandomRun,
+) -> Result<Recorded, NoMemory>
+    ensures { IfOk result (IsRandomRun S.meaning M.code draw.steps draw.number draw.timeouts (world_of world)) }
+{
+    let mut logs = Logs::new(alloc, world.count())?;
+    make_drawn(rt, &mut world, &mut logs, draw)?;
+    let threads = thread_logs(alloc, &world, logs.into_lists())?;
+    let end = world.end(alloc)?;
+    Ok(Recorded::new(threads, end, 0))
+}

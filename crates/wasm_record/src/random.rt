@@ -1,0 +1,34 @@
+//! Recording by a schedule that a number draws.
+
+ghost use Rattle.std.specs.Prelude.{◌≡◌, IfOk};
+ghost use Rattle.wasm_world.specs.Plans.{IsPlanOf};
+ghost use Rattle.wasm_types.specs.declared.key.Profile.TheVariants.{Two};
+ghost use Rattle.wasm_record.specs.Recordings.{IsKeyOf, RecordsRandom};
+
+use crate::recording::Recording;
+use random_record::{RandomRun, record_random};
+use std::alloc::Global;
+use std::sync::Wait;
+use wasm_types::{Block, NoMemory, Profile, RunKey};
+use wasm_world::{Plan, Valid, open_world};
+
+/// Records the run of a module and a plan that the number draws, in profile 2 with blocks of that size: the number is
+/// that of the run, and names it for good.
+pub fn record_drawn<R: Wait>(
+    rt: &R,
+    alloc: Global,
+    valid: &Valid,
+    plan: &Plan,
+    block: Block,
+    run: RandomRun,
+) -> Result<Recording, NoMemory>
+    requires { IsPlanOf valid.now plan.now }
+    ensures key { IfOk result (λ r. IsKeyOf valid.now plan.now run.number (Two block) r.key) }
+    ensures records { IfOk result (λ r. RecordsRandom valid.now plan.now (Two block) run.number run.timeouts run.steps r.recorded) }
+{
+    let source = valid.module().source.as_slice();
+    let key = RunKey::of(source, plan.bytes(), run.number, Profile::Two(block));
+    let world = open_world(alloc, valid, plan, Profile::Two(block))?;
+    let recorded = record_random(rt, alloc, world, run)?;
+    Ok(Recording { key, recorded })
+}
