@@ -34,7 +34,7 @@ test:
 pages: $(PROGRAM)
 	python3 scripts/crates.py --check
 	mkdir -p build
-	python3 bench/pages.py $(PROGRAM) README.md docs/TUTORIAL.md examples/hunt/README.md
+	python3 bench/pages.py $(PROGRAM) README.md docs/TUTORIAL.md examples/hunt/README.md examples/start/README.md
 
 # The table of crates in docs/ARCHITECTURE.md.
 table:
@@ -52,6 +52,7 @@ bench: $(PROGRAM) $(BENCH)
 	python3 bench/view.py $(PROGRAM) $(BENCH)
 	python3 bench/long_log.py $(PROGRAM)
 	python3 bench/recordings.py $(PROGRAM)
+	python3 bench/hunts.py $(PROGRAM)
 	python3 bench/threads.py $(PROGRAM)
 
 # Refuses each growth in turn: of the programs, on recordings, replays and listings of the worked rows and on a thread alone; and of

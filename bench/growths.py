@@ -5,7 +5,7 @@ usage: growths.py PATH_OF_WREPLAY [WORD..]
        growths.py PATH_OF_WREPLAY_BENCH
 
 The commands are those of `crates/worked_rows/data/commands` that have one of the words, and recordings by threads that come to the
-same each time; without a word those of the counter's first run, those of five waiting threads, and these recordings. A small library, made by the C compiler and loaded before the system's, answers
+same each time; without a word those of the counter's first run, those of five waiting threads, a hunt, and these recordings. A small library, made by the C compiler and loaded before the system's, answers
 one of the program's calls for memory with none: the first, then the second, and so on until a run asks for no more. Each time
 the program must do one of two things: exactly what it does with ample memory, or exit with 1, the output empty, and on
 standard error one line `refused N NoMemory`, with `--why` and one more line. Behind each such run the same command is run again with ample memory and must
@@ -16,6 +16,7 @@ empty, where memory was wanted. It prints, for each command, how many growths we
 import collections
 import os
 import re
+import shlex
 import shutil
 import subprocess
 import sys
@@ -37,7 +38,7 @@ WITH_REASONS = [
     "replay counter.wasm counter.plan first.pieces --threads --why",
     "view counter.wasm counter.plan first.pieces --place 1.1 --why",
 ]
-USUAL = ["first.", "five.", *BY_THREADS]
+USUAL = ["first.", "five.", "hunt counter.wasm counter.plan --until 'thread 0 i32 3'", *BY_THREADS]
 
 LIBRARY = r"""
 #include <errno.h>
@@ -73,12 +74,12 @@ def commands(words):
         for line in file.read().splitlines():
             command, _, kept = line.partition(" > ")
             command, _, source = command.partition(" < ")
-            yield line, command.split(), source, kept, any(word in line for word in words)
+            yield line, shlex.split(command), source, kept, any(word in line for word in words)
     for line in BY_THREADS:
         yield line, line.split(), "", "", any(word in line for word in words)
     for line in WITH_REASONS:
         command, _, source = line.partition(" < ")
-        yield line, command.split(), source, "", any(word in line for word in words)
+        yield line, shlex.split(command), source, "", any(word in line for word in words)
 
 
 def is_refusal(words, usual, answer):

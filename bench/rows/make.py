@@ -94,6 +94,39 @@ def drawn(module_file, module, plan_file, plan, number, timeouts=False, steps=No
 for number in (0, 1, 2, 3, 4, 5, 6, 7, 2 ** 64 - 1): drawn('counter.wasm', COUNTER, 'counter.plan', TWO, number)
 drawn('counter.wasm', COUNTER, 'counter.plan', TWO, 7, steps=3)
 
+# hunts: the least number whose run is caught, or a line for each run
+def quote(text): return "'%s'" % text if ' ' in text else text
+def hunt_words(files, until, unless, more): return 'hunt %s' % files + ''.join(" --until " + quote(t) for t in until) + ''.join(' --unless ' + quote(t) for t in unless) + more
+def hunted(module_file, module, plan_file, plan, until=(), unless=(), first=0, runs=1000, timeouts=False, size=4096, jobs=(1, 2, 4)):
+    """Hunts with some numbers of jobs: each writes the same."""
+    more = (' --from %d' % first if first else '') + (' --runs %d' % runs if runs != 1000 else '') + (' --timeouts now' if timeouts else '') + (' --size %d' % size if size != 4096 else '')
+    words = hunt_words('%s %s' % (module_file, plan_file), until, unless, more)
+    def is_sign(line, texts): return any(line.startswith(t) for t in texts) if until or unless else line.split(' ')[2:3] in (['trap'], ['waiting'])
+    for number in range(first, first + runs):
+        world = World(module, plan); world.draw(number, timeouts)
+        lines = world.report().splitlines()
+        signs = [line for line in lines if is_sign(line, until)]
+        if signs or unless and not any(is_sign(line, unless) for line in lines):
+            told = 'caught %d\n' % number + ''.join(line + '\n' for line in signs)
+            for n in jobs: command(words + ' --jobs %d' % n, world.lines(digest(module, plan), number, size), told)
+            return
+    for n in jobs: command(words + ' --jobs %d' % n, '', 'refused 71 NotCaught\n', 1)
+    command(words + ' --why', '', 'refused 71 NotCaught\n--from and --runs: the report of none of these runs is one that is caught\n', 1)
+def run_lines(module_file, module, plan_file, plan, first, runs, timeouts=False, jobs=(1, 3)):
+    """A line for each run."""
+    lines = ''
+    for number in range(first, first + runs):
+        world = World(module, plan); world.draw(number, timeouts)
+        lines += '%d %s\n' % (number, ', '.join(world.outcome(t) for t in world.threads))
+    for n in jobs: command('hunt %s %s --list --from %d --runs %d%s --jobs %d' % (module_file, plan_file, first, runs, ' --timeouts now' if timeouts else '', n), lines)
+HUNTED = ('counter.wasm', COUNTER, 'counter.plan', TWO)
+hunted(*HUNTED, until=('thread 1 i32 2', 'thread 0 i32 2'), size=1)
+hunted(*HUNTED, until=('thread 0 i32 3',), first=5)
+hunted(*HUNTED, unless=('thread 1 i32 3', 'thread 0 i32 2'), runs=30)
+hunted(*HUNTED, until=('00000000 05',), unless=('pages 1',), runs=9)
+hunted(*HUNTED, runs=7, first=2 ** 64 - 8)
+run_lines(*HUNTED, 0, 12); run_lines(*HUNTED, 2 ** 64 - 4, 3)
+
 # two readers and a writer
 SHARED = Module([('r', [], 'i32', load(0)), ('s', [], None, [('i32.const', 0), ('i32.const', 7), 'i32.store', 'end'])])
 keep('readers.wasm', SHARED.bytes); READERS = plan_of('r', 'r', 's'); keep('readers.plan', READERS)
@@ -136,8 +169,13 @@ for name, timeout in (('limited', 1000), ('endless', -1)):
     recorded(name + '1', name + '.wasm', m, name + '.plan', plan_of('f', 'n'), b'go 0 4\nout 0\ngo 1 4\ngo 0 1\n', orders=('', '1,1,1,1', '0,1,0,1'))
     recorded(name + '2', name + '.wasm', m, name + '.plan', plan_of('f', 'n'), b'go 0 4\ngo 1 4\nout 0\ngo 0 2\n', orders=('', '1,1,1,1', '0,1,0,1'))
 
+hunted('five.wasm', FIVE, 'five.plan', FIVES, runs=40)
+hunted('five.wasm', FIVE, 'five.plan', FIVES, until=('thread 4 i32 1',), runs=40)
 for number in range(4): drawn('five.wasm', FIVE, 'five.plan', FIVES, number)
 LIMITED = Module([('f', [], 'i32', wait(0, 0, 1000)), ('n', [], 'i32', notify(1) + ['end'])])
+hunted('limited.wasm', LIMITED, 'limited.plan', plan_of('f', 'n'), until=('thread 0 i32 2',), timeouts=True)
+hunted('limited.wasm', LIMITED, 'limited.plan', plan_of('f', 'n'), until=('thread 0 i32 2',), runs=20)
+run_lines('limited.wasm', LIMITED, 'limited.plan', plan_of('f', 'n'), 0, 6, True)
 for number in range(6): drawn('limited.wasm', LIMITED, 'limited.plan', plan_of('f', 'n'), number, number % 2 == 1)
 
 # traps, and accesses that are narrower than their operands
@@ -365,6 +403,18 @@ REPORT = RECORD + ' --schedule first.schedule --report'
 REPLAY = 'replay counter.wasm counter.plan first.pieces'
 for more in (' --report', ' --report --run 1', ' --schedule first.schedule --threads'):
     usage(RECORD + more, "'record' takes one of '--schedule <FILE>', '--threads' and '--random'")
+HUNT_WORDS = 'hunt counter.wasm counter.plan'
+for first in ('18446744073709551616', '-'): usage(HUNT_WORDS + ' --from ' + first, "'--from <N>' takes a number from 0 to 18446744073709551614")
+for runs in ('0', 'x', '18446744073709551616'): usage(HUNT_WORDS + ' --runs ' + runs, "'--runs <N>' takes a number from 1 to 18446744073709551615")
+for range_of in (' --from 18446744073709551615 --runs 1', ' --from 1 --runs 18446744073709551615'):
+    usage(HUNT_WORDS + range_of, "'--from <N>' and '--runs <N>' come to more than 18446744073709551615")
+for jobs in ('0', '257', 'all'): usage(HUNT_WORDS + ' --jobs ' + jobs, "'--jobs <N>' takes a number from 1 to 256")
+usage(HUNT_WORDS + ' --timeouts later', "'--timeouts <WHEN>' takes never or now")
+usage(HUNT_WORDS + ' --steps 1000000001', "'--steps <N>' takes a number from 0 to 1000000000")
+usage(HUNT_WORDS + ' --block 96', "'--block <N>' takes 64, 128, 256, 512, 1024, 2048 or 4096")
+for size, text in ((0, '31 Empty'), (4097, '32 TooMany')): command(HUNT_WORDS + ' --size %d' % size, '', 'refused %s\n' % text, 1)
+command('hunt none.wasm counter.plan', '', 'refused 44 SourceFailed\n', 1)
+command('hunt counter.wasm none.plan', '', 'refused 44 SourceFailed\n', 1)
 for size in (96, 32): usage(REPORT + ' --block %d' % size, "'--block <N>' takes 64, 128, 256, 512, 1024, 2048 or 4096")
 usage(REPORT + ' --steps 1000000001', "'--steps <N>' takes a number from 0 to 1000000000")
 unexpected(REPORT + ' --size -1', '-1', 'record [OPTIONS] <MODULE> <PLAN>', True)

@@ -1,16 +1,17 @@
 -- What command lines ask for.
-use Rattle.std.specs.Prelude.{◌≡◌, ◌⊎◌, ◌≤◌, ◌^◌, ◌||◌, ℕ, Bool, true, false, List, [], Option, Some, None, codes, option_map}
+use Rattle.std.specs.Prelude.{◌≡◌, ◌⊎◌, ◌<◌, ◌≤◌, ◌+◌, ◌^◌, ◌||◌, ℕ, Bool, true, false, List, [], Option, Some, None, codes, map, option_map, unwrap_or}
 use Rattle.std.specs.Str.{bytes_eq}
-use Rattle.clap.specs.Words.{Text, Row, first_of, subcommand_of, fault_of, IsAmong}
+use Rattle.clap.specs.Words.{Text, Row, all_of, first_of, subcommand_of, fault_of, IsAmong}
 use Rattle.clap.specs.declared.error.kind.ErrorKind.TheVariants as kind
 use Rattle.wasm_types.specs.declared.sizes.TheConstants.{MOST_STEPS}
 use Rattle.command_words.specs.Words.{number_up_to, order_in, pair_in}
 use Rattle.command_words.specs.Commands.{program}
 use Rattle.command_words.specs.declared.requests.Request.{Request}
-use Rattle.command_words.specs.declared.requests.Request.TheVariants.{Gather, Check, Record, Replay, View}
+use Rattle.command_words.specs.declared.requests.Request.TheVariants.{Gather, Check, Record, Hunt, Replay, View}
 use Rattle.command_words.specs.declared.requests.RecordOrder.{RecordOrder}
 use Rattle.command_words.specs.declared.requests.RecordOrder.TheVariants as order
 use Rattle.command_words.specs.declared.requests.RecordRequest.{RecordRequest}
+use Rattle.command_words.specs.declared.requests.HuntRequest.{HuntRequest}
 use Rattle.command_words.specs.declared.requests.ReplayRequest.{ReplayRequest}
 use Rattle.command_words.specs.declared.requests.ThreadCount.{ThreadCount}
 use Rattle.command_words.specs.declared.requests.ByteRange.{ByteRange}
@@ -69,6 +70,38 @@ pub record IsRecordAsked (rows : List Row) (r : RecordRequest) : Type 0 where
   pub has_timeouts : (is_text (codes "never") (first_of (codes "timeouts") rows) || is_text (codes "now") (first_of (codes "timeouts") rows)) ≡ true
   pub has_report : r.report ≡ is_text (codes "true") (first_of (codes "report") rows)
 
+-- the texts of an option that may be named any number of times
+abbrev pub texts_of : Text → List Row → List Text
+texts_of name rows = unwrap_or (all_of name rows) []
+
+-- no number is none, and another must be from 1 to 256
+abbrev pub IsJobsAsked : Option Text → Option ℕ → Type 0
+IsJobsAsked None jobs = jobs ≡ None
+IsJobsAsked (Some text) None = ⊥
+IsJobsAsked (Some text) (Some jobs) = (number_up_to 256 text ≡ Some jobs) × (0 < jobs)
+
+-- the values that a parser found name these numbers of runs: one or more, all below 2^64 - 1
+pub record IsRangeOfRuns (rows : List Row) (from runs : ℕ) : Type 0 where
+  pub has_from : number_of 18446744073709551615 (first_of (codes "from") rows) ≡ Some from
+  pub has_runs : number_of 18446744073709551615 (first_of (codes "runs") rows) ≡ Some runs
+  pub some : 0 < runs
+  pub fits : from + runs < 2 ^ 64
+
+-- the values that a parser found ask for this hunt
+pub record IsHuntAsked (rows : List Row) (r : HuntRequest) : Type 0 where
+  pub has_module : first_of (codes "MODULE") rows ≡ Some r.«module».now
+  pub has_plan : first_of (codes "PLAN") rows ≡ Some r.plan.now
+  pub has_until : map (λ t. t.now) r.until.items ≡ texts_of (codes "until") rows
+  pub has_unless : map (λ t. t.now) r.unless.items ≡ texts_of (codes "unless") rows
+  pub has_range : IsRangeOfRuns rows r.range.from r.range.count
+  pub has_jobs : IsJobsAsked (first_of (codes "jobs") rows) r.jobs
+  pub has_timeouts : (is_text (codes "never") (first_of (codes "timeouts") rows) || is_text (codes "now") (first_of (codes "timeouts") rows)) ≡ true
+  pub has_times_out : r.times_out ≡ times_out_in rows
+  pub has_steps : number_of MOST_STEPS (first_of (codes "steps") rows) ≡ Some r.steps
+  pub has_size : number_of 4294967295 (first_of (codes "size") rows) ≡ Some r.size
+  pub has_block : IsBlockOf (number_of 4294967295 (first_of (codes "block") rows)) r.block
+  pub has_list : r.list ≡ has_flag (codes "list") rows
+
 -- the values that a parser found ask for this replay
 pub record IsReplayAsked (rows : List Row) (r : ReplayRequest) : Type 0 where
   pub has_module : first_of (codes "MODULE") rows ≡ Some r.«module».now
@@ -104,6 +137,7 @@ IsAsked name rows (Gather skips objects contradictions) = (name ≡ codes "gathe
     × (objects ≡ is_text (codes "true") (first_of (codes "objects") rows)) × (contradictions ≡ is_text (codes "true") (first_of (codes "contradictions") rows))
 IsAsked name rows (Check path) = (name ≡ codes "check") × (first_of (codes "MODULE") rows ≡ Some path.now)
 IsAsked name rows (Record r) = (name ≡ codes "record") × IsRecordAsked rows r
+IsAsked name rows (Hunt r) = (name ≡ codes "hunt") × IsHuntAsked rows r
 IsAsked name rows (Replay r by_threads) = (name ≡ codes "replay") × IsReplayAsked rows r × IsTurnsAsked rows by_threads
 IsAsked name rows (View v) = (name ≡ codes "view") × IsViewAsked rows v
 

@@ -1,7 +1,7 @@
 -- The command lines that there are, as the parser has them.
 use Rattle.std.specs.Prelude.{codes, true, Some, [], ◌∷◌}
 use Rattle.clap.specs.Words.{App, Rule, Text, new_app, new_rule, with_rule, with_subcommand}
-use Rattle.clap.specs.declared.builder.action.ArgAction.TheVariants.{SetTrue}
+use Rattle.clap.specs.declared.builder.action.ArgAction.TheVariants.{SetTrue, Append}
 
 -- a file that has to be named
 abbrev pub file_rule : Text → Rule
@@ -19,6 +19,10 @@ option_rule name = record (new_rule name) { long = Some name; value_names = 1 }
 abbrev pub flag_rule : Text → Rule
 flag_rule name = record (new_rule name) { long = Some name; action = Some SetTrue }
 
+-- `--NAME VALUE`, any number of times
+abbrev pub repeated_rule : Text → Rule
+repeated_rule name = record (new_rule name) { long = Some name; value_names = 1; action = Some Append }
+
 -- a command that can say in words why it refuses
 abbrev pub with_why : App → App
 with_why a = with_rule a (flag_rule (codes "why"))
@@ -33,9 +37,12 @@ check = with_why (with_rule (new_app (codes "check")) (file_rule (codes "MODULE"
 abbrev pub on_program : App → App
 on_program a = with_rule (with_rule a (file_rule (codes "MODULE"))) (file_rule (codes "PLAN"))
 
+-- how long a recording is, and how its log is cut
+abbrev pub with_sizes : App → App
+with_sizes a = with_rule (with_rule (with_rule a (default_rule (codes "steps") (codes "1000000"))) (default_rule (codes "size") (codes "4096"))) (default_rule (codes "block") (codes "64"))
+
 abbrev pub with_numbers : App → App
-with_numbers a = with_rule (with_rule (with_rule (with_rule a (default_rule (codes "run") (codes "0"))) (default_rule (codes "steps") (codes "1000000")))
-    (default_rule (codes "size") (codes "4096"))) (default_rule (codes "block") (codes "64"))
+with_numbers a = with_sizes (with_rule a (default_rule (codes "run") (codes "0")))
 
 -- how the threads of a recording go on
 abbrev pub with_orders : App → App
@@ -44,6 +51,18 @@ with_orders a = with_rule (with_rule (with_rule (with_rule a (option_rule (codes
 
 abbrev pub recording : App
 recording = with_why (with_rule (with_numbers (with_orders (on_program (new_app (codes "record"))))) (flag_rule (codes "report")))
+
+-- which runs are caught
+abbrev pub with_signs : App → App
+with_signs a = with_rule (with_rule a (repeated_rule (codes "until"))) (repeated_rule (codes "unless"))
+
+-- which numbers are tried, how many at once, and whether time-outs are drawn
+abbrev pub with_range_of_runs : App → App
+with_range_of_runs a = with_rule (with_rule (with_rule (with_rule a (default_rule (codes "from") (codes "0"))) (default_rule (codes "runs") (codes "1000"))) (option_rule (codes "jobs")))
+    (default_rule (codes "timeouts") (codes "never"))
+
+abbrev pub hunting : App
+hunting = with_why (with_rule (with_sizes (with_range_of_runs (with_signs (on_program (new_app (codes "hunt")))))) (flag_rule (codes "list")))
 
 -- a replay's files, and its order
 abbrev pub on_pieces : App → App
@@ -67,4 +86,4 @@ abbrev pub above : App
 above = record { top = record (new_app (codes "wreplay")).top { has_version = true; subcommand_required = true }; subs = [] }
 
 abbrev pub program : App
-program = with_subcommand (with_subcommand (with_subcommand (with_subcommand (with_subcommand above check.top) recording.top) replaying.top) viewing.top) gather.top
+program = with_subcommand (with_subcommand (with_subcommand (with_subcommand (with_subcommand (with_subcommand above check.top) recording.top) hunting.top) replaying.top) viewing.top) gather.top

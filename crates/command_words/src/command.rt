@@ -47,6 +47,10 @@ fn argument<'a>(alloc: Global, row: &ArgumentRow) -> Arg<'a>
             .long(row.name)
             .value_name(value)
             .default_value(default),
+        Takes::Values(value) => argument
+            .long(row.name)
+            .value_name(value)
+            .action(ArgAction::Append),
         Takes::Nothing => argument.long(row.name).action(ArgAction::SetTrue),
     }
 }

@@ -185,6 +185,52 @@ Example:
   wreplay record examples/lost.wasm examples/lost.plan --threads > pieces.txt
   wreplay record examples/lost.wasm examples/lost.plan --random --run 7 --report";
 
+/// What `hunt` makes and writes.
+pub(crate) const HUNT_ABOUT: &str = "\
+Makes runs of the threads of a plan by random schedules, as `wreplay record
+--random` does, until one is caught, and writes the log of that run as lines of
+pieces. Standard error says `caught N`, the number of the run, and behind it the
+lines of its report that caught it. `wreplay record --random --run N` is the
+same run, on every machine.
+
+A run is caught where a line of its report begins with the TEXT of an --until,
+or where no line of its report begins with the TEXT of an --unless; with
+neither, where a thread trapped, or waits at its end. Lines of a report are
+
+  pages 1                                    the length of the memory
+  00000010 0a000000000000000000000000000000  16 bytes that are not all zero
+  thread 0 i32 10                            a result
+  thread 1 trap 4 out of bounds
+  thread 2 waiting                           or none, running
+
+Of the numbers --from on, --runs of them, the least is taken whose run is
+caught, whatever --jobs is.
+
+With --list it catches none, and writes a line for each run: its number, and
+what each thread came to, as in
+
+  17 i32 10, i32 10, trap 4 out of bounds
+
+so that other programs can judge what no line alone tells. On many machines,
+each takes numbers of its own by --from and --runs, and a run that is caught is
+named by its number alone.";
+
+/// How `hunt` refuses.
+pub(crate) const HUNT_REFUSALS: &str = "\
+Refusals (exit status 1), the first of them in this order:
+  refused 1, 2, 3, 11, 12          MODULE, as `wreplay check` refuses it
+  refused 12 to 17                 PLAN, as `wreplay record` refuses it
+  refused 31 Empty                 --size is 0
+  refused 32 TooMany               --size is above 4096
+  refused 71 NotCaught             no run of these numbers is caught
+  refused 12 or 23 NoMemory        the runs or a text do not fit into memory
+  refused 44 SourceFailed          a file can't be read
+  refused 45 SinkFailed            writing failed; a beginning was written
+
+Example:
+  wreplay hunt examples/lost.wasm examples/lost.plan \\
+      --unless '00000000 02' > pieces.txt";
+
 /// What `replay` reads and writes.
 pub(crate) const REPLAY_ABOUT: &str = "\
 Makes a recorded run again from its log, and writes what it came to: the pages

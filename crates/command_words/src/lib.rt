@@ -12,5 +12,6 @@ mod wanted;
 
 pub use command::{Asked, requested};
 pub use requests::{
-    ByteRange, RecordOrder, RecordRequest, ReplayRequest, Request, ThreadCount, ViewRequest,
+    ByteRange, HuntRequest, RecordOrder, RecordRequest, ReplayRequest, Request, RunRange,
+    ThreadCount, ViewRequest,
 };

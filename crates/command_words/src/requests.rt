@@ -1,5 +1,7 @@
 //! What command lines ask for.
 
+ghost use Rattle.std.specs.Prelude.{◌+◌, ◌<◌, ◌^◌};
+
 use wasm_types::Block;
 
 /// How the threads of a recording go on.
@@ -28,6 +30,41 @@ pub struct RecordRequest<'a> {
     pub block: Block,
     /// Whether the report is wanted, and not the pieces.
     pub report: bool,
+}
+
+/// Numbers of runs that follow one another, all below 2^64 - 1.
+#[derive(Clone, Copy, Debug, PartialEq, Eq)]
+pub struct RunRange {
+    /// The first number.
+    pub from: u64,
+    /// How many numbers.
+    pub count: u64,
+    ghost fits: { from + count < 2 ^ 64 },
+}
+
+/// A hunt: the files of the module and the plan, which runs that numbers draw are looked at, what of their reports
+/// shows one that is caught, and how they are made and written.
+#[derive(Drop)]
+pub struct HuntRequest<'a> {
+    pub module: &'a str,
+    pub plan: &'a str,
+    /// A run is caught where a line of its report begins with one of these.
+    pub until: Vec<&'a str>,
+    /// A run is caught where no line of its report begins with one of these.
+    pub unless: Vec<&'a str>,
+    /// The numbers of the runs.
+    pub range: RunRange,
+    /// How many runs are made at once, from 1 to 256; as many as there are processors, where none is named.
+    pub jobs: Option<u32>,
+    /// Whether time-outs of waits are drawn, too.
+    pub times_out: bool,
+    /// The most steps that a thread makes.
+    pub steps: u32,
+    /// The most entries of a piece.
+    pub size: u32,
+    pub block: Block,
+    /// Whether a line for each run is wanted, and no run is caught.
+    pub list: bool,
 }
 
 /// A replay: the files of the module, the plan and the piece lines, and the threads that take turns first.
@@ -83,6 +120,8 @@ pub enum Request<'a> {
     Check(&'a str),
     /// The pieces or the report of a recording.
     Record(RecordRequest<'a>),
+    /// The pieces of the first run that is caught, or a line for each run.
+    Hunt(HuntRequest<'a>),
     /// The report of a replay, whose threads take turns, or replay at once, as threads of the system.
     Replay {
         replay: ReplayRequest<'a>,

@@ -11,6 +11,7 @@ use crate::help;
 pub(crate) enum Subcommand {
     Check,
     Record,
+    Hunt,
     Replay,
     View,
     Gather,
@@ -20,6 +21,7 @@ pub(crate) enum Subcommand {
 pub(crate) static SUBCOMMANDS: &[Subcommand] = &[
     Subcommand::Check,
     Subcommand::Record,
+    Subcommand::Hunt,
     Subcommand::Replay,
     Subcommand::View,
     Subcommand::Gather,
@@ -34,6 +36,8 @@ pub(crate) enum Takes {
     Value(&'static str),
     /// `--NAME VALUE`, with a default: what the value is called, and the default.
     ValueOr(&'static str, &'static str),
+    /// `--NAME VALUE`, any number of times: what a value is called.
+    Values(&'static str),
     /// `--NAME`.
     Nothing,
 }
@@ -68,6 +72,24 @@ const ORDER: ArgumentRow = ArgumentRow {
     name: "order",
     takes: Takes::Value("LIST"),
     help: "Threads that take turns first: numbers joined by commas",
+};
+
+const STEPS: ArgumentRow = ArgumentRow {
+    name: "steps",
+    takes: Takes::ValueOr("N", "1000000"),
+    help: "The most steps of a thread, to 1000000000",
+};
+
+const SIZE: ArgumentRow = ArgumentRow {
+    name: "size",
+    takes: Takes::ValueOr("N", "4096"),
+    help: "The most entries of a piece, 1 to 4096",
+};
+
+const BLOCK: ArgumentRow = ArgumentRow {
+    name: "block",
+    takes: Takes::ValueOr("N", "64"),
+    help: "The bytes of a block: 64, 128, .. 4096",
 };
 
 const WHY: ArgumentRow = ArgumentRow {
@@ -108,25 +130,58 @@ static OF_RECORD: &[ArgumentRow] = &[
         takes: Takes::ValueOr("N", "0"),
         help: "The number of the run, below 2^64",
     },
-    ArgumentRow {
-        name: "steps",
-        takes: Takes::ValueOr("N", "1000000"),
-        help: "The most steps of a thread, to 1000000000",
-    },
-    ArgumentRow {
-        name: "size",
-        takes: Takes::ValueOr("N", "4096"),
-        help: "The most entries of a piece, 1 to 4096",
-    },
-    ArgumentRow {
-        name: "block",
-        takes: Takes::ValueOr("N", "64"),
-        help: "The bytes of a block: 64, 128, .. 4096",
-    },
+    STEPS,
+    SIZE,
+    BLOCK,
     ArgumentRow {
         name: "report",
         takes: Takes::Nothing,
         help: "Write what the run came to",
+    },
+    WHY,
+];
+
+/// The arguments of `hunt`.
+static OF_HUNT: &[ArgumentRow] = &[
+    MODULE,
+    PLAN,
+    ArgumentRow {
+        name: "until",
+        takes: Takes::Values("TEXT"),
+        help: "Catch a run of whose report a line begins with TEXT",
+    },
+    ArgumentRow {
+        name: "unless",
+        takes: Takes::Values("TEXT"),
+        help: "Catch a run of whose report no line begins with TEXT",
+    },
+    ArgumentRow {
+        name: "from",
+        takes: Takes::ValueOr("N", "0"),
+        help: "The number of the first run",
+    },
+    ArgumentRow {
+        name: "runs",
+        takes: Takes::ValueOr("N", "1000"),
+        help: "How many runs, 1 or more",
+    },
+    ArgumentRow {
+        name: "jobs",
+        takes: Takes::Value("N"),
+        help: "How many runs at once, 1 to 256 [default: the processors]",
+    },
+    ArgumentRow {
+        name: "timeouts",
+        takes: Takes::ValueOr("WHEN", "never"),
+        help: "When waits time out, never or now",
+    },
+    STEPS,
+    SIZE,
+    BLOCK,
+    ArgumentRow {
+        name: "list",
+        takes: Takes::Nothing,
+        help: "Write a line for each run, and catch none",
     },
     WHY,
 ];
@@ -212,6 +267,7 @@ impl Subcommand {
         match self {
             Subcommand::Check => "check",
             Subcommand::Record => "record",
+            Subcommand::Hunt => "hunt",
             Subcommand::Replay => "replay",
             Subcommand::View => "view",
             Subcommand::Gather => "gather",
@@ -225,6 +281,7 @@ impl Subcommand {
             Subcommand::Record => {
                 "Run threads by a schedule, at once or at random, and write the log"
             }
+            Subcommand::Hunt => "Make random runs until one shows a fault, and write its log",
             Subcommand::Replay => "Make a recorded run again, and write what it came to",
             Subcommand::View => "Stop a replay where it matters, and show it",
             Subcommand::Gather => "Join piece lines into one log, and list it",
@@ -236,6 +293,7 @@ impl Subcommand {
         match self {
             Subcommand::Check => help::CHECK_ABOUT,
             Subcommand::Record => help::RECORD_ABOUT,
+            Subcommand::Hunt => help::HUNT_ABOUT,
             Subcommand::Replay => help::REPLAY_ABOUT,
             Subcommand::View => help::VIEW_ABOUT,
             Subcommand::Gather => help::GATHER_ABOUT,
@@ -247,6 +305,7 @@ impl Subcommand {
         match self {
             Subcommand::Check => help::CHECK_REFUSALS,
             Subcommand::Record => help::RECORD_REFUSALS,
+            Subcommand::Hunt => help::HUNT_REFUSALS,
             Subcommand::Replay => help::REPLAY_REFUSALS,
             Subcommand::View => help::VIEW_REFUSALS,
             Subcommand::Gather => help::GATHER_REFUSALS,
@@ -260,6 +319,7 @@ impl Subcommand {
         match self {
             Subcommand::Check => OF_CHECK,
             Subcommand::Record => OF_RECORD,
+            Subcommand::Hunt => OF_HUNT,
             Subcommand::Replay => OF_REPLAY,
             Subcommand::View => OF_VIEW,
             Subcommand::Gather => OF_GATHER,

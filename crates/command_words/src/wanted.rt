@@ -1,12 +1,13 @@
 //! What the values of a command ask for.
 
-ghost use Rattle.std.specs.Prelude.{◌≡◌, ℕ, Bool, Option, codes, Some, None, IfOk, OnErr, IfSome, IfNone, option_map};
+ghost use Rattle.std.specs.Prelude.{◌≡◌, ℕ, Bool, Option, codes, map, Some, None, IfOk, OnErr, IfSome, IfNone, option_map};
 ghost use Rattle.clap.specs.Words.{Row, rows_of, first_of};
 ghost use Rattle.clap.specs.Matches.{found_of};
-ghost use Rattle.command_words.specs.Asked.{IsAsked, IsOrderAsked, IsRecordAsked, IsReplayAsked, IsTurnsAsked, IsViewAsked, IsCountAsked, IsRangeAsked, IsBlockOf, order_of, is_text, number_of, pair_of_option};
+ghost use Rattle.command_words.specs.Asked.{IsAsked, IsOrderAsked, IsRecordAsked, IsHuntAsked, IsRangeOfRuns, IsJobsAsked, IsReplayAsked, IsTurnsAsked, IsViewAsked, IsCountAsked, IsRangeAsked, IsBlockOf, order_of, is_text, number_of, pair_of_option, texts_of};
 ghost use Rattle.command_words.specs.declared.requests.Request.{Request};
 ghost use Rattle.command_words.specs.declared.requests.RecordOrder.{RecordOrder};
 ghost use Rattle.command_words.specs.declared.requests.RecordRequest.{RecordRequest};
+ghost use Rattle.command_words.specs.declared.requests.HuntRequest.{HuntRequest};
 ghost use Rattle.command_words.specs.declared.requests.ReplayRequest.{ReplayRequest};
 ghost use Rattle.command_words.specs.declared.requests.ThreadCount.{ThreadCount};
 ghost use Rattle.command_words.specs.declared.requests.ByteRange.{ByteRange};
@@ -14,7 +15,8 @@ ghost use Rattle.command_words.specs.declared.requests.ViewRequest.{ViewRequest}
 
 use crate::numbers::{number_up_to, order_in, pair_in, small_number_up_to};
 use crate::requests::{
-    ByteRange, RecordOrder, RecordRequest, ReplayRequest, Request, ThreadCount, ViewRequest,
+    ByteRange, HuntRequest, RecordOrder, RecordRequest, ReplayRequest, Request, RunRange,
+    ThreadCount, ViewRequest,
 };
 use clap::ArgMatches;
 use std::alloc::Global;
@@ -37,6 +39,16 @@ const BAD_SIZE: &str = "error: '--size <N>' takes a number from 0 to 4294967295\
 const BAD_BLOCK: &str = "error: '--block <N>' takes 64, 128, 256, 512, 1024, 2048 or 4096\n";
 
 const BAD_TIMEOUTS: &str = "error: '--timeouts <WHEN>' takes never or now\n";
+
+const BAD_FIRST: &str = "error: '--from <N>' takes a number from 0 to 18446744073709551614\n";
+
+const BAD_RUNS: &str = "error: '--runs <N>' takes a number from 1 to 18446744073709551615\n";
+
+/// What is said of a range of numbers that runs past the last one.
+const BAD_RANGE: &str =
+    "error: '--from <N>' and '--runs <N>' come to more than 18446744073709551615\n";
+
+const BAD_JOBS: &str = "error: '--jobs <N>' takes a number from 1 to 256\n";
 
 const BAD_ORDER: &str =
     "error: '--order <LIST>' takes 1 to 1000000 thread numbers, joined by commas\n";
@@ -160,6 +172,102 @@ fn recording_of<'a>(matches: &ArgMatches<'a>) -> Wanted<RecordRequest<'a>>
         size,
         block,
         report,
+    })
+}
+
+/// The texts of an option that may be named any number of times.
+fn values<'a>(alloc: Global, matches: &ArgMatches<'a>, id: &str) -> Result<Vec<&'a str>, NoMemory>
+    ensures { IfOk result (λ v. map (λ t. t.now) v.items ≡ texts_of id.now (rows_of (found_of matches.now))) }
+{
+    match matches.get_strs(id) {
+        Some(values) => Ok(Vec::from_slice(alloc, values)?),
+        None => Ok(Vec::new(alloc)),
+    }
+}
+
+/// The numbers of the runs of a hunt.
+fn range_of_runs(matches: &ArgMatches<'_>) -> Wanted<RunRange>
+    ensures asked { IfOk result (λ r. IsRangeOfRuns (rows_of (found_of matches.now)) r.from r.count) }
+    ensures none { OnErr result ((from runs : ℕ) → IsRangeOfRuns (rows_of (found_of matches.now)) from runs → ⊥) }
+{
+    let Some(from) = number(matches, "from", u64::MAX) else {
+        return Err(BAD_FIRST);
+    };
+    let Some(count) = number(matches, "runs", u64::MAX) else {
+        return Err(BAD_RUNS);
+    };
+    if count == 0 {
+        return Err(BAD_RUNS);
+    }
+    match from.checked_add(count) {
+        Some(_) => Ok(RunRange { from, count }),
+        None => Err(BAD_RANGE),
+    }
+}
+
+/// How many runs of a hunt are made at once, if that is named; None where it is no number from 1 to 256.
+fn jobs(matches: &ArgMatches<'_>) -> Option<Option<u32>>
+    ensures asked { IfSome result (IsJobsAsked (first_of (codes "jobs") (rows_of (found_of matches.now)))) }
+    ensures none { IfNone result ((jobs : Option ℕ) → IsJobsAsked (first_of (codes "jobs") (rows_of (found_of matches.now))) jobs → ⊥) }
+{
+    let Some(text) = value(matches, "jobs") else {
+        return Some(None);
+    };
+    match small_number_up_to(text.as_bytes(), 256) {
+        None => None,
+        Some(0) => None,
+        Some(jobs) => Some(Some(jobs)),
+    }
+}
+
+/// The hunt for runs whose reports have these texts that the values of `hunt` ask for.
+fn hunt_of<'a>(
+    matches: &ArgMatches<'a>,
+    until: Vec<&'a str>,
+    unless: Vec<&'a str>,
+) -> Wanted<HuntRequest<'a>>
+    requires until { map (λ t. t.now) until.items ≡ texts_of (codes "until") (rows_of (found_of matches.now)) }
+    requires unless { map (λ t. t.now) unless.items ≡ texts_of (codes "unless") (rows_of (found_of matches.now)) }
+    ensures asked { IfOk result (IsHuntAsked (rows_of (found_of matches.now))) }
+    ensures none { OnErr result ((r : HuntRequest) → IsHuntAsked (rows_of (found_of matches.now)) r → ⊥) }
+{
+    let Some(module) = value(matches, "MODULE") else {
+        return Err(MISSING);
+    };
+    let Some(plan) = value(matches, "PLAN") else {
+        return Err(MISSING);
+    };
+    let range = match range_of_runs(matches) {
+        Ok(range) => range,
+        Err(wrong) => return Err(wrong),
+    };
+    let Some(jobs) = jobs(matches) else {
+        return Err(BAD_JOBS);
+    };
+    if !has_text(matches, "timeouts", "never") && !has_text(matches, "timeouts", "now") {
+        return Err(BAD_TIMEOUTS);
+    }
+    let Some(steps) = small_number(matches, "steps", MOST_STEPS) else {
+        return Err(BAD_STEPS);
+    };
+    let Some(size) = small_number(matches, "size", u32::MAX) else {
+        return Err(BAD_SIZE);
+    };
+    let Some(block) = block(matches) else {
+        return Err(BAD_BLOCK);
+    };
+    Ok(HuntRequest {
+        module,
+        plan,
+        until,
+        unless,
+        range,
+        jobs,
+        times_out: has_text(matches, "timeouts", "now"),
+        steps,
+        size,
+        block,
+        list: has_text(matches, "list", "true"),
     })
 }
 
@@ -306,6 +414,14 @@ pub(crate) fn request_of<'a>(
             Ok(recording) => Ok(Ok(Request::Record(recording))),
             Err(wrong) => Ok(Err(wrong)),
         },
+        "hunt" => {
+            let until = values(alloc, matches, "until")?;
+            let unless = values(alloc, matches, "unless")?;
+            match hunt_of(matches, until, unless) {
+                Ok(hunt) => Ok(Ok(Request::Hunt(hunt))),
+                Err(wrong) => Ok(Err(wrong)),
+            }
+        }
         "replay" => match replay_of(matches, order_of(alloc, matches)?) {
             Ok(replay) => match by_threads(matches) {
                 Some(by_threads) => Ok(Ok(Request::Replay { replay, by_threads })),

@@ -4,3 +4,4 @@ pub mod Streams
 pub mod Beginnings
 pub mod Ends
 pub mod Viewed
+pub mod Least

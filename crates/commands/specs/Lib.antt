@@ -4,6 +4,9 @@ pub mod Checks
 pub mod Inputs
 pub mod Memory
 pub mod Records
+pub mod Signs
+pub mod Least
+pub mod Hunts
 pub mod Replays
 pub mod Views
 pub mod Answered

@@ -64,15 +64,15 @@ abbrev pub stopped_line : ℕ → List ℕ → List ℕ
 stopped_line most [] = []
 stopped_line most (thread ∷ threads) = codes "threads stopped at --steps " ++ (decimal most ++ (codes ":" ++ (flat_map (λ t. 32 ∷ decimal t) (thread ∷ threads) ++ codes "\n")))
 
--- the text of a recording, and a line of the threads that stopped at `--steps`
+-- the text of a recording or a hunt, and what is told beside it
 pub record AnswerAt : Type 0 where
   pub text : List ℕ
-  pub stopped : List ℕ
+  pub told : List ℕ
 
 abbrev pub answer_of : RecordRequest → RecordingAt → AnswerAt
 answer_of request r = record {
   text = recorded_text request.report request.size r;
-  stopped = stopped_line request.steps (stopped_from request.steps 0 r.recorded.threads);
+  told = stopped_line request.steps (stopped_from request.steps 0 r.recorded.threads);
 }
 
 -- what was recorded is of a run of that number, is so, and is answered

@@ -37,6 +37,8 @@ pub enum Fault {
     Replay(Unreplayed),
     /// The bytes of the view can't be shown.
     View(ViewFault),
+    /// Refusal 71: none of the runs is caught.
+    NotCaught,
     /// Refusal 23: memory for the command line or for a text could not be had.
     NoMemory,
     /// Refusal 45: writing failed, after a beginning was written.

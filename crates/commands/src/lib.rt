@@ -1,14 +1,16 @@
-//! What the commands make of the files that they name: a summary, a recording, a report, a view.
+//! What the commands make of the files that they name: a summary, a recording, a run that is caught, a report, a view.
 //!
-//! `check`, `record`, `replay` and `view` answer what is so of the bytes that the files hold (`checked`, `recorded`,
-//! `replayed`, `viewed`), or the first fault in the order of the files (`refused`); `Fault::text` is its line. Through
-//! `Files` they read; `MemoryFiles` are exact ones.
+//! `check`, `record`, `hunt`, `replay` and `view` answer what is so of the bytes that the files hold (`checked`,
+//! `recorded`, `hunted`, `replayed`, `viewed`), or the first fault in the order of the files (`refused`); `Fault::text`
+//! is its line. Through `Files` they read; `MemoryFiles` are exact ones.
 #![tactic(auto)]
 
 mod check_command;
 mod fault;
 mod files;
 mod gathered;
+mod hunt_command;
+mod hunt_surveys;
 mod memory;
 mod program;
 mod quotes;
@@ -16,6 +18,7 @@ mod record_answer;
 mod record_command;
 mod replay_command;
 mod schedule_file;
+mod signs;
 mod stopped;
 mod texts;
 mod view_command;
@@ -24,6 +27,7 @@ pub use check_command::check;
 pub use fault::Fault;
 pub use files::{FileFault, FileState, Files, InputFile};
 pub use gathered::{ReplayInput, read_replay_input};
+pub use hunt_command::hunt;
 pub use memory::{MemoryFile, MemoryFiles};
 pub use program::Program;
 pub use quotes::{ImportNames, Quote, import_names, plan_quote, schedule_quote};

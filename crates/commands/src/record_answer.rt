@@ -1,6 +1,6 @@
 //! What a recording answers, to be written.
 
-ghost use Rattle.std.specs.Prelude.{◌≡◌, ◌+◌, ◌-◌, ◌^◌, ◌<◌, ◌≤◌, ℕ, List, ◌++◌, IfOk, OnOk, OnErr, false, string_bytes};
+ghost use Rattle.std.specs.Prelude.{◌≡◌, ◌+◌, ◌-◌, ◌^◌, ◌<◌, ◌≤◌, ℕ, List, ◌++◌, IfOk, OnOk, OnErr, false};
 ghost use Rattle.commands.specs.Records.{recorded_text};
 
 use byte_streams::{Failed, Sink, write_all};
@@ -63,61 +63,60 @@ pub enum AnswerForm {
     Lines(RecordedLines),
 }
 
-/// What a recording answers: the report of the run's end, or the lines of its pieces; and a line of the threads that
-/// stopped at `--steps`, which is empty where there are none. Contracts see both.
+/// What a recording or a hunt answers: the report of a run's end, the lines of its pieces, or another text; and what is
+/// told beside it on standard error, which may be nothing. Contracts see both.
 #[derive(Drop)]
 pub struct RecordAnswer {
     form: AnswerForm,
-    stopped: String,
+    told: Vec<u8>,
 }
 
 impl Model for RecordAnswer {
-    ghost use Rattle.std.specs.Prelude.{string_bytes};
     ghost use Rattle.commands.specs.Answered.{form_text};
     ghost use Rattle.commands.specs.Records.{AnswerAt};
 
     ghost Value = { AnswerAt };
 
-    ghost view = { λ a. record { text = form_text a.form; stopped = string_bytes a.stopped } };
+    ghost view = { λ a. record { text = form_text a.form; told = a.told.items } };
 }
 
 impl RecordAnswer {
-    /// A text that is made, and the line of the threads that stopped.
-    pub(crate) fn of_text(text: Vec<u8>, stopped: String) -> RecordAnswer
+    /// A text that is made, and what is told.
+    pub(crate) fn of_text(text: Vec<u8>, told: Vec<u8>) -> RecordAnswer
         ensures text { result.text ≡ text.items }
-        ensures stopped { result.stopped ≡ string_bytes stopped }
+        ensures told { result.told ≡ told.items }
     {
         RecordAnswer {
             form: AnswerForm::Text(text),
-            stopped,
+            told,
         }
     }
 
-    /// The lines of a recording's pieces of so many entries, and the line of the threads that stopped. Room for the
-    /// former is taken.
+    /// The lines of a recording's pieces of so many entries, for which room is taken, and what is told.
     pub(crate) fn of_lines(
         alloc: Global,
         recording: Recording,
         size: u32,
-        stopped: String,
+        told: Vec<u8>,
     ) -> Result<RecordAnswer, NoMemory>
         requires some { 0 < size }
         requires few { size ≤ 4096 }
         ensures text { IfOk result (λ answer. answer.text ≡ recorded_text false size recording) }
-        ensures stopped { IfOk result (λ answer. answer.stopped ≡ string_bytes stopped) }
+        ensures told { IfOk result (λ answer. answer.told ≡ told.items) }
     {
         let lines = RecordedLines::new(alloc, recording, size)?;
         Ok(RecordAnswer {
             form: AnswerForm::Lines(lines),
-            stopped,
+            told,
         })
     }
 
-    /// The line of the threads that stopped at `--steps`; empty where there are none.
-    pub fn stopped(&self) -> &str
-        ensures { result.now ≡ self.now.stopped }
+    /// What is told beside the text: of a recording the line of the threads that stopped at `--steps`, of a hunt which
+    /// run is caught.
+    pub fn told(&self) -> &[u8]
+        ensures { result.now ≡ self.now.told }
     {
-        self.stopped.as_str()
+        self.told.as_slice()
     }
 
     /// Writes the report or the lines, or up to the first call that fails. No memory is wanted for it.
@@ -128,7 +127,7 @@ impl RecordAnswer {
         // After a failure a beginning of the text was taken.
         ensures begun { OnErr result ((part rest : List ℕ) × (self.old.text ≡ part ++ rest) × W.takes output.old part output.new) }
         ensures one_failed { OnErr result (W.failed output.new ≡ W.failed output.old + 1) }
-        ensures stopped { self.new.stopped ≡ self.old.stopped }
+        ensures told { self.new.told ≡ self.old.told }
     {
         match &mut self.form {
             AnswerForm::Text(text) => write_all(output, text),

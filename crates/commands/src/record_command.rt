@@ -29,7 +29,7 @@ use wasm_record::{
 use wasm_types::NoMemory;
 
 /// Whether pieces of so many entries can be.
-fn check_size(entries: u32) -> Result<(), PiecesFault>
+pub(crate) fn check_size(entries: u32) -> Result<(), PiecesFault>
     ensures some { OnOk result (0 < entries) }
     ensures few { OnOk result (entries ≤ 4096) }
     ensures refused { IfErr result (IsPiecesFault entries) }
@@ -221,7 +221,7 @@ fn written(
     requires few { request.now.size ≤ 4096 }
     ensures answer { IfOk result (λ answer. answer ≡ answer_of request.now recording) }
 {
-    let stopped = stopped_line(alloc, request.steps, recording.recorded().log())?;
+    let stopped = stopped_line(alloc, request.steps, recording.recorded().log())?.into_bytes();
     if !request.report {
         return RecordAnswer::of_lines(alloc, recording, request.size, stopped);
     }

@@ -216,6 +216,7 @@ impl Fault {
             Fault::Gather(fault) => text_of_gather(fault),
             Fault::Replay(refused) => text_of_refusal(&refused.fault),
             Fault::View(fault) => text_of_view(fault),
+            Fault::NotCaught => plain("refused 71 NotCaught"),
             Fault::NoMemory => plain("refused 23 NoMemory"),
             Fault::SinkFailed => plain("refused 45 SinkFailed"),
         }

@@ -2,7 +2,7 @@
 -- differs in its key. Its other words are open.
 use Rattle.std.specs.Prelude.{◌≡◌, ◌++◌, ℕ, List, codes, Some}
 use Rattle.command_words.specs.declared.requests.Request.{Request}
-use Rattle.command_words.specs.declared.requests.Request.TheVariants.{Gather, Check, Record, Replay, View}
+use Rattle.command_words.specs.declared.requests.Request.TheVariants.{Gather, Check, Record, Hunt, Replay, View}
 use Rattle.command_words.specs.declared.requests.RecordOrder.{RecordOrder}
 use Rattle.command_words.specs.declared.requests.RecordOrder.TheVariants as order
 use Rattle.binary_decoder.specs.declared.fault.DecodeFault.{DecodeFault}
@@ -31,6 +31,7 @@ abbrev pub module_path : Request → List ℕ
 module_path (Gather skips objects contradictions) = codes "standard input"
 module_path (Check path) = path.now
 module_path (Record r) = r.«module».now
+module_path (Hunt r) = r.«module».now
 module_path (Replay r by_threads) = r.«module».now
 module_path (View v) = v.replay.«module».now
 
@@ -38,6 +39,7 @@ abbrev pub plan_path : Request → List ℕ
 plan_path (Gather skips objects contradictions) = codes "standard input"
 plan_path (Check path) = path.now
 plan_path (Record r) = r.plan.now
+plan_path (Hunt r) = r.plan.now
 plan_path (Replay r by_threads) = r.plan.now
 plan_path (View v) = v.replay.plan.now
 

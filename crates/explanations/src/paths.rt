@@ -17,6 +17,7 @@ pub(crate) fn module_path<'a>(request: &Request<'a>) -> &'a str
         Request::Gather { .. } => STANDARD_INPUT,
         Request::Check(path) => path,
         Request::Record(record) => record.module,
+        Request::Hunt(hunt) => hunt.module,
         Request::Replay { replay, .. } => replay.module,
         Request::View(view) => view.replay.module,
     }
@@ -30,6 +31,7 @@ pub(crate) fn plan_path<'a>(request: &Request<'a>) -> &'a str
         Request::Gather { .. } => STANDARD_INPUT,
         Request::Check(path) => path,
         Request::Record(record) => record.plan,
+        Request::Hunt(hunt) => hunt.plan,
         Request::Replay { replay, .. } => replay.plan,
         Request::View(view) => view.replay.plan,
     }

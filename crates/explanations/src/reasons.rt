@@ -97,6 +97,10 @@ pub(crate) fn reason_of<F: Files>(
         Fault::Gather(fault) => gather_words(alloc, fault),
         Fault::Replay(refused) => replay_words(alloc, refused),
         Fault::View(fault) => words(alloc, view_words(fault)),
+        Fault::NotCaught => words(
+            alloc,
+            "the report of none of these runs is one that is caught",
+        ),
         Fault::NoMemory => words(alloc, "memory for the answer could not be had"),
         Fault::SinkFailed => words(alloc, "writing failed, after a beginning was written"),
     }

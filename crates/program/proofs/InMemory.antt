@@ -37,18 +37,19 @@ module _ (files : List MemoryFile) where
 
   module _ (brought : List ℕ → Type 0) (ended broke : Type 0) (counted : Skipped → Type 0) where
     -- the words ask for no other command
-    by_request : (said : List ℕ → Type 0) (found : Option (Text × List Row)) (path : Bor (List ℕ)) → IsFoundBy found (request.Check path) → (r : Request) → IsFoundBy found r
-        → (text : List ℕ) → IsDone (λ at. HoldsBytes (file_at files at)) (λ at. Fails (file_at files at)) brought ended broke counted said r text → HasValidModule files path.now
-    by_request said None path h r k text done = absurd h
-    by_request said (Some p) path h (request.Check other) k text done =
+    by_request : (said told : List ℕ → Type 0) (found : Option (Text × List Row)) (path : Bor (List ℕ)) → IsFoundBy found (request.Check path) → (r : Request) → IsFoundBy found r
+        → (text : List ℕ) → IsDone (λ at. HoldsBytes (file_at files at)) (λ at. Fails (file_at files at)) brought ended broke counted said told r text → HasValidModule files path.now
+    by_request said told None path h r k text done = absurd h
+    by_request said told (Some p) path h (request.Check other) k text done =
         let same : other.now ≡ path.now = ap text_of (sym k.1 ∙ h.1) in
         subst (λ (l : List ℕ). HasValidModule files l) same (valid other.now text done.0)
-    by_request said (Some p) path h (request.Gather skips objects contradictions) k text done = absurd (another p.0 (codes "gather") h.0 k.0 refl)
-    by_request said (Some p) path h (request.Record r) k text done = absurd (another p.0 (codes "record") h.0 k.0 refl)
-    by_request said (Some p) path h (request.Replay r by_threads) k text done = absurd (another p.0 (codes "replay") h.0 k.0 refl)
-    by_request said (Some p) path h (request.View v) k text done = absurd (another p.0 (codes "view") h.0 k.0 refl)
+    by_request said told (Some p) path h (request.Gather skips objects contradictions) k text done = absurd (another p.0 (codes "gather") h.0 k.0 refl)
+    by_request said told (Some p) path h (request.Record r) k text done = absurd (another p.0 (codes "record") h.0 k.0 refl)
+    by_request said told (Some p) path h (request.Hunt r) k text done = absurd (another p.0 (codes "hunt") h.0 k.0 refl)
+    by_request said told (Some p) path h (request.Replay r by_threads) k text done = absurd (another p.0 (codes "replay") h.0 k.0 refl)
+    by_request said told (Some p) path h (request.View v) k text done = absurd (another p.0 (codes "view") h.0 k.0 refl)
 
     module _ (took : List ℕ → Type 0) (tells : List ℕ → Type 0) (unread : Type 0) (words : List Text) (path : Bor (List ℕ)) (asks : Asks words (request.Check path)) where
       pub is_valid : IsDoneBy (λ at. HoldsBytes (file_at files at)) (λ at. Fails (file_at files at)) brought ended broke took (Unit {0}) (Unit {0}) counted tells unread words → HasValidModule files path.now
-      is_valid (inl h) = by_request (IsSaid tells (asks_why words)) (subcommand_of program words) path asks.found h.0 h.1.found h.2.0 h.2.1
+      is_valid (inl h) = by_request (IsSaid tells (asks_why words)) tells (subcommand_of program words) path asks.found h.0 h.1.found h.2.0 h.2.1
       is_valid (inr h) = absurd (no_text (fault_of program words) asks.taken h.0)

@@ -7,8 +7,10 @@ use Rattle.command_words.specs.declared.command.Asked.{Asked}
 use Rattle.command_words.specs.declared.command.Asked.TheVariants as asked
 use Rattle.command_words.specs.declared.requests.Request.{Request}
 use Rattle.command_words.specs.declared.requests.RecordRequest.{RecordRequest}
+use Rattle.command_words.specs.declared.requests.HuntRequest.{HuntRequest}
 use Rattle.command_words.specs.declared.requests.ReplayRequest.{ReplayRequest}
 use Rattle.commands.specs.Records.{AnswerAt, IsRecordAnswer}
+use Rattle.commands.specs.Hunts.{IsHuntAnswer}
 use Rattle.commands.specs.Replays.{IsReplayRefused}
 use Rattle.replica.specs.declared.skipping.Skipped.{Skipped}
 use Rattle.command_words.specs.declared.requests.Request.TheVariants as request
@@ -32,36 +34,43 @@ none_said tells false h = h
 
 module _ (holds : List ℕ → List ℕ → Type 0) (fails brought : List ℕ → Type 0) (ended broke : Type 0) (took : List ℕ → Type 0) (unwritten unwritable : Type 0) where
   -- what was to be shown stops where the output fails
-  pub shown_stops : (asked asks : Request) (text items : List ℕ) {T : Type 0} (result : Result T Fault) → asked ≡ asks → text ≡ items → IsDone holds fails brought ended broke (λ skipped. Unit {0}) (λ line. Unit {0}) asks items
+  pub shown_stops : (asked asks : Request) (text items : List ℕ) {T : Type 0} (result : Result T Fault) → asked ≡ asks → text ≡ items → IsDone holds fails brought ended broke (λ skipped. Unit {0}) (λ line. Unit {0}) (λ line. Unit {0}) asks items
       → IfErr result (λ fault. fault ≡ SinkFailed) → OnErr result unwritable → OnErr result ((part rest : List ℕ) × (text ≡ part ++ rest) × took part)
       → IfErr result (IsStopped holds fails brought ended broke took unwritten unwritable asked)
   shown_stops asked asks text items (Ok x) is same done e u b = tt
   shown_stops asked asks text items (Err fault) is same done e u b =
-      inr (e, u, (text, b.0, b.1, subst (λ (r : Request). IsDone holds fails brought ended broke (λ skipped. Unit {0}) (λ line. Unit {0}) r text) (sym is) (subst (IsDone holds fails brought ended broke (λ skipped. Unit {0}) (λ line. Unit {0}) asks) (sym same) done), b.2, b.3))
+      inr (e, u, (text, b.0, b.1, subst (λ (r : Request). IsDone holds fails brought ended broke (λ skipped. Unit {0}) (λ line. Unit {0}) (λ line. Unit {0}) r text) (sym is) (subst (IsDone holds fails brought ended broke (λ skipped. Unit {0}) (λ line. Unit {0}) (λ line. Unit {0}) asks) (sym same) done), b.2, b.3))
 
   -- what was to be shown is done where the output took it
-  pub shown_done : (asked asks : Request) (text items : List ℕ) (counted : Skipped → Type 0) (said : List ℕ → Type 0) {T : Type 0} (result : Result T Fault) → asked ≡ asks → text ≡ items
-      → IsDone holds fails brought ended broke counted said asks items → OnOk result (took text) → OnOk result (IsShown took (IsDone holds fails brought ended broke counted said asked))
-  shown_done asked asks text items counted said (Ok x) is same done shown =
-      subst (λ (q : Request). IsShown took (IsDone holds fails brought ended broke counted said q)) (sym is) (text, subst (IsDone holds fails brought ended broke counted said asks) (sym same) done, shown)
-  shown_done asked asks text items counted said (Err fault) is same done shown = tt
+  pub shown_done : (asked asks : Request) (text items : List ℕ) (counted : Skipped → Type 0) (said told : List ℕ → Type 0) {T : Type 0} (result : Result T Fault) → asked ≡ asks → text ≡ items
+      → IsDone holds fails brought ended broke counted said told asks items → OnOk result (took text) → OnOk result (IsShown took (IsDone holds fails brought ended broke counted said told asked))
+  shown_done asked asks text items counted said told (Ok x) is same done shown =
+      subst (λ (q : Request). IsShown took (IsDone holds fails brought ended broke counted said told q)) (sym is) (text, subst (IsDone holds fails brought ended broke counted said told asks) (sym same) done, shown)
+  shown_done asked asks text items counted said told (Err fault) is same done shown = tt
 
   -- so is a listing
-  pub gather_done : (asked : Request) (objects contradictions : Bool) (counted : Skipped → Type 0) (said : List ℕ → Type 0) (listed : List ℕ) → asked ≡ request.Gather false objects contradictions → IsListed (form_of objects contradictions) brought ended listed → said []
-      → took listed → IsShown took (IsDone holds fails brought ended broke counted said asked)
-  gather_done asked objects contradictions counted said listed is done none shown = subst (λ (q : Request). IsShown took (IsDone holds fails brought ended broke counted said q)) (sym is) (listed, (done, none), shown)
+  pub gather_done : (asked : Request) (objects contradictions : Bool) (counted : Skipped → Type 0) (said told : List ℕ → Type 0) (listed : List ℕ) → asked ≡ request.Gather false objects contradictions → IsListed (form_of objects contradictions) brought ended listed → said []
+      → took listed → IsShown took (IsDone holds fails brought ended broke counted said told asked)
+  gather_done asked objects contradictions counted said told listed is done none shown = subst (λ (q : Request). IsShown took (IsDone holds fails brought ended broke counted said told q)) (sym is) (listed, (done, none), shown)
 
   -- a recording is done where its text was shown, and its line told
-  pub record_done : (asked : Request) (r : RecordRequest) (answer : AnswerAt) (counted : Skipped → Type 0) (said : List ℕ → Type 0) {T : Type 0} (result : Result T Fault) → asked ≡ request.Record r
-      → IsRecordAnswer holds r answer → OnOk result (took answer.text) → OnOk result (said answer.stopped) → OnOk result (IsShown took (IsDone holds fails brought ended broke counted said asked))
-  record_done asked r answer counted said (Ok x) is recorded shown told =
-      subst (λ (q : Request). IsShown took (IsDone holds fails brought ended broke counted said q)) (sym is) (answer.text, (answer, recorded, refl, told), shown)
-  record_done asked r answer counted said (Err fault) is recorded shown told = tt
+  pub record_done : (asked : Request) (r : RecordRequest) (answer : AnswerAt) (counted : Skipped → Type 0) (said told : List ℕ → Type 0) {T : Type 0} (result : Result T Fault) → asked ≡ request.Record r
+      → IsRecordAnswer holds r answer → OnOk result (took answer.text) → OnOk result (said answer.told) → OnOk result (IsShown took (IsDone holds fails brought ended broke counted said told asked))
+  record_done asked r answer counted said told (Ok x) is recorded shown line =
+      subst (λ (q : Request). IsShown took (IsDone holds fails brought ended broke counted said told q)) (sym is) (answer.text, (answer, recorded, refl, line), shown)
+  record_done asked r answer counted said told (Err fault) is recorded shown line = tt
+
+  -- so is a hunt
+  pub hunt_done : (asked : Request) (r : HuntRequest) (answer : AnswerAt) (counted : Skipped → Type 0) (said told : List ℕ → Type 0) {T : Type 0} (result : Result T Fault) → asked ≡ request.Hunt r
+      → IsHuntAnswer holds r answer → OnOk result (took answer.text) → OnOk result (told answer.told) → OnOk result (IsShown took (IsDone holds fails brought ended broke counted said told asked))
+  hunt_done asked r answer counted said told (Ok x) is hunted shown line =
+      subst (λ (q : Request). IsShown took (IsDone holds fails brought ended broke counted said told q)) (sym is) (answer.text, (answer, hunted, refl, line), shown)
+  hunt_done asked r answer counted said told (Err fault) is hunted shown line = tt
 
   -- what was done where the reason is asked for was done by the words that ask for it
   pub done_as_asked : (counted : Skipped → Type 0) (tells : List ℕ → Type 0) (why asked : Bool) (r : Request) → why ≡ asked
-      → IsShown took (IsDone holds fails brought ended broke counted (IsSaid tells why) r) → IsShown took (IsDone holds fails brought ended broke counted (IsSaid tells asked) r)
-  done_as_asked counted tells why asked r is done = subst (λ (b : Bool). IsShown took (IsDone holds fails brought ended broke counted (IsSaid tells b) r)) is done
+      → IsShown took (IsDone holds fails brought ended broke counted (IsSaid tells why) tells r) → IsShown took (IsDone holds fails brought ended broke counted (IsSaid tells asked) tells r)
+  done_as_asked counted tells why asked r is done = subst (λ (b : Bool). IsShown took (IsDone holds fails brought ended broke counted (IsSaid tells b) tells r)) is done
 
   -- a replay that is refused stops
   pub replay_stops : (asked : Request) (r : ReplayRequest) (by_threads : Bool) (fault : Fault) → asked ≡ request.Replay r by_threads

@@ -18,6 +18,7 @@ use Rattle.commands.specs.Texts.{fault_text}
 use Rattle.explanations.specs.Explained.{IsExplanation}
 use Rattle.commands.specs.Checks.{IsChecked, IsCheckRefused}
 use Rattle.commands.specs.Records.{AnswerAt, IsRecordAnswer, IsRecordRefused}
+use Rattle.commands.specs.Hunts.{IsHuntAnswer, IsHuntRefused}
 use Rattle.commands.specs.Replays.{IsReplayedText, IsReplayRefused}
 use Rattle.commands.specs.Views.{IsViewedText, IsViewRefused}
 use Rattle.commands.specs.declared.fault.Fault.{Fault}
@@ -116,15 +117,16 @@ module _ (took : List ℕ → Type 0) where
 
 -- What the files may hold and which may fail, what the source brought, and whether it ended or failed.
 module _ (holds : List ℕ → List ℕ → Type 0) (fails : List ℕ → Type 0) (brought : List ℕ → Type 0) (ended broke : Type 0) where
-  -- the text of a command that is done; `counted` says that the numbers of lines passed over were told, and `said` that
-  -- a recording's line of the threads that stopped was, or nothing
-  abbrev pub IsDone : (Skipped → Type 0) → (List ℕ → Type 0) → Request → List ℕ → Type 0
-  IsDone counted said (request.Gather false objects contradictions) text = IsListed (form_of objects contradictions) brought ended text × said []
-  IsDone counted said (request.Gather true objects contradictions) text = IsListedSkipping (form_of objects contradictions) brought ended counted text
-  IsDone counted said (request.Check path) text = IsChecked (holds path.now) text × said []
-  IsDone counted said (request.Record r) text = (answer : AnswerAt) × IsRecordAnswer holds r answer × (text ≡ answer.text) × said answer.stopped
-  IsDone counted said (request.Replay r by_threads) text = IsReplayedText holds r text × said []
-  IsDone counted said (request.View r) text = IsViewedText holds r text × said []
+  -- the text of a command that is done; `counted` says that the numbers of lines passed over were told, `said` that a
+  -- recording's line of the threads that stopped was, or nothing, and `told` that which run is caught was
+  abbrev pub IsDone : (Skipped → Type 0) → (List ℕ → Type 0) → (List ℕ → Type 0) → Request → List ℕ → Type 0
+  IsDone counted said told (request.Gather false objects contradictions) text = IsListed (form_of objects contradictions) brought ended text × said []
+  IsDone counted said told (request.Gather true objects contradictions) text = IsListedSkipping (form_of objects contradictions) brought ended counted text
+  IsDone counted said told (request.Check path) text = IsChecked (holds path.now) text × said []
+  IsDone counted said told (request.Record r) text = (answer : AnswerAt) × IsRecordAnswer holds r answer × (text ≡ answer.text) × said answer.told
+  IsDone counted said told (request.Hunt r) text = (answer : AnswerAt) × IsHuntAnswer holds r answer × (text ≡ answer.text) × told answer.told
+  IsDone counted said told (request.Replay r by_threads) text = IsReplayedText holds r text × said []
+  IsDone counted said told (request.View r) text = IsViewedText holds r text × said []
 
   -- when each fault is answered
   abbrev pub IsRefused : Request → Fault → Type 0
@@ -132,6 +134,7 @@ module _ (holds : List ℕ → List ℕ → Type 0) (fails : List ℕ → Type 0
   IsRefused (request.Gather true objects contradictions) fault = IsSkippingRefused broke fault
   IsRefused (request.Check path) fault = IsCheckRefused (holds path.now) (fails path.now) fault
   IsRefused (request.Record r) fault = IsRecordRefused holds fails r fault
+  IsRefused (request.Hunt r) fault = IsHuntRefused holds fails r fault
   IsRefused (request.Replay r by_threads) fault = IsReplayRefused holds fails r by_threads fault
   IsRefused (request.View r) fault = IsViewRefused holds fails r fault
 
@@ -139,7 +142,7 @@ module _ (holds : List ℕ → List ℕ → Type 0) (fails : List ℕ → Type 0
   module _ (took : List ℕ → Type 0) (unwritten unwritable : Type 0) where
     -- a command stops: it is refused, and nothing was written; or the output failed
     abbrev pub IsStopped : Request → Fault → Type 0
-    IsStopped r fault = (IsRefused r fault × unwritten) ⊎ ((fault ≡ SinkFailed) × unwritable × IsCut took (IsDone (λ skipped. Unit {0}) (λ line. Unit {0}) r))
+    IsStopped r fault = (IsRefused r fault × unwritten) ⊎ ((fault ≡ SinkFailed) × unwritable × IsCut took (IsDone (λ skipped. Unit {0}) (λ line. Unit {0}) (λ line. Unit {0}) r))
 
     -- Whether numbers of lines were told, which texts were told from first to last, and whether no file and no input
     -- was read.
@@ -147,7 +150,7 @@ module _ (holds : List ℕ → List ℕ → Type 0) (fails : List ℕ → Type 0
       -- the very text of the command that the words ask for, or a text of help where they ask for that, and nothing
       -- told
       abbrev pub IsDoneBy : Type 0
-      IsDoneBy = ((r : Request) × Asks words r × IsShown took (IsDone counted (IsSaid tells (asks_why words)) r)) ⊎ (AsksForText words × unread × IsShown took (λ text. Unit {0}) × tells [])
+      IsDoneBy = ((r : Request) × Asks words r × IsShown took (IsDone counted (IsSaid tells (asks_why words)) tells r)) ⊎ (AsksForText words × unread × IsShown took (λ text. Unit {0}) × tells [])
 
       -- the command that the words ask for stops so; or a text of help is not written; or there is no memory for the
       -- words

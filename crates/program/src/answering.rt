@@ -12,7 +12,7 @@ use crate::refusing::{refuse, refuse_request};
 use arrayvec::ArrayString;
 use byte_streams::{Failed, Sink, Source, write_all};
 use command_words::{Asked, Request, requested};
-use commands::{Fault, Files, RecordAnswer, check, record, replay, skipped_text, view};
+use commands::{Fault, Files, RecordAnswer, check, hunt, record, replay, skipped_text, view};
 use itoa::Buffer;
 use log::Log;
 use replica::{GatherFault, ListingForm, Skipped, gather, gather_skipping};
@@ -47,7 +47,7 @@ fn show_recorded<W: Sink>(output: &mut W, answer: &mut RecordAnswer) -> Result<(
     requires { W.failed output.old < 2 ^ 64 - 1 }
     ensures shown { OnOk result (W.takes output.old answer.old.text output.new) }
     ensures begun { OnErr result (WritesSome (W.takes output.old) answer.old.text output.new) }
-    ensures stopped { answer.new.stopped ≡ answer.old.stopped }
+    ensures told { answer.new.told ≡ answer.old.told }
     ensures none_failed { OnOk result (W.failed output.new ≡ W.failed output.old) }
     ensures one_failed { OnErr result (W.failed output.new ≡ W.failed output.old + 1) }
     ensures error { IfErr result (λ fault. fault ≡ faults.SinkFailed) }
@@ -58,28 +58,27 @@ fn show_recorded<W: Sink>(output: &mut W, answer: &mut RecordAnswer) -> Result<(
     }
 }
 
-/// Writes the line of the threads of a recording that stopped at `--steps`, or nothing where none did, where it is
-/// asked for. Where writing fails there is nobody to tell.
-fn tell_stopped<E: Sink>(errors: &mut E, why: bool, line: &str)
+/// Writes what is told beside a text, where it is wanted. Where writing fails there is nobody to tell.
+fn tell<E: Sink>(errors: &mut E, wanted: bool, told: &[u8])
     requires { E.failed errors.old < 2 ^ 64 - 1 }
-    ensures { IsSaid (λ text. (E.takes errors.old text errors.new) ⊎ (E.failed errors.new ≡ E.failed errors.old + 1)) why line.now }
+    ensures { IsSaid (λ text. (E.takes errors.old text errors.new) ⊎ (E.failed errors.new ≡ E.failed errors.old + 1)) wanted told.now }
 {
-    if why {
-        let _ = write_all(errors, line.as_bytes());
+    if wanted {
+        let _ = write_all(errors, told);
     }
 }
 
-/// Shows what a recording answers, and where it is asked for which threads stopped at `--steps`.
+/// Shows what a recording or a hunt answers, and what is told beside it, where that is wanted.
 fn show_and_tell<W: Sink, E: Sink>(
     output: &mut W,
     errors: &mut E,
     mut answer: RecordAnswer,
-    why: bool,
+    wanted: bool,
 ) -> Result<(), Fault>
     requires output { W.failed output.old < 2 ^ 64 - 1 }
     requires errors { E.failed errors.old < 2 ^ 64 - 1 }
     ensures shown { OnOk result (W.takes output.old answer.text output.new) }
-    ensures told { OnOk result (IsSaid (λ text. (E.takes errors.old text errors.new) ⊎ (E.failed errors.new ≡ E.failed errors.old + 1)) why answer.stopped) }
+    ensures told { OnOk result (IsSaid (λ text. (E.takes errors.old text errors.new) ⊎ (E.failed errors.new ≡ E.failed errors.old + 1)) wanted answer.told) }
     ensures begun { OnErr result (WritesSome (W.takes output.old) answer.text output.new) }
     ensures none_failed { OnOk result (W.failed output.new ≡ W.failed output.old) }
     ensures one_failed { OnErr result (W.failed output.new ≡ W.failed output.old + 1) }
@@ -88,7 +87,7 @@ fn show_and_tell<W: Sink, E: Sink>(
 {
     match show_recorded(output, &mut answer) {
         Ok(()) => {
-            tell_stopped(errors, why, answer.stopped());
+            tell(errors, wanted, answer.told());
             Ok(())
         }
         Err(fault) => Err(fault),
@@ -179,7 +178,7 @@ fn perform<L: Log, T: Threads + Wait + Sync, F: Files, R: Source, W: Sink, E: Si
     requires source { R.failed source.old < 2 ^ 64 - 1 }
     requires output { W.failed output.old < 2 ^ 64 - 1 }
     requires errors { E.failed errors.old < 2 ^ 64 - 1 }
-    ensures done { OnOk result (IsShown (λ text. W.takes output.old text output.new) (IsDone (F.holds files.old) (F.fails files.old) (λ text. R.brings source.old text source.new) (R.ended source.new) (R.failed source.new ≡ R.failed source.old + 1) (λ skipped. (E.takes errors.old (skipped_text skipped ++ 10 ∷ []) errors.new) ⊎ (E.failed errors.new ≡ E.failed errors.old + 1)) (IsSaid (λ text. (E.takes errors.old text errors.new) ⊎ (E.failed errors.new ≡ E.failed errors.old + 1)) why) request.now)) }
+    ensures done { OnOk result (IsShown (λ text. W.takes output.old text output.new) (IsDone (F.holds files.old) (F.fails files.old) (λ text. R.brings source.old text source.new) (R.ended source.new) (R.failed source.new ≡ R.failed source.old + 1) (λ skipped. (E.takes errors.old (skipped_text skipped ++ 10 ∷ []) errors.new) ⊎ (E.failed errors.new ≡ E.failed errors.old + 1)) (IsSaid (λ text. (E.takes errors.old text errors.new) ⊎ (E.failed errors.new ≡ E.failed errors.old + 1)) why) (λ text. (E.takes errors.old text errors.new) ⊎ (E.failed errors.new ≡ E.failed errors.old + 1)) request.now)) }
     ensures untold { OnErr result (errors.new ≡ errors.old) }
     ensures stopped { IfErr result (IsStopped (F.holds files.old) (F.fails files.old) (λ text. R.brings source.old text source.new) (R.ended source.new) (R.failed source.new ≡ R.failed source.old + 1) (λ text. W.takes output.old text output.new) (output.new ≡ output.old) (W.failed output.new ≡ W.failed output.old + 1) request.now) }
     ensures source_worked { OnOk result (R.failed source.new ≡ R.failed source.old) }
@@ -211,6 +210,10 @@ fn perform<L: Log, T: Threads + Wait + Sync, F: Files, R: Source, W: Sink, E: Si
         },
         Request::Record(request) => match record(rt, threads, alloc, files, request) {
             Ok(answer) => show_and_tell(output, errors, answer, why),
+            Err(fault) => Err(fault),
+        },
+        Request::Hunt(request) => match hunt(rt, threads, alloc, files, request) {
+            Ok(answer) => show_and_tell(output, errors, answer, true),
             Err(fault) => Err(fault),
         },
         Request::Replay {
@@ -281,10 +284,10 @@ pub fn run<L: Log, T: Threads + Wait + Sync, F: Files, R: Source, W: Sink, E: Si
     requires output { W.failed output.old < 2 ^ 64 - 1 }
     requires errors { E.failed errors.old < 2 ^ 64 - 1 }
     // Done: the output took the very text of the command that the words ask for, and `errors` took the line of the
-    // numbers of lines that were passed over, or where the words ask for it the line of the threads that stopped, or
-    // else nothing; or it failed. Refused: `errors` took the line of the fault, and where the words ask for it one more
-    // line, of the reason, or failed; and nothing was written but by a failing output. Not understood: nothing was read
-    // or written.
+    // numbers of lines that were passed over, which run is caught, or where the words ask for it the line of the threads
+    // that stopped, or else nothing; or it failed. Refused: `errors` took the line of the fault, and where the words ask
+    // for it one more line, of the reason, or failed; and nothing was written but by a failing output. Not understood:
+    // nothing was read or written.
     ensures answered { IsAnswered (F.holds files.old) (F.fails files.old)
         (λ text. R.brings source.old text source.new) (R.ended source.new) (R.failed source.new ≡ R.failed source.old + 1)
         (λ text. W.takes output.old text output.new) (output.new ≡ output.old) (W.failed output.new ≡ W.failed output.old + 1)

@@ -494,6 +494,7 @@ const HELP: &[&[&str]] = &[
     &["wreplay", "gather", "--help"],
     &["wreplay", "check", "--help"],
     &["wreplay", "record", "--help"],
+    &["wreplay", "hunt", "--help"],
     &["wreplay", "replay", "--help"],
     &["wreplay", "view", "--help"],
 ];
@@ -609,5 +610,70 @@ fn says_which_threads_stopped(rt: HostRuntime) {
             done.status == 0 && text(&done.errors) == *errors,
             "{errors}"
         );
+    }
+}
+
+/// A hunt: its words, at which call the output fails, the exit status, and what is told. Runs of the counter are none
+/// that traps or waits; the thread that waits alone waits at its end, where it does not time out.
+type Hunted = (&'static [&'static str], Option<u64>, u8, &'static str);
+
+const HUNTED: &[Hunted] = &[
+    (
+        &["wreplay", "hunt", "m", "p", "--until", "thread 0 i32 3"],
+        None,
+        0,
+        "caught 0\nthread 0 i32 3\n",
+    ),
+    (
+        &["wreplay", "hunt", "m", "p", "--unless", "thread 0 i32 1"],
+        Some(1),
+        1,
+        "refused 45 SinkFailed\n",
+    ),
+    (
+        &["wreplay", "hunt", "m", "p", "--runs", "9"],
+        None,
+        1,
+        "refused 71 NotCaught\n",
+    ),
+    (
+        &["wreplay", "hunt", "w", "a"],
+        None,
+        0,
+        "caught 0\nthread 0 waiting\n",
+    ),
+    (
+        &[
+            "wreplay",
+            "hunt",
+            "w",
+            "a",
+            "--timeouts",
+            "now",
+            "--runs",
+            "9",
+        ],
+        None,
+        1,
+        "refused 71 NotCaught\n",
+    ),
+];
+
+#[test]
+fn tells_which_run_is_caught(rt: HostRuntime) {
+    let rows = HUNTED;
+    for (words, write_fails_at, status, told) in rows {
+        let case = Case {
+            words: *words,
+            lines: "",
+            read_fails_at: None,
+            most: 65536,
+            write_fails_at: *write_fails_at,
+        };
+        let done = run_on(&rt, rt.alloc(), case);
+        let is_told = text(&done.errors) == *told;
+        assert!(rt; done.status == *status && is_told, "{told}");
+        // The pieces of a run that is caught are lines of two digits a byte, and nothing is written of others.
+        assert!(rt; done.output.taken().is_empty() == (*status != 0));
     }
 }

@@ -4,3 +4,4 @@ pub mod Counting
 pub mod Stretches
 pub mod Drawing
 pub mod Once
+pub mod NumberParts

@@ -1,7 +1,8 @@
-//! Recording of a run whose schedule is drawn at random by a number.
+//! Recording of a run whose schedule is drawn at random by a number, and surveys of many numbers.
 //!
 //! `record_random`: the log and the end are those of the run that the number draws, in stretches of one pick each, until
-//! no pick can be drawn (`IsRandomRun`). What a number means stands for good. Law: `drawn_once`.
+//! no pick can be drawn (`IsRandomRun`). What a number means stands for good. Law: `drawn_once`. `survey_numbers`: what
+//! many threads at once find of numbers that follow one another is what one finds (`finds`).
 #![tactic(auto)]
 
 mod candidates;
@@ -10,6 +11,8 @@ mod few_entries;
 mod laws;
 mod recording;
 mod stretch;
+mod survey;
 
 pub use laws::drawn_once;
 pub use recording::{RandomRun, record_random};
+pub use survey::{Survey, survey_numbers};

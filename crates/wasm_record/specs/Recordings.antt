@@ -51,6 +51,11 @@ pub record RecordsRandom (m : Module) (plan : PlanValue) (profile : Profile) (nu
   pub opens : opening_world_of m plan profile ≡ Some world
   pub random : IsRandomRun shared_memory thread_code steps number timeouts world recorded
 
+-- a number draws one run: what is recorded of it has one log and one end
+abbrev pub DrawnRunsAreOne : Type 0
+DrawnRunsAreOne = (m : Module) (plan : PlanValue) (profile : Profile) (number : ℕ) (timeouts : Bool) (steps : ℕ) (one other : RecordedAt)
+    → RecordsRandom m plan profile number timeouts steps one → RecordsRandom m plan profile number timeouts steps other → (log_of one.threads ≡ log_of other.threads) × (one.end ≡ other.end)
+
 -- the picks are a run of the module and the plan, of which the log is recorded
 pub record HasLogOf (m : Module) (plan : PlanValue) (profile : Profile) (world : WasmWorld) (picks : List Pick) (recorded : RecordedAt) : Type 0 where
   pub opens : opening_world_of m plan profile ≡ Some world

@@ -1,12 +1,14 @@
 //! Recordings of a module and a plan, by a schedule, by threads at once or at random, and their pieces.
 //!
-//! `record_schedule`, `record_threads`, `record_drawn`: a run of them with its log and its end (`key`, `records`);
+//! `record_schedule`, `record_threads`, `record_drawn`: a run of them with its log and its end (`key`, `records`; law
+//! `drawn_runs_are_one`);
 //! `Recording::pieces`: pieces of that run (`of_run`). `record_memory` does as `record_workers`, over the shared
 //! memory. `send` and `receive` pass pieces through a channel: as many of the run as `receive` answers are joined
 //! (`received`).
 #![tactic(auto)]
 
 mod fault;
+mod laws;
 mod memory_recording;
 mod random;
 mod receiving;
@@ -16,9 +18,10 @@ mod thread;
 mod threads;
 
 pub use fault::SendFault;
+pub use laws::drawn_runs_are_one;
 pub use memory_recording::record_memory;
 pub use random::record_drawn;
-pub use random_record::RandomRun;
+pub use random_record::{RandomRun, Survey, survey_numbers};
 pub use receiving::receive;
 pub use recorder::ThreadLog;
 pub use recording::{Recording, record_schedule};

@@ -33,12 +33,22 @@ fn command_of(line: &str) -> Command<'_> {
     Command { words, input, kept }
 }
 
-/// The words of a command, the program's name first.
+/// The words of a command, the program's name first. What stands between two `'` is one word.
 fn words_of<'a>(alloc: Global, words: &'a str) -> anyhow::Result<Vec<&'a str>> {
     let mut all = Vec::new(alloc);
     all.push("wreplay")?;
-    for word in words.split(' ') {
-        all.push(word)?;
+    let mut quoted = false;
+    for part in words.split('\'') {
+        if quoted {
+            all.push(part)?;
+        } else {
+            for word in part.split(' ') {
+                if !word.is_empty() {
+                    all.push(word)?;
+                }
+            }
+        }
+        quoted = !quoted;
     }
     Ok(all)
 }

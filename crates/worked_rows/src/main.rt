@@ -1,7 +1,8 @@
 //! Runs commands of `wreplay` one after the other and writes what each wrote.
 //!
-//! The commands stand in the file `commands`, one a line: words, perhaps ` < FILE` for the standard input, perhaps
-//! ` > FILE` for a file that keeps the standard output for the commands behind it. What they write is compared with
+//! The commands stand in the file `commands`, one a line: words, of which one with spaces stands between two `'`, perhaps
+//! ` < FILE` for the standard input, perhaps ` > FILE` for a file that keeps the standard output for the commands behind
+//! it. What they write is compared with
 //! what a model made apart says (`bench/rows`).
 #![tactic(auto)]
 

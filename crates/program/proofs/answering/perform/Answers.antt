@@ -3,7 +3,7 @@ use Rattle.commands.specs.Texts.{skipped_text}
 use Rattle.replica.specs.Gathered.{IsListing}
 use Rattle.replica.specs.declared.form.ListingForm.{ListingForm}
 use Rattle.program.specs.Answers.{IsSaid}
-use Rattle.program.proofs.Stops.{none_said, shown_done, gather_done, shown_stops, record_done, gather_stops, skipping_stops, replay_stops}
+use Rattle.program.proofs.Stops.{none_said, shown_done, gather_done, shown_stops, record_done, hunt_done, gather_stops, skipping_stops, replay_stops}
 use Rattle.program.proofs.answering.perform.Goals as goal
 
 pub returns-in-Err-clause-stopped : goal.returns-in-Err-clause-stopped
@@ -33,29 +33,36 @@ pub returns-in-Ok-record-clause-done : goal.returns-in-Ok-record-clause-done
 returns-in-Ok-record-clause-done g c =
     let took : List ℕ → Type 0 = λ text. g.W.Sink.takes c.args.output.now text c.show_and_tell.new.output in
     let tells : List ℕ → Type 0 = λ text. g.E.Sink.takes c.args.errors.now text c.show_and_tell.new.errors ⊎ (g.E.Sink.failed c.show_and_tell.new.errors ≡ g.E.Sink.failed c.args.errors.now + 1) in
-    record_done _ (λ path. Unit {0}) _ _ (Unit {0}) took (Unit {0}) (Unit {0}) c.args.request.now _ c.in-Ok-record.answer (λ skipped. tells (skipped_text skipped ++ 10 ∷ [])) (IsSaid tells c.args.why) c.show_and_tell.result c.in-Record.is c.in-Ok-record.ensures.recorded c.show_and_tell.ensures.shown
+    record_done _ (λ path. Unit {0}) _ _ (Unit {0}) took (Unit {0}) (Unit {0}) c.args.request.now _ c.in-Ok-record.answer (λ skipped. tells (skipped_text skipped ++ 10 ∷ [])) (IsSaid tells c.args.why) tells c.show_and_tell.result c.in-Record.is c.in-Ok-record.ensures.recorded c.show_and_tell.ensures.shown
     c.show_and_tell.ensures.told
+
+pub returns-in-Ok-hunt-clause-done : goal.returns-in-Ok-hunt-clause-done
+returns-in-Ok-hunt-clause-done g c =
+    let took : List ℕ → Type 0 = λ text. g.W.Sink.takes c.args.output.now text c.show_and_tell-in-Ok-hunt.new.output in
+    let tells : List ℕ → Type 0 = λ text. g.E.Sink.takes c.args.errors.now text c.show_and_tell-in-Ok-hunt.new.errors ⊎ (g.E.Sink.failed c.show_and_tell-in-Ok-hunt.new.errors ≡ g.E.Sink.failed c.args.errors.now + 1) in
+    hunt_done _ (λ path. Unit {0}) _ _ (Unit {0}) took (Unit {0}) (Unit {0}) c.args.request.now _ c.in-Ok-hunt.answer (λ skipped. tells (skipped_text skipped ++ 10 ∷ [])) (IsSaid tells c.args.why) tells c.show_and_tell-in-Ok-hunt.result c.in-Hunt.is c.in-Ok-hunt.ensures.hunted c.show_and_tell-in-Ok-hunt.ensures.shown
+    c.show_and_tell-in-Ok-hunt.ensures.told
 
 pub returns-in-Ok-check-clause-done : goal.returns-in-Ok-check-clause-done
 returns-in-Ok-check-clause-done g c =
     let took : List ℕ → Type 0 = λ text. g.W.Sink.takes c.args.output.now text c.show.new.output in
     let tells : List ℕ → Type 0 = λ text. g.E.Sink.takes c.args.errors.now text c.args.errors.now ⊎ (g.E.Sink.failed c.args.errors.now ≡ g.E.Sink.failed c.args.errors.now + 1) in
     let none = none_said tells c.args.why (inl (g.met.E.Sink.takes_nothing c.args.errors.now)) in
-    shown_done _ (λ path. Unit {0}) _ _ (Unit {0}) took (Unit {0}) (Unit {0}) c.args.request.now _ c.deref.result.now c.in-Ok-check.text.items (λ skipped. tells (skipped_text skipped ++ 10 ∷ [])) (IsSaid tells c.args.why) c.show.result c.in-Check.is c.deref.ensures.value (c.in-Ok-check.ensures.checked, none) c.show.ensures.shown
+    shown_done _ (λ path. Unit {0}) _ _ (Unit {0}) took (Unit {0}) (Unit {0}) c.args.request.now _ c.deref.result.now c.in-Ok-check.text.items (λ skipped. tells (skipped_text skipped ++ 10 ∷ [])) (IsSaid tells c.args.why) tells c.show.result c.in-Check.is c.deref.ensures.value (c.in-Ok-check.ensures.checked, none) c.show.ensures.shown
 
 pub returns-in-Ok-replay-clause-done : goal.returns-in-Ok-replay-clause-done
 returns-in-Ok-replay-clause-done g c =
     let took : List ℕ → Type 0 = λ text. g.W.Sink.takes c.args.output.now text c.show-in-Ok-replay.new.output in
     let tells : List ℕ → Type 0 = λ text. g.E.Sink.takes c.args.errors.now text c.args.errors.now ⊎ (g.E.Sink.failed c.args.errors.now ≡ g.E.Sink.failed c.args.errors.now + 1) in
     let none = none_said tells c.args.why (inl (g.met.E.Sink.takes_nothing c.args.errors.now)) in
-    shown_done _ (λ path. Unit {0}) _ _ (Unit {0}) took (Unit {0}) (Unit {0}) c.args.request.now _ c.as_bytes.result.now _ (λ skipped. tells (skipped_text skipped ++ 10 ∷ [])) (IsSaid tells c.args.why) c.show-in-Ok-replay.result c.in-Replay.is (search rules) (c.in-Ok-replay.ensures.replayed, none) c.show-in-Ok-replay.ensures.shown
+    shown_done _ (λ path. Unit {0}) _ _ (Unit {0}) took (Unit {0}) (Unit {0}) c.args.request.now _ c.as_bytes.result.now _ (λ skipped. tells (skipped_text skipped ++ 10 ∷ [])) (IsSaid tells c.args.why) tells c.show-in-Ok-replay.result c.in-Replay.is (search rules) (c.in-Ok-replay.ensures.replayed, none) c.show-in-Ok-replay.ensures.shown
 
 pub returns-in-Ok-view-clause-done : goal.returns-in-Ok-view-clause-done
 returns-in-Ok-view-clause-done g c =
     let took : List ℕ → Type 0 = λ text. g.W.Sink.takes c.args.output.now text c.show-in-Ok-view.new.output in
     let tells : List ℕ → Type 0 = λ text. g.E.Sink.takes c.args.errors.now text c.args.errors.now ⊎ (g.E.Sink.failed c.args.errors.now ≡ g.E.Sink.failed c.args.errors.now + 1) in
     let none = none_said tells c.args.why (inl (g.met.E.Sink.takes_nothing c.args.errors.now)) in
-    shown_done _ (λ path. Unit {0}) _ _ (Unit {0}) took (Unit {0}) (Unit {0}) c.args.request.now _ c.as_bytes-in-Ok-view.result.now _ (λ skipped. tells (skipped_text skipped ++ 10 ∷ [])) (IsSaid tells c.args.why) c.show-in-Ok-view.result c.in-View.is (search rules) (c.in-Ok-view.ensures.viewed, none) c.show-in-Ok-view.ensures.shown
+    shown_done _ (λ path. Unit {0}) _ _ (Unit {0}) took (Unit {0}) (Unit {0}) c.args.request.now _ c.as_bytes-in-Ok-view.result.now _ (λ skipped. tells (skipped_text skipped ++ 10 ∷ [])) (IsSaid tells c.args.why) tells c.show-in-Ok-view.result c.in-View.is (search rules) (c.in-Ok-view.ensures.viewed, none) c.show-in-Ok-view.ensures.shown
 
 pub returns-in-Ok-gather-clause-done : goal.returns-in-Ok-gather-clause-done
 returns-in-Ok-gather-clause-done g c =
@@ -64,13 +71,18 @@ returns-in-Ok-gather-clause-done g c =
     let tells : List ℕ → Type 0 = λ text. g.E.Sink.takes c.args.errors.now text c.args.errors.now ⊎ (g.E.Sink.failed c.args.errors.now ≡ g.E.Sink.failed c.args.errors.now + 1) in
     let none = none_said tells c.args.why (inl (g.met.E.Sink.takes_nothing c.args.errors.now)) in
     let s = c.in-Ok-gather.ensures.listed in
-    gather_done _ (λ path. Unit {0}) brought (g.R.Source.ended c.gather.new.source) (Unit {0}) took (Unit {0}) (Unit {0}) c.args.request.now c.in-Gather-false-default-default.objects c.in-Gather-false-default-default.contradictions (λ skipped. tells (skipped_text skipped ++ 10 ∷ [])) (IsSaid tells c.args.why) s.listed (cc (c.in-Gather-false-default-default.is))
+    gather_done _ (λ path. Unit {0}) brought (g.R.Source.ended c.gather.new.source) (Unit {0}) took (Unit {0}) (Unit {0}) c.args.request.now c.in-Gather-false-default-default.objects c.in-Gather-false-default-default.contradictions (λ skipped. tells (skipped_text skipped ++ 10 ∷ [])) (IsSaid tells c.args.why) tells s.listed (cc (c.in-Gather-false-default-default.is))
     (record { text = s.text; came = s.came; end = s.end; pieces = s.pieces; lines = s.lines; is_listing = subst (λ (f : ListingForm). IsListing f s.pieces s.listed) c.form_of.ensures s.is_listing }) none s.taken
 
 pub returns-in-Ok-record-clause-stopped : goal.returns-in-Ok-record-clause-stopped
 returns-in-Ok-record-clause-stopped g c =
     let a = c.in-Ok-record.answer in
     shown_stops _ _ _ _ _ _ _ _ c.args.request.now _ a.text a.text c.show_and_tell.result c.in-Record.is refl (a, c.in-Ok-record.ensures.recorded, refl, tt) c.show_and_tell.ensures.error c.show_and_tell.ensures.one_failed c.show_and_tell.ensures.begun
+
+pub returns-in-Ok-hunt-clause-stopped : goal.returns-in-Ok-hunt-clause-stopped
+returns-in-Ok-hunt-clause-stopped g c =
+    let a = c.in-Ok-hunt.answer in
+    shown_stops _ _ _ _ _ _ _ _ c.args.request.now _ a.text a.text c.show_and_tell-in-Ok-hunt.result c.in-Hunt.is refl (a, c.in-Ok-hunt.ensures.hunted, refl, tt) c.show_and_tell-in-Ok-hunt.ensures.error c.show_and_tell-in-Ok-hunt.ensures.one_failed c.show_and_tell-in-Ok-hunt.ensures.begun
 
 pub returns-in-Ok-replay-clause-stopped : goal.returns-in-Ok-replay-clause-stopped
 returns-in-Ok-replay-clause-stopped g c =
