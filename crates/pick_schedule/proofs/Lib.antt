@@ -1,3 +1,4 @@
 pub mod Lines
 pub mod Beginnings
 pub mod Lengths
+pub mod ReadBack
