@@ -20,12 +20,7 @@ use Rattle.event_core.proofs.LocalRuns.{get_same}
 use Rattle.event_core.proofs.Steps.{thread_local}
 use Rattle.recorder.specs.Picks.{is_taken, picks_taken, picks_passed}
 use Rattle.recorder.proofs.Rest.{none_taken}
-
-module _ {State Op Reply Fixed : Type 0} (code : Code State Op Reply Fixed) where
-  -- the steps of a thread; 0 where there is none
-  abbrev pub steps_at : Option (ThreadAt State) → ℕ
-  steps_at None = 0
-  steps_at (Some t) = code.steps t.state
+use Rattle.random_record.specs.Making.{steps_at}
 
 first_of_both : (b c : Bool) → (b && c) ≡ true → b ≡ true
 first_of_both true c h = refl

@@ -5,3 +5,4 @@ pub mod Stretches
 pub mod Drawing
 pub mod Once
 pub mod NumberParts
+pub mod Fitting

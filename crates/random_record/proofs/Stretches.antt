@@ -22,8 +22,8 @@ use Rattle.recorder.proofs.Batches.{run_recorded}
 use Rattle.recorder.proofs.Stretches.{none_recorded, one_recorded, stretch_joined, stretch_parts}
 use Rattle.random_record.specs.Few.{left_behind, put_few}
 use Rattle.random_record.specs.Draw.{is_event}
-use Rattle.random_record.specs.Making.{IsFewRun, Makes, IsOverAt, StepsOn, MakesStretch}
-use Rattle.random_record.proofs.Counting.{steps_at, all_taken, first_taken, stretch_counts, taken_few}
+use Rattle.random_record.specs.Making.{steps_at, IsFewRun, Makes, IsOverAt, StepsOn, MakesStretch}
+use Rattle.random_record.proofs.Counting.{all_taken, first_taken, stretch_counts, taken_few}
 
 -- ---- a log that takes few entries
 

@@ -13,7 +13,7 @@ use Rattle.event_core.specs.Run.{world_run, IsRun, entries, run_end}
 use Rattle.pick_schedule.specs.declared.stretches.Stretch.{Stretch}
 use Rattle.pick_schedule.specs.Stretches.{picks_of, picks_in}
 use Rattle.rand_pcg.specs.Lcg.{Lcg}
-use Rattle.recorder.specs.Picks.{is_taken, picks_taken}
+use Rattle.recorder.specs.Picks.{is_taken, picks_taken, picks_passed}
 use Rattle.recorder.specs.ThreadLogAt.{RecordedAt, log_of}
 use Rattle.replay_laws.specs.RunLog.{run_log}
 use Rattle.replay_laws.specs.Turns.{pick_of}
@@ -59,6 +59,12 @@ module _ {State Op Reply Value Fixed : Type 0} (space : Space Op Reply Value Fix
   -- the stretches of the run that a number draws
   abbrev pub IsDrawnBy : ℕ → Bool → WorldAt State Value Fixed → List Stretch → Type 0
   IsDrawnBy number timeouts w ss = IsDrawn timeouts (exponent_of number) (behind_word (generator_of number)) w ss
+
+  -- and each of their picks is taken in turn
+  pub record IsDrawnWhole (number : ℕ) (timeouts : Bool) (w : WorldAt State Value Fixed) (ss : List Stretch) : Type 0 where
+    pub drawn : IsDrawnBy number timeouts w ss
+    pub taken : picks_taken space code steps w (picks_in ss) ≡ picks_in ss
+    pub none_passed : picks_passed space code steps w (picks_in ss) ≡ 0
 
   -- the log and the end of that run were recorded, and no pick was passed over
   pub record IsRandomRun (number : ℕ) (timeouts : Bool) (w : WorldAt State Value Fixed) (recorded : RecordedAt) : Type 0 where

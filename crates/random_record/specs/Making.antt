@@ -5,6 +5,7 @@ use Rattle.rw_objects.specs.Code.{Code}
 use Rattle.rw_objects.specs.declared.entry.Entry.{Entry}
 use Rattle.event_core.specs.declared.pick.Pick.{Pick}
 use Rattle.event_core.specs.LocalRun.{goes}
+use Rattle.event_core.specs.Threads.{ThreadAt}
 use Rattle.event_core.specs.World.{WorldAt, step_of_pick}
 use Rattle.event_core.specs.Run.{entries}
 use Rattle.event_core.specs.ThreadRun.{IsThreadRun}
@@ -14,6 +15,20 @@ use Rattle.rand_pcg.specs.Lcg.{Lcg}
 use Rattle.recorder.specs.Picks.{is_taken}
 use Rattle.recorder.specs.Recorded.{list_at, OthersStay, AreRecorded}
 use Rattle.random_record.specs.Draw.{is_event, IsStretch, IsDrawn, IsDrawnBy}
+
+-- the stretch that was drawn, if there is one
+abbrev pub drawn_list : Option Stretch → List Stretch
+drawn_list None = []
+drawn_list (Some s) = s ∷ []
+
+-- a list is kept where that is wanted
+abbrev pub IsKept : Bool → List Stretch → List Stretch → Type 0
+IsKept keeps kept stretches = keeps ≡ true → kept ≡ stretches
+
+-- the steps of a thread; 0 where there is none
+abbrev pub steps_at : {State Op Reply Fixed : Type 0} → Code State Op Reply Fixed → Option (ThreadAt State) → ℕ
+steps_at code None = 0
+steps_at code (Some t) = code.steps t.state
 
 module _ {State Op Reply Value Fixed : Type 0} (space : Space Op Reply Value Fixed) (code : Code State Op Reply Fixed) where
   -- a thread went on, at most so many times, and its entries stand behind those of its log; of the events that it may
@@ -48,13 +63,11 @@ module _ {State Op Reply Value Fixed : Type 0} (space : Space Op Reply Value Fix
       pub stretch : IsStretch space code steps w p events times
 
     -- stretches that were drawn lead from a world and a generator to others, and their entries were noted
-    pub record DrawsOn (timeouts : Bool) (exponent : ℕ) (g h : Lcg) (w v : WorldAt State Value Fixed) (lists news : List (List Entry)) : Type 0 where
-      pub stretches : List Stretch
+    pub record DrawsOn (timeouts : Bool) (exponent : ℕ) (g h : Lcg) (w v : WorldAt State Value Fixed) (stretches : List Stretch) (lists news : List (List Entry)) : Type 0 where
       pub recorded : AreRecorded space code steps (picks_in stretches) w v lists news 0 0
       pub drawn : (ss : List Stretch) → IsDrawn space code steps timeouts exponent h v ss → IsDrawn space code steps timeouts exponent g w (stretches ++ ss)
 
     -- all stretches that a number draws were made, and their entries noted
-    pub record MakesDrawn (number : ℕ) (timeouts : Bool) (w v : WorldAt State Value Fixed) (lists news : List (List Entry)) : Type 0 where
-      pub stretches : List Stretch
+    pub record MakesDrawn (number : ℕ) (timeouts : Bool) (w v : WorldAt State Value Fixed) (stretches : List Stretch) (lists news : List (List Entry)) : Type 0 where
       pub recorded : AreRecorded space code steps (picks_in stretches) w v lists news 0 0
       pub drawn : IsDrawnBy space code steps number timeouts w stretches

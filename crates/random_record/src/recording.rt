@@ -1,14 +1,16 @@
 //! Recording by stretches that are drawn.
 
-ghost use Rattle.std.specs.Prelude.{◌≡◌, [], true, false, length, IfOk, OnOk};
+ghost use Rattle.std.specs.Prelude.{◌≡◌, ◌++◌, ◌∷◌, List, [], None, length, slice_get, IfOk, OnOk};
 ghost use Rattle.event_core.specs.World.{world_of};
-ghost use Rattle.random_record.specs.Draw.{candidates, IsRandomRun};
-ghost use Rattle.random_record.specs.Making.{DrawsOn, MakesDrawn};
+ghost use Rattle.pick_schedule.specs.declared.stretches.Stretch.{Stretch};
+ghost use Rattle.random_record.specs.Draw.{candidates, IsDrawnWhole, IsRandomRun};
+ghost use Rattle.random_record.specs.Making.{drawn_list, steps_at, DrawsOn, IsKept, MakesDrawn};
 
 use crate::candidates::candidates;
 use crate::draws::Draws;
 use crate::stretch::make_stretch;
 use event_core::World;
+use pick_schedule::Stretch;
 use recorder::{Logs, Recorded, thread_logs};
 use rw_objects::{Machine, ObjectSpace};
 use std::alloc::Global;
@@ -26,46 +28,85 @@ pub struct RandomRun {
     pub steps: u32,
 }
 
-/// Draws a stretch, if some pick can be drawn, and makes it. Answers whether there is one.
+/// How many steps a thread made; 0 where there is none.
+fn steps_of<M: Machine<S>, S: ObjectSpace>(world: &World<M, S>, thread: u32) -> u32
+    ensures { result ≡ steps_at M.code (slice_get (world_of world.now).threads thread) }
+{
+    match world.steps(thread) {
+        Some(steps) => steps,
+        None => 0,
+    }
+}
+
+/// Draws a stretch, if some pick can be drawn, and makes it.
 fn draw_stretch<M: Machine<S>, S: ObjectSpace>(
     world: &mut World<M, S>,
     logs: &mut Logs,
     draws: &mut Draws,
     draw: RandomRun,
-) -> Result<bool, NoMemory>
+) -> Result<Option<Stretch>, NoMemory>
     requires { length logs.old ≡ length (world_of world.old).threads }
-    ensures draws { OnOk result (DrawsOn S.meaning M.code draw.steps draw.timeouts draws.old.exponent draws.old.generator draws.new.generator (world_of world.old) (world_of world.new) logs.old logs.new) }
+    ensures draws { IfOk result (λ drawn. DrawsOn S.meaning M.code draw.steps draw.timeouts draws.old.exponent draws.old.generator draws.new.generator (world_of world.old) (world_of world.new) (drawn_list drawn) logs.old logs.new) }
     ensures exponent { OnOk result (draws.new.exponent ≡ draws.old.exponent) }
-    ensures none { IfOk result (λ made. made ≡ false → candidates S.meaning M.code draw.steps draw.timeouts (world_of world.new) ≡ []) }
+    ensures none { IfOk result (λ drawn. drawn ≡ None → candidates S.meaning M.code draw.steps draw.timeouts (world_of world.new) ≡ []) }
 {
     let picks = candidates(world, draw.timeouts, draw.steps);
     let count = picks.len();
     if count == 0 {
-        return Ok(false);
+        return Ok(None);
     }
     let pick = picks.at(draws.below(count));
     let accesses = draws.accesses();
+    let before = steps_of(world, pick.thread);
     make_stretch(world, logs, pick, accesses, draw.steps)?;
-    Ok(true)
+    let times = steps_of(world, pick.thread).saturating_sub(before);
+    Ok(Some(Stretch { pick, times }))
 }
 
-/// Makes the stretches that are drawn, until no pick can be drawn.
+/// Puts a stretch behind others, where they are to be kept.
+fn keep(kept: &mut Vec<Stretch>, keeps: bool, stretch: Stretch) -> Result<(), NoMemory>
+    ensures { OnOk result ((stretches : List Stretch) → IsKept keeps kept.old.items stretches → IsKept keeps kept.new.items (stretches ++ stretch ∷ [])) }
+{
+    if keeps {
+        kept.push(stretch)?;
+    }
+    Ok(())
+}
+
+/// Makes the stretches that are drawn, until no pick can be drawn. Answers them, where they are to be kept.
 fn make_drawn<M: Machine<S>, S: ObjectSpace, R: Wait>(
     rt: &R,
+    alloc: Global,
     world: &mut World<M, S>,
     logs: &mut Logs,
     draw: RandomRun,
-) -> Result<(), NoMemory>
+    keeps: bool,
+) -> Result<Vec<Stretch>, NoMemory>
     requires { length logs.old ≡ length (world_of world.old).threads }
-    ensures { OnOk result (MakesDrawn S.meaning M.code draw.steps draw.number draw.timeouts (world_of world.old) (world_of world.new) logs.old logs.new) }
+    ensures { IfOk result (λ kept. (stretches : List Stretch) × IsKept keeps kept.items stretches × MakesDrawn S.meaning M.code draw.steps draw.number draw.timeouts (world_of world.old) (world_of world.new) stretches logs.old logs.new) }
 {
     let mut draws = Draws::new(draw.number);
+    let mut kept = Vec::new(alloc);
     for _ in rt.forever() {
-        if !draw_stretch(world, logs, &mut draws, draw)? {
-            return Ok(());
-        }
+        let Some(stretch) = draw_stretch(world, logs, &mut draws, draw)? else {
+            return Ok(kept);
+        };
+        keep(&mut kept, keeps, stretch)?;
     }
     unreachable!()
+}
+
+/// The stretches of the run that a number draws, as `record_random` makes it: each of their picks is taken in turn.
+pub fn drawn_stretches<M: Machine<S> + Drop, S: ObjectSpace + Drop, R: Wait>(
+    rt: &R,
+    alloc: Global,
+    mut world: World<M, S>,
+    draw: RandomRun,
+) -> Result<Vec<Stretch>, NoMemory>
+    ensures { IfOk result (λ stretches. IsDrawnWhole S.meaning M.code draw.steps draw.number draw.timeouts (world_of world) stretches.items) }
+{
+    let mut logs = Logs::new(alloc, world.count())?;
+    make_drawn(rt, alloc, &mut world, &mut logs, draw, true)
 }
 
 /// Records the run that a number draws, until no thread that made fewer than `draw.steps` steps has a pick that can be
@@ -83,7 +124,7 @@ pub fn record_random<M: Machine<S> + Drop, S: ObjectSpace + Drop, R: Wait>(
     ensures { IfOk result (IsRandomRun S.meaning M.code draw.steps draw.number draw.timeouts (world_of world)) }
 {
     let mut logs = Logs::new(alloc, world.count())?;
-    make_drawn(rt, &mut world, &mut logs, draw)?;
+    make_drawn(rt, alloc, &mut world, &mut logs, draw, false)?;
     let threads = thread_logs(alloc, &world, logs.into_lists())?;
     let end = world.end(alloc)?;
     Ok(Recorded::new(threads, end, 0))

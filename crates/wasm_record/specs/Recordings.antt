@@ -1,5 +1,5 @@
 -- Recordings of the runs of a module and a plan.
-use Rattle.std.specs.Prelude.{◌≡◌, ℕ, ◌++◌, Bool, List, Some}
+use Rattle.std.specs.Prelude.{◌≡◌, ◌<◌, ◌⊎◌, ℕ, ◌++◌, Bool, false, List, Some, length}
 use Rattle.sha2.specs.Sha256.{sha256}
 use Rattle.wasm_types.specs.declared.key.Profile.{Profile}
 use Rattle.wasm_types.specs.declared.key.RunKey.{RunKey}
@@ -15,7 +15,10 @@ use Rattle.recorder.specs.Picks.{picks_taken, picks_passed}
 use Rattle.recorder.specs.ThreadLogAt.{RecordedAt, log_of}
 use Rattle.run_pieces.specs.PieceOf.{ArePiecesOf}
 use Rattle.workers.specs.Recording.{IsRecording}
-use Rattle.random_record.specs.Draw.{IsRandomRun}
+use Rattle.random_record.specs.Stretch.{Stretch}
+use Rattle.random_record.specs.Stretches.{picks_in}
+use Rattle.random_record.specs.Printing.{are_of_threads}
+use Rattle.random_record.specs.Draw.{IsDrawnWhole, IsRandomRun}
 use Rattle.wasm_world.specs.Opening.{WasmWorld, opening_world_of}
 
 -- which run, and what was recorded of it
@@ -50,6 +53,26 @@ pub record RecordsRandom (m : Module) (plan : PlanValue) (profile : Profile) (nu
   pub world : WasmWorld
   pub opens : opening_world_of m plan profile ≡ Some world
   pub random : IsRandomRun shared_memory thread_code steps number timeouts world recorded
+
+-- from the opening world the number draws these stretches, and each of their picks is taken in turn
+pub record Draws (m : Module) (plan : PlanValue) (profile : Profile) (number : ℕ) (timeouts : Bool) (steps : ℕ) (stretches : List Stretch) : Type 0 where
+  pub world : WasmWorld
+  pub opens : opening_world_of m plan profile ≡ Some world
+  pub drawn : IsDrawnWhole shared_memory thread_code steps number timeouts world stretches
+
+-- the number draws these picks
+abbrev pub IsDrawnSchedule : Module → PlanValue → Profile → ℕ → Bool → ℕ → List Pick → Type 0
+IsDrawnSchedule m plan profile number timeouts steps picks = (stretches : List Stretch) × Draws m plan profile number timeouts steps stretches × (picks ≡ picks_in stretches)
+
+-- a schedule of what the number draws would have too many picks, or one of a thread that it can not name
+abbrev pub IsNoDrawnSchedule : Module → PlanValue → Profile → ℕ → Bool → ℕ → Type 0
+IsNoDrawnSchedule m plan profile number timeouts steps = (stretches : List Stretch) × Draws m plan profile number timeouts steps stretches
+    × ((1000000 < length (picks_in stretches)) ⊎ (are_of_threads (picks_in stretches) ≡ false))
+
+-- what is recorded of the run that a number draws is what is recorded by the schedule that it draws
+abbrev pub DrawnSchedulesRecord : Type 0
+DrawnSchedulesRecord = (m : Module) (plan : PlanValue) (profile : Profile) (number : ℕ) (timeouts : Bool) (steps : ℕ) (picks : List Pick) (recorded : RecordedAt)
+    → IsDrawnSchedule m plan profile number timeouts steps picks → RecordsRandom m plan profile number timeouts steps recorded → RecordsRun m plan profile picks steps recorded
 
 -- a number draws one run: what is recorded of it has one log and one end
 abbrev pub DrawnRunsAreOne : Type 0

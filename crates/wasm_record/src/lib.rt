@@ -1,8 +1,8 @@
 //! Recordings of a module and a plan, by a schedule, by threads at once or at random, and their pieces.
 //!
 //! `record_schedule`, `record_threads`, `record_drawn`: a run of them with its log and its end (`key`, `records`; law
-//! `drawn_runs_are_one`);
-//! `Recording::pieces`: pieces of that run (`of_run`). `record_memory` does as `record_workers`, over the shared
+//! `drawn_runs_are_one`). `drawn_schedule`: the schedule of the run that a number draws (law
+//! `drawn_schedules_record`). `Recording::pieces`: pieces of that run (`of_run`). `record_memory` does as `record_workers`, over the shared
 //! memory. `send` and `receive` pass pieces through a channel: as many of the run as `receive` answers are joined
 //! (`received`).
 #![tactic(auto)]
@@ -18,12 +18,12 @@ mod thread;
 mod threads;
 
 pub use fault::SendFault;
-pub use laws::drawn_runs_are_one;
+pub use laws::{drawn_runs_are_one, drawn_schedules_record};
 pub use memory_recording::record_memory;
-pub use random::record_drawn;
-pub use random_record::{RandomRun, Survey, survey_numbers};
+pub use random::{drawn_schedule, record_drawn};
+pub use random_record::{RandomRun, Survey, Trial, shrink, survey_numbers};
 pub use receiving::receive;
-pub use recorder::ThreadLog;
+pub use recorder::{Schedule, ThreadLog};
 pub use recording::{Recording, record_schedule};
 pub use run_pieces::{LineRoom, PiecesFault};
 pub use sending::send;

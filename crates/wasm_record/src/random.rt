@@ -1,12 +1,14 @@
 //! Recording by a schedule that a number draws.
 
-ghost use Rattle.std.specs.Prelude.{◌≡◌, IfOk};
+ghost use Rattle.std.specs.Prelude.{◌≡◌, IfOk, IfSome, IfNone};
 ghost use Rattle.wasm_world.specs.Plans.{IsPlanOf};
+ghost use Rattle.random_record.specs.Printing.{AreOfThreads};
 ghost use Rattle.wasm_types.specs.declared.key.Profile.TheVariants.{Two};
-ghost use Rattle.wasm_record.specs.Recordings.{IsKeyOf, RecordsRandom};
+ghost use Rattle.wasm_record.specs.Recordings.{IsDrawnSchedule, IsKeyOf, IsNoDrawnSchedule, RecordsRandom};
 
 use crate::recording::Recording;
-use random_record::{RandomRun, record_random};
+use random_record::{RandomRun, drawn_stretches, record_random};
+use recorder::Schedule;
 use std::alloc::Global;
 use std::sync::Wait;
 use wasm_types::{Block, NoMemory, Profile, RunKey};
@@ -31,4 +33,24 @@ pub fn record_drawn<R: Wait>(
     let world = open_world(alloc, valid, plan, Profile::Two(block))?;
     let recorded = record_random(rt, alloc, world, run)?;
     Ok(Recording { key, recorded })
+}
+
+/// The schedule of the run that the number draws, as `record_drawn` makes it. None where a schedule can not have its
+/// picks, since they are more than 1,000,000.
+pub fn drawn_schedule<R: Wait>(
+    rt: &R,
+    alloc: Global,
+    valid: &Valid,
+    plan: &Plan,
+    block: Block,
+    run: RandomRun,
+) -> Result<Option<Schedule>, NoMemory>
+    requires { IsPlanOf valid.now plan.now }
+    ensures drawn { IfOk result (λ schedule. IfSome schedule (IsDrawnSchedule valid.now plan.now (Two block) run.number run.timeouts run.steps)) }
+    ensures of_threads { IfOk result (λ schedule. IfSome schedule AreOfThreads) }
+    ensures none { IfOk result (λ schedule. IfNone schedule (IsNoDrawnSchedule valid.now plan.now (Two block) run.number run.timeouts run.steps)) }
+{
+    let world = open_world(alloc, valid, plan, Profile::Two(block))?;
+    let stretches = drawn_stretches(rt, alloc, world, run)?;
+    Schedule::of_stretches(alloc, &stretches)
 }

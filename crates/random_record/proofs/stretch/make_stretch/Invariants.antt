@@ -1,7 +1,6 @@
 use Rattle.std.proofs.Common.{◌-◌, slice_get}
 use Rattle.event_core.specs.World.{world_of}
-use Rattle.random_record.specs.Making.{Makes}
-use Rattle.random_record.proofs.Counting.{steps_at}
+use Rattle.random_record.specs.Making.{steps_at, Makes}
 use Rattle.random_record.proofs.stretch.make_stretch.Given as goal
 
 abbrev pub invariant-loop-left : goal.invariant-loop-left
