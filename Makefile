@@ -53,6 +53,7 @@ bench: $(PROGRAM) $(BENCH)
 	python3 bench/long_log.py $(PROGRAM)
 	python3 bench/recordings.py $(PROGRAM)
 	python3 bench/hunts.py $(PROGRAM)
+	python3 bench/two_changes.py $(PROGRAM)
 	python3 bench/threads.py $(PROGRAM)
 
 # Refuses each growth in turn: of the programs, on recordings, replays and listings of the worked rows and on a thread alone; and of

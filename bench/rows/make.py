@@ -1,7 +1,7 @@
 """Writes the commands of crates/worked_rows, the files that they read, and what they must write: by the model, for the
 recordings of profile 1 by what was recorded apart, and for the hunt by what is kept with it."""
 import os, struct, sys
-from model import Module, World, digest
+from model import Module, World, digest, schedule_text, shrunk
 from views import stop, view
 
 TARGET = sys.argv[1]
@@ -102,16 +102,33 @@ def hunted(module_file, module, plan_file, plan, until=(), unless=(), first=0, r
     more = (' --from %d' % first if first else '') + (' --runs %d' % runs if runs != 1000 else '') + (' --timeouts now' if timeouts else '') + (' --size %d' % size if size != 4096 else '')
     words = hunt_words('%s %s' % (module_file, plan_file), until, unless, more)
     def is_sign(line, texts): return any(line.startswith(t) for t in texts) if until or unless else line.split(' ')[2:3] in (['trap'], ['waiting'])
+    def signs_of(world): return [line for line in world.report().splitlines() if is_sign(line, until)]
+    def is_caught(world): return bool(signs_of(world) or unless and not any(is_sign(line, unless) for line in world.report().splitlines()))
+    def told_of(world, number): return 'caught %d\n' % number + ''.join(line + '\n' for line in signs_of(world))
     for number in range(first, first + runs):
         world = World(module, plan); world.draw(number, timeouts)
-        lines = world.report().splitlines()
-        signs = [line for line in lines if is_sign(line, until)]
-        if signs or unless and not any(is_sign(line, unless) for line in lines):
-            told = 'caught %d\n' % number + ''.join(line + '\n' for line in signs)
+        if is_caught(world):
+            told = told_of(world, number)
             for n in jobs: command(words + ' --jobs %d' % n, world.lines(digest(module, plan), number, size), told)
+            made_small(words, module, plan, world, number, size, is_caught, told_of)
             return
     for n in jobs: command(words + ' --jobs %d' % n, '', 'refused 71 NotCaught\n', 1)
     command(words + ' --why', '', 'refused 71 NotCaught\n--from and --runs: the report of none of these runs is one that is caught\n', 1)
+def made_small(words, module, plan, world, number, size, is_caught, told_of):
+    """The schedule of a run that is caught, as it is drawn and made small, and the pieces of what it is made to."""
+    def rests(other): return all(other.outcome(t) != 'running' for t in other.threads)
+    def comes(stretches):
+        other = World(module, plan).tries(stretches)
+        return (rests(other) or not rests(world)) and is_caught(other)
+    small = shrunk(world.drawn, comes)
+    other = World(module, plan).tries(small)
+    command(words + ' --print schedule', schedule_text(world.drawn), told_of(world, number))
+    command(words + ' --shrink --print schedule', schedule_text(small), told_of(other, number))
+    command(words + ' --shrink', other.lines(digest(module, plan), number, size), told_of(other, number))
+def hunted_by_threads(module_file, module, plan_file, plan, schedule, number, words, told):
+    """One thread, whose runs by threads are all one run."""
+    world = run_of('', module, plan, schedule)
+    command('hunt %s %s --threads%s' % (module_file, keep(plan_file, plan), words), world.lines(digest(module, plan), number, 4096), 'caught %d\n' % number + told)
 def run_lines(module_file, module, plan_file, plan, first, runs, timeouts=False, jobs=(1, 3)):
     """A line for each run."""
     lines = ''
@@ -125,6 +142,8 @@ hunted(*HUNTED, until=('thread 0 i32 3',), first=5)
 hunted(*HUNTED, unless=('thread 1 i32 3', 'thread 0 i32 2'), runs=30)
 hunted(*HUNTED, until=('00000000 05',), unless=('pages 1',), runs=9)
 hunted(*HUNTED, runs=7, first=2 ** 64 - 8)
+hunted_by_threads('counter.wasm', COUNTER, 'single.plan', plan_of('w'), b'go 0 8\n', 3, " --until 'thread 0 i32 1' --from 3", 'thread 0 i32 1\n')
+command("hunt counter.wasm single.plan --threads --until 'thread 0 i32 2' --runs 5", '', 'refused 71 NotCaught\n', 1)
 run_lines(*HUNTED, 0, 12); run_lines(*HUNTED, 2 ** 64 - 4, 3)
 
 # two readers and a writer
@@ -175,6 +194,8 @@ for number in range(4): drawn('five.wasm', FIVE, 'five.plan', FIVES, number)
 LIMITED = Module([('f', [], 'i32', wait(0, 0, 1000)), ('n', [], 'i32', notify(1) + ['end'])])
 hunted('limited.wasm', LIMITED, 'limited.plan', plan_of('f', 'n'), until=('thread 0 i32 2',), timeouts=True)
 hunted('limited.wasm', LIMITED, 'limited.plan', plan_of('f', 'n'), until=('thread 0 i32 2',), runs=20)
+hunted_by_threads('limited.wasm', LIMITED, 'sleeper.plan', plan_of('f'), b'go 0 9\n', 0, '', 'thread 0 waiting\n')
+hunted_by_threads('limited.wasm', LIMITED, 'sleeper.plan', plan_of('f'), b'go 0 9\nout 0\ngo 0 9\n', 0, " --timeouts now --until 'thread 0 i32'", 'thread 0 i32 2\n')
 run_lines('limited.wasm', LIMITED, 'limited.plan', plan_of('f', 'n'), 0, 6, True)
 for number in range(6): drawn('limited.wasm', LIMITED, 'limited.plan', plan_of('f', 'n'), number, number % 2 == 1)
 
@@ -410,6 +431,12 @@ for range_of in (' --from 18446744073709551615 --runs 1', ' --from 1 --runs 1844
     usage(HUNT_WORDS + range_of, "'--from <N>' and '--runs <N>' come to more than 18446744073709551615")
 for jobs in ('0', '257', 'all'): usage(HUNT_WORDS + ' --jobs ' + jobs, "'--jobs <N>' takes a number from 1 to 256")
 usage(HUNT_WORDS + ' --timeouts later', "'--timeouts <WHEN>' takes never or now")
+for sign in (' --until trap', " --unless 'i32 10'", " --until 'thread 0 trap' --until waiting", ' --unless pages:'):
+    usage(HUNT_WORDS + sign, "'--until <TEXT>' and '--unless <TEXT>' take the beginning of a line of a report, as 'thread 0 trap'")
+usage(HUNT_WORDS + ' --print lines', "'--print <WHAT>' takes pieces or schedule")
+for more in (' --shrink', ' --print schedule', ' --print lines'): usage(HUNT_WORDS + ' --list' + more, "'hunt' takes '--list' without '--shrink' and '--print schedule'")
+for more in (' --jobs 2', ' --shrink', ' --print schedule', ' --list'):
+    usage(HUNT_WORDS + ' --threads' + more, "'hunt' takes '--threads' without '--jobs', '--shrink', '--print schedule' and '--list'")
 usage(HUNT_WORDS + ' --steps 1000000001', "'--steps <N>' takes a number from 0 to 1000000000")
 usage(HUNT_WORDS + ' --block 96', "'--block <N>' takes 64, 128, 256, 512, 1024, 2048 or 4096")
 for size, text in ((0, '31 Empty'), (4097, '32 TooMany')): command(HUNT_WORDS + ' --size %d' % size, '', 'refused %s\n' % text, 1)

@@ -26,13 +26,10 @@ record_run() {
 
 # Records until a sum is wrong.
 record_until_wrong() {
-    runs=0
-    while :; do
-        runs=$((runs + 1))
-        record_run
-        [ "$sum" = $right ] || break
-    done
-    echo "run $runs came to $sum, and $right is right"
+    "$wreplay" hunt $module $plan --threads --runs 1000000000 --unless "thread 2 i32 $right" --size 16 \
+        > "$folder/night.pieces" 2> "$folder/caught"
+    "$wreplay" replay $module $plan "$folder/night.pieces" > "$folder/report"
+    echo "$(cat "$folder/caught"): $(tail -n 1 "$folder/report"), and $right is right"
 }
 
 # Records so many runs, and counts the wrong sums.

@@ -1,21 +1,25 @@
 -- What command lines ask for.
-use Rattle.std.specs.Prelude.{◌≡◌, ◌⊎◌, ◌<◌, ◌≤◌, ◌+◌, ◌^◌, ◌||◌, ℕ, Bool, true, false, List, [], Option, Some, None, codes, map, option_map, unwrap_or}
+use Rattle.std.specs.Prelude.{◌≡◌, ◌⊎◌, ◌<◌, ◌≤◌, ◌+◌, ◌^◌, ◌||◌, ◌&&◌, ℕ, Bool, true, false, List, [], Option, Some, None, codes, map, option_map, unwrap_or}
+use Rattle.std.specs.List.{list_all}
 use Rattle.std.specs.Str.{bytes_eq}
 use Rattle.clap.specs.Words.{Text, Row, all_of, first_of, subcommand_of, fault_of, IsAmong}
 use Rattle.clap.specs.declared.error.kind.ErrorKind.TheVariants as kind
 use Rattle.wasm_types.specs.declared.sizes.TheConstants.{MOST_STEPS}
-use Rattle.command_words.specs.Words.{number_up_to, order_in, pair_in}
+use Rattle.command_words.specs.Words.{number_up_to, order_in, pair_in, may_begin}
 use Rattle.command_words.specs.Commands.{program}
 use Rattle.command_words.specs.declared.requests.Request.{Request}
 use Rattle.command_words.specs.declared.requests.Request.TheVariants.{Gather, Check, Record, Hunt, Replay, View}
 use Rattle.command_words.specs.declared.requests.RecordOrder.{RecordOrder}
 use Rattle.command_words.specs.declared.requests.RecordOrder.TheVariants as order
 use Rattle.command_words.specs.declared.requests.RecordRequest.{RecordRequest}
+use Rattle.command_words.specs.declared.requests.HuntForm.{HuntForm}
+use Rattle.command_words.specs.declared.requests.HuntForm.TheVariants as form
 use Rattle.command_words.specs.declared.requests.HuntRequest.{HuntRequest}
 use Rattle.command_words.specs.declared.requests.ReplayRequest.{ReplayRequest}
 use Rattle.command_words.specs.declared.requests.ThreadCount.{ThreadCount}
 use Rattle.command_words.specs.declared.requests.ByteRange.{ByteRange}
 use Rattle.command_words.specs.declared.requests.ViewRequest.{ViewRequest}
+use Rattle.command_words.specs.declared.wanted.Sizes.{Sizes}
 use Rattle.command_words.specs.declared.command.Asked.{Asked}
 use Rattle.command_words.specs.declared.command.Asked.TheVariants as asked
 
@@ -87,12 +91,34 @@ pub record IsRangeOfRuns (rows : List Row) (from runs : ℕ) : Type 0 where
   pub some : 0 < runs
   pub fits : from + runs < 2 ^ 64
 
+-- the values that a parser found say what is written: pieces, a schedule, or a list, of which nothing is made small
+abbrev pub IsFormAsked : List Row → HuntForm → Bool → Type 0
+IsFormAsked rows form.Pieces shrinks = (has_flag (codes "list") rows ≡ false) × (is_text (codes "pieces") (first_of (codes "print") rows) ≡ true) × (shrinks ≡ has_flag (codes "shrink") rows)
+IsFormAsked rows form.Schedule shrinks = (has_flag (codes "list") rows ≡ false) × (is_text (codes "schedule") (first_of (codes "print") rows) ≡ true) × (shrinks ≡ has_flag (codes "shrink") rows)
+IsFormAsked rows form.List shrinks =
+    (has_flag (codes "list") rows ≡ true) × (is_text (codes "pieces") (first_of (codes "print") rows) ≡ true) × (has_flag (codes "shrink") rows ≡ false) × (shrinks ≡ false)
+
+-- the values that a parser found say whether runs are made by threads: one after the other, and written as pieces
+abbrev pub IsByThreadsAsked : List Row → Bool → Type 0
+IsByThreadsAsked rows true = (has_flag (codes "threads") rows ≡ true) × (first_of (codes "jobs") rows ≡ None) × (has_flag (codes "list") rows ≡ false) × (has_flag (codes "shrink") rows ≡ false)
+    × (is_text (codes "pieces") (first_of (codes "print") rows) ≡ true)
+IsByThreadsAsked rows false = has_flag (codes "threads") rows ≡ false
+
+-- the values that a parser found say how long runs are, how their logs are cut, and when waits time out
+pub record AreSizesAsked (rows : List Row) (s : Sizes) : Type 0 where
+  pub has_timeouts : (is_text (codes "never") (first_of (codes "timeouts") rows) || is_text (codes "now") (first_of (codes "timeouts") rows)) ≡ true
+  pub has_times_out : s.times_out ≡ times_out_in rows
+  pub has_steps : number_of MOST_STEPS (first_of (codes "steps") rows) ≡ Some s.steps
+  pub has_size : number_of 4294967295 (first_of (codes "size") rows) ≡ Some s.size
+  pub has_block : IsBlockOf (number_of 4294967295 (first_of (codes "block") rows)) s.block
+
 -- the values that a parser found ask for this hunt
 pub record IsHuntAsked (rows : List Row) (r : HuntRequest) : Type 0 where
   pub has_module : first_of (codes "MODULE") rows ≡ Some r.«module».now
   pub has_plan : first_of (codes "PLAN") rows ≡ Some r.plan.now
   pub has_until : map (λ t. t.now) r.until.items ≡ texts_of (codes "until") rows
   pub has_unless : map (λ t. t.now) r.unless.items ≡ texts_of (codes "unless") rows
+  pub can_begin : (list_all (λ t. may_begin t.now) r.until.items && list_all (λ t. may_begin t.now) r.unless.items) ≡ true
   pub has_range : IsRangeOfRuns rows r.range.from r.range.count
   pub has_jobs : IsJobsAsked (first_of (codes "jobs") rows) r.jobs
   pub has_timeouts : (is_text (codes "never") (first_of (codes "timeouts") rows) || is_text (codes "now") (first_of (codes "timeouts") rows)) ≡ true
@@ -100,7 +126,8 @@ pub record IsHuntAsked (rows : List Row) (r : HuntRequest) : Type 0 where
   pub has_steps : number_of MOST_STEPS (first_of (codes "steps") rows) ≡ Some r.steps
   pub has_size : number_of 4294967295 (first_of (codes "size") rows) ≡ Some r.size
   pub has_block : IsBlockOf (number_of 4294967295 (first_of (codes "block") rows)) r.block
-  pub has_list : r.list ≡ has_flag (codes "list") rows
+  pub has_form : IsFormAsked rows r.form r.shrinks
+  pub has_by_threads : IsByThreadsAsked rows r.by_threads
 
 -- the values that a parser found ask for this replay
 pub record IsReplayAsked (rows : List Row) (r : ReplayRequest) : Type 0 where

@@ -56,13 +56,18 @@ recording = with_why (with_rule (with_numbers (with_orders (on_program (new_app 
 abbrev pub with_signs : App → App
 with_signs a = with_rule (with_rule a (repeated_rule (codes "until"))) (repeated_rule (codes "unless"))
 
--- which numbers are tried, how many at once, and whether time-outs are drawn
+-- which numbers are tried, how many at once, whether by threads, and whether waits time out
 abbrev pub with_range_of_runs : App → App
-with_range_of_runs a = with_rule (with_rule (with_rule (with_rule a (default_rule (codes "from") (codes "0"))) (default_rule (codes "runs") (codes "1000"))) (option_rule (codes "jobs")))
+with_range_of_runs a = with_rule
+    (with_rule (with_rule (with_rule (with_rule a (default_rule (codes "from") (codes "0"))) (default_rule (codes "runs") (codes "1000"))) (option_rule (codes "jobs"))) (flag_rule (codes "threads")))
     (default_rule (codes "timeouts") (codes "never"))
 
+-- what is made of the run that is caught, and what is written
+abbrev pub with_forms : App → App
+with_forms a = with_rule (with_rule (with_rule a (flag_rule (codes "shrink"))) (default_rule (codes "print") (codes "pieces"))) (flag_rule (codes "list"))
+
 abbrev pub hunting : App
-hunting = with_why (with_rule (with_sizes (with_range_of_runs (with_signs (on_program (new_app (codes "hunt")))))) (flag_rule (codes "list")))
+hunting = with_why (with_forms (with_sizes (with_range_of_runs (with_signs (on_program (new_app (codes "hunt")))))))
 
 -- a replay's files, and its order
 abbrev pub on_pieces : App → App

@@ -1,7 +1,7 @@
 -- Numbers on the command line.
-use Rattle.std.specs.Prelude.{ℕ, ◌&&◌, Bool, List, [], ◌∷◌, Option, Some, None, length, nat_lt, nat_le, if◌then◌else◌}
+use Rattle.std.specs.Prelude.{ℕ, ◌&&◌, ◌||◌, ◌==◌, Bool, true, codes, slice_get, List, [], ◌∷◌, Option, Some, None, length, nat_lt, nat_le, if◌then◌else◌}
 use Rattle.std.specs.Char.{is_ascii_digit}
-use Rattle.std.specs.List.{list_all}
+use Rattle.std.specs.List.{list_all, starts_with}
 use Rattle.std.specs.Str.Parse.{digits_value}
 use Rattle.text_lines.specs.Parts.{parts}
 
@@ -37,3 +37,19 @@ pair_in separator text = pair_of (parts separator text)
 -- the numbers that stand between commas, at most 1,000,000 of them
 abbrev pub order_in : List ℕ → Option (List ℕ)
 order_in text = if nat_le (length (parts 44 text)) 1000000 then threads_in (parts 44 text) else None
+
+-- one of these begins as the other does, as far as that goes
+abbrev pub agree : List ℕ → List ℕ → Bool
+agree text head = starts_with (λ a b. a == b) text head || starts_with (λ a b. a == b) head text
+
+-- a digit of hexadecimal, in lower case
+abbrev pub is_hex_digit : ℕ → Bool
+is_hex_digit b = is_ascii_digit b || (nat_le 97 b && nat_le b 102)
+
+abbrev pub begins_hex : Option ℕ → Bool
+begins_hex None = true
+begins_hex (Some b) = is_hex_digit b
+
+-- a line of a report may begin so: it has an address in hexadecimal, or one of these two words
+abbrev pub may_begin : List ℕ → Bool
+may_begin text = begins_hex (slice_get text 0) || (agree text (codes "pages ") || agree text (codes "thread "))

@@ -206,6 +206,17 @@ neither, where a thread trapped, or waits at its end. Lines of a report are
 Of the numbers --from on, --runs of them, the least is taken whose run is
 caught, whatever --jobs is.
 
+With --shrink the schedule of that run is made small: changes of thread are
+taken out as long as the run is still caught, so that few are left; without any
+one of the stretches of steps that are left the run is not caught. It is another
+run than the number draws, so keep its pieces apart from those of
+`wreplay record --random --run N`. With `--print schedule` the schedule is
+written in place of the pieces, as `wreplay record --schedule` takes it.
+
+With --threads each run is made by threads at once, as `wreplay record
+--threads` does: real threads meet where the machine pleases, and a number is
+then only that of the run whose pieces are written.
+
 With --list it catches none, and writes a line for each run: its number, and
 what each thread came to, as in
 
@@ -223,13 +234,17 @@ Refusals (exit status 1), the first of them in this order:
   refused 31 Empty                 --size is 0
   refused 32 TooMany               --size is above 4096
   refused 71 NotCaught             no run of these numbers is caught
+  refused 72 TooLong               with --shrink or `--print schedule`: the run
+                                   has more than 1,000,000 steps and time-outs
   refused 12 or 23 NoMemory        the runs or a text do not fit into memory
   refused 44 SourceFailed          a file can't be read
   refused 45 SinkFailed            writing failed; a beginning was written
 
 Example:
   wreplay hunt examples/lost.wasm examples/lost.plan \\
-      --unless '00000000 02' > pieces.txt";
+      --unless '00000000 02' > pieces.txt
+  wreplay hunt examples/lost.wasm examples/lost.plan \\
+      --unless '00000000 02' --shrink --print schedule > lost.schedule";
 
 /// What `replay` reads and writes.
 pub(crate) const REPLAY_ABOUT: &str = "\

@@ -6,12 +6,13 @@
 mod command;
 mod help;
 mod numbers;
+mod report_texts;
 mod requests;
 mod rows;
 mod wanted;
 
 pub use command::{Asked, requested};
 pub use requests::{
-    ByteRange, HuntRequest, RecordOrder, RecordRequest, ReplayRequest, Request, RunRange,
+    ByteRange, HuntForm, HuntRequest, RecordOrder, RecordRequest, ReplayRequest, Request, RunRange,
     ThreadCount, ViewRequest,
 };

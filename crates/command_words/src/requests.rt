@@ -42,8 +42,19 @@ pub struct RunRange {
     ghost fits: { from + count < 2 ^ 64 },
 }
 
-/// A hunt: the files of the module and the plan, which runs that numbers draw are looked at, what of their reports
-/// shows one that is caught, and how they are made and written.
+/// What a hunt writes.
+#[derive(Clone, Copy, Debug, PartialEq, Eq)]
+pub enum HuntForm {
+    /// The pieces of the run that is caught.
+    Pieces,
+    /// The schedule of the run that is caught.
+    Schedule,
+    /// A line for each run, and no run is caught.
+    List,
+}
+
+/// A hunt: the files of the module and the plan, which runs are looked at, what of their reports shows one that is
+/// caught, and how they are made and written.
 #[derive(Drop)]
 pub struct HuntRequest<'a> {
     pub module: &'a str,
@@ -63,8 +74,12 @@ pub struct HuntRequest<'a> {
     /// The most entries of a piece.
     pub size: u32,
     pub block: Block,
-    /// Whether a line for each run is wanted, and no run is caught.
-    pub list: bool,
+    /// Whether the runs are made by threads at once, one run after the other, in the place of those that numbers draw;
+    /// then waits that have a time-out time out at once, or never.
+    pub by_threads: bool,
+    /// Whether the schedule of the run that is caught is made small.
+    pub shrinks: bool,
+    pub form: HuntForm,
 }
 
 /// A replay: the files of the module, the plan and the piece lines, and the threads that take turns first.
@@ -120,7 +135,7 @@ pub enum Request<'a> {
     Check(&'a str),
     /// The pieces or the report of a recording.
     Record(RecordRequest<'a>),
-    /// The pieces of the first run that is caught, or a line for each run.
+    /// The pieces or the schedule of the first run that is caught, or a line for each run.
     Hunt(HuntRequest<'a>),
     /// The report of a replay, whose threads take turns, or replay at once, as threads of the system.
     Replay {

@@ -171,6 +171,11 @@ static OF_HUNT: &[ArgumentRow] = &[
         help: "How many runs at once, 1 to 256 [default: the processors]",
     },
     ArgumentRow {
+        name: "threads",
+        takes: Takes::Nothing,
+        help: "Make the runs by threads at once, one after the other",
+    },
+    ArgumentRow {
         name: "timeouts",
         takes: Takes::ValueOr("WHEN", "never"),
         help: "When waits time out, never or now",
@@ -178,6 +183,16 @@ static OF_HUNT: &[ArgumentRow] = &[
     STEPS,
     SIZE,
     BLOCK,
+    ArgumentRow {
+        name: "shrink",
+        takes: Takes::Nothing,
+        help: "Make the schedule of the caught run small",
+    },
+    ArgumentRow {
+        name: "print",
+        takes: Takes::ValueOr("WHAT", "pieces"),
+        help: "Write the pieces or the schedule of the caught run",
+    },
     ArgumentRow {
         name: "list",
         takes: Takes::Nothing,

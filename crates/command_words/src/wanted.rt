@@ -3,19 +3,22 @@
 ghost use Rattle.std.specs.Prelude.{◌≡◌, ℕ, Bool, Option, codes, map, Some, None, IfOk, OnErr, IfSome, IfNone, option_map};
 ghost use Rattle.clap.specs.Words.{Row, rows_of, first_of};
 ghost use Rattle.clap.specs.Matches.{found_of};
-ghost use Rattle.command_words.specs.Asked.{IsAsked, IsOrderAsked, IsRecordAsked, IsHuntAsked, IsRangeOfRuns, IsJobsAsked, IsReplayAsked, IsTurnsAsked, IsViewAsked, IsCountAsked, IsRangeAsked, IsBlockOf, order_of, is_text, number_of, pair_of_option, texts_of};
+ghost use Rattle.command_words.specs.Asked.{IsAsked, AreSizesAsked, IsByThreadsAsked, IsFormAsked, IsOrderAsked, IsRecordAsked, IsHuntAsked, IsRangeOfRuns, IsJobsAsked, IsReplayAsked, IsTurnsAsked, IsViewAsked, IsCountAsked, IsRangeAsked, IsBlockOf, order_of, is_text, number_of, pair_of_option, texts_of};
 ghost use Rattle.command_words.specs.declared.requests.Request.{Request};
 ghost use Rattle.command_words.specs.declared.requests.RecordOrder.{RecordOrder};
 ghost use Rattle.command_words.specs.declared.requests.RecordRequest.{RecordRequest};
+ghost use Rattle.command_words.specs.declared.requests.HuntForm.{HuntForm};
 ghost use Rattle.command_words.specs.declared.requests.HuntRequest.{HuntRequest};
 ghost use Rattle.command_words.specs.declared.requests.ReplayRequest.{ReplayRequest};
 ghost use Rattle.command_words.specs.declared.requests.ThreadCount.{ThreadCount};
 ghost use Rattle.command_words.specs.declared.requests.ByteRange.{ByteRange};
 ghost use Rattle.command_words.specs.declared.requests.ViewRequest.{ViewRequest};
+ghost use Rattle.command_words.specs.declared.wanted.Sizes.{Sizes};
 
 use crate::numbers::{number_up_to, order_in, pair_in, small_number_up_to};
+use crate::report_texts::may_begin_all;
 use crate::requests::{
-    ByteRange, HuntRequest, RecordOrder, RecordRequest, ReplayRequest, Request, RunRange,
+    ByteRange, HuntForm, HuntRequest, RecordOrder, RecordRequest, ReplayRequest, Request, RunRange,
     ThreadCount, ViewRequest,
 };
 use clap::ArgMatches;
@@ -49,6 +52,19 @@ const BAD_RANGE: &str =
     "error: '--from <N>' and '--runs <N>' come to more than 18446744073709551615\n";
 
 const BAD_JOBS: &str = "error: '--jobs <N>' takes a number from 1 to 256\n";
+
+/// What is said of a text with which no line of a report begins.
+const BAD_TEXT: &str =
+    "error: '--until <TEXT>' and '--unless <TEXT>' take the beginning of a line of a report, as 'thread 0 trap'\n";
+
+const BAD_PRINT: &str = "error: '--print <WHAT>' takes pieces or schedule\n";
+
+/// What is said where a list is wanted and a run that is caught.
+const BAD_LIST: &str = "error: 'hunt' takes '--list' without '--shrink' and '--print schedule'\n";
+
+/// What is said where runs by threads are wanted and what goes with numbers alone.
+const BAD_THREADS: &str =
+    "error: 'hunt' takes '--threads' without '--jobs', '--shrink', '--print schedule' and '--list'\n";
 
 const BAD_ORDER: &str =
     "error: '--order <LIST>' takes 1 to 1000000 thread numbers, joined by commas\n";
@@ -133,6 +149,40 @@ fn record_order<'a>(matches: &ArgMatches<'a>) -> Option<RecordOrder<'a>>
     }
 }
 
+/// How long runs are, how their logs are cut, and when waits time out.
+#[derive(Clone, Copy)]
+struct Sizes {
+    times_out: bool,
+    steps: u32,
+    size: u32,
+    block: Block,
+}
+
+/// The sizes that the values of `record` or `hunt` have.
+fn sizes_of(matches: &ArgMatches<'_>) -> Wanted<Sizes>
+    ensures asked { IfOk result (AreSizesAsked (rows_of (found_of matches.now))) }
+    ensures none { OnErr result ((s : Sizes) → AreSizesAsked (rows_of (found_of matches.now)) s → ⊥) }
+{
+    let Some(steps) = small_number(matches, "steps", MOST_STEPS) else {
+        return Err(BAD_STEPS);
+    };
+    let Some(size) = small_number(matches, "size", u32::MAX) else {
+        return Err(BAD_SIZE);
+    };
+    let Some(block) = block(matches) else {
+        return Err(BAD_BLOCK);
+    };
+    if !has_text(matches, "timeouts", "never") && !has_text(matches, "timeouts", "now") {
+        return Err(BAD_TIMEOUTS);
+    }
+    Ok(Sizes {
+        times_out: has_text(matches, "timeouts", "now"),
+        steps,
+        size,
+        block,
+    })
+}
+
 /// The recording that the values of `record` ask for.
 fn recording_of<'a>(matches: &ArgMatches<'a>) -> Wanted<RecordRequest<'a>>
     ensures asked { IfOk result (IsRecordAsked (rows_of (found_of matches.now))) }
@@ -150,28 +200,19 @@ fn recording_of<'a>(matches: &ArgMatches<'a>) -> Wanted<RecordRequest<'a>>
     let Some(run) = number(matches, "run", u64::MAX) else {
         return Err(BAD_RUN);
     };
-    let Some(steps) = small_number(matches, "steps", MOST_STEPS) else {
-        return Err(BAD_STEPS);
+    let sizes = match sizes_of(matches) {
+        Ok(sizes) => sizes,
+        Err(wrong) => return Err(wrong),
     };
-    let Some(size) = small_number(matches, "size", u32::MAX) else {
-        return Err(BAD_SIZE);
-    };
-    let Some(block) = block(matches) else {
-        return Err(BAD_BLOCK);
-    };
-    if !has_text(matches, "timeouts", "never") && !has_text(matches, "timeouts", "now") {
-        return Err(BAD_TIMEOUTS);
-    }
-    let report = has_text(matches, "report", "true");
     Ok(RecordRequest {
         module,
         plan,
         order,
         run,
-        steps,
-        size,
-        block,
-        report,
+        steps: sizes.steps,
+        size: sizes.size,
+        block: sizes.block,
+        report: has_text(matches, "report", "true"),
     })
 }
 
@@ -220,6 +261,40 @@ fn jobs(matches: &ArgMatches<'_>) -> Option<Option<u32>>
     }
 }
 
+/// What a hunt writes, and whether it makes a schedule small.
+fn hunt_form(matches: &ArgMatches<'_>) -> Wanted<(HuntForm, bool)>
+    ensures asked { IfOk result (λ w. IsFormAsked (rows_of (found_of matches.now)) w.0 w.1) }
+    ensures none { OnErr result ((form : HuntForm) (shrinks : Bool) → IsFormAsked (rows_of (found_of matches.now)) form shrinks → ⊥) }
+{
+    let lists = has_text(matches, "list", "true");
+    let shrinks = has_text(matches, "shrink", "true");
+    let pieces = has_text(matches, "print", "pieces");
+    let schedule = has_text(matches, "print", "schedule");
+    match (lists, shrinks, pieces, schedule) {
+        (true, false, true, _) => Ok((HuntForm::List, false)),
+        (true, _, _, _) => Err(BAD_LIST),
+        (false, _, true, _) => Ok((HuntForm::Pieces, shrinks)),
+        (false, _, false, true) => Ok((HuntForm::Schedule, shrinks)),
+        (false, _, false, false) => Err(BAD_PRINT),
+    }
+}
+
+/// Whether runs are made by threads; None where that is asked for with what goes with numbers alone.
+fn by_threads_of(matches: &ArgMatches<'_>) -> Option<bool>
+    ensures asked { IfSome result (IsByThreadsAsked (rows_of (found_of matches.now))) }
+    ensures none { IfNone result ((by_threads : Bool) → IsByThreadsAsked (rows_of (found_of matches.now)) by_threads → ⊥) }
+{
+    let threads = has_text(matches, "threads", "true");
+    let lists = has_text(matches, "list", "true");
+    let shrinks = has_text(matches, "shrink", "true");
+    let pieces = has_text(matches, "print", "pieces");
+    match (threads, value(matches, "jobs"), lists, shrinks, pieces) {
+        (false, _, _, _, _) => Some(false),
+        (true, None, false, false, true) => Some(true),
+        _ => None,
+    }
+}
+
 /// The hunt for runs whose reports have these texts that the values of `hunt` ask for.
 fn hunt_of<'a>(
     matches: &ArgMatches<'a>,
@@ -237,6 +312,12 @@ fn hunt_of<'a>(
     let Some(plan) = value(matches, "PLAN") else {
         return Err(MISSING);
     };
+    if !may_begin_all(&until, &unless) {
+        return Err(BAD_TEXT);
+    }
+    let Some(by_threads) = by_threads_of(matches) else {
+        return Err(BAD_THREADS);
+    };
     let range = match range_of_runs(matches) {
         Ok(range) => range,
         Err(wrong) => return Err(wrong),
@@ -244,17 +325,13 @@ fn hunt_of<'a>(
     let Some(jobs) = jobs(matches) else {
         return Err(BAD_JOBS);
     };
-    if !has_text(matches, "timeouts", "never") && !has_text(matches, "timeouts", "now") {
-        return Err(BAD_TIMEOUTS);
-    }
-    let Some(steps) = small_number(matches, "steps", MOST_STEPS) else {
-        return Err(BAD_STEPS);
+    let sizes = match sizes_of(matches) {
+        Ok(sizes) => sizes,
+        Err(wrong) => return Err(wrong),
     };
-    let Some(size) = small_number(matches, "size", u32::MAX) else {
-        return Err(BAD_SIZE);
-    };
-    let Some(block) = block(matches) else {
-        return Err(BAD_BLOCK);
+    let (form, shrinks) = match hunt_form(matches) {
+        Ok(wanted) => wanted,
+        Err(wrong) => return Err(wrong),
     };
     Ok(HuntRequest {
         module,
@@ -263,11 +340,13 @@ fn hunt_of<'a>(
         unless,
         range,
         jobs,
-        times_out: has_text(matches, "timeouts", "now"),
-        steps,
-        size,
-        block,
-        list: has_text(matches, "list", "true"),
+        times_out: sizes.times_out,
+        steps: sizes.steps,
+        size: sizes.size,
+        block: sizes.block,
+        by_threads,
+        shrinks,
+        form,
     })
 }
 

@@ -5,3 +5,5 @@ pub mod Beginnings
 pub mod Ends
 pub mod Viewed
 pub mod Least
+pub mod Rest
+pub mod Forms

@@ -39,6 +39,8 @@ pub enum Fault {
     View(ViewFault),
     /// Refusal 71: none of the runs is caught.
     NotCaught,
+    /// Refusal 72: the run that is caught has more than 1,000,000 picks, and so no schedule.
+    TooLong,
     /// Refusal 23: memory for the command line or for a text could not be had.
     NoMemory,
     /// Refusal 45: writing failed, after a beginning was written.

@@ -1,20 +1,24 @@
 //! Hunts: many runs that numbers draw, of which the first is wanted that is caught.
 
-ghost use Rattle.std.specs.Prelude.{◌≡◌, ◌<◌, ◌≤◌, true, false, IfOk, IfErr, Some};
+ghost use Rattle.std.specs.Prelude.{◌≡◌, ◌<◌, ◌≤◌, true, false, IfOk, IfErr, IfSome, IfNone, Some};
 ghost use Rattle.thread_plan.specs.Plans.{IsPlanOf};
 ghost use Rattle.commands.specs.Least.{IsLeastCaught};
-ghost use Rattle.commands.specs.Hunts.{Comes, IsCaughtAnswer, IsHuntedBy, IsHuntRefusal, IsHuntAnswer, IsHuntRefused, caught_text};
+ghost use Rattle.pick_schedule.specs.Printing.{AreOfThreads};
+ghost use Rattle.command_words.specs.declared.requests.HuntForm.TheVariants.{List};
+ghost use Rattle.commands.specs.Hunts.{Comes, HasNoSchedule, IsCaughtAnswer, IsFoundSchedule, IsHunted, IsHuntedBy, IsHuntRefusal, IsHuntAnswer, IsHuntRefused, IsScheduleAnswer, IsThreadsAnswer, is_as_drawn, lists, prints};
 
 use crate::fault::Fault;
 use crate::files::Files;
+use crate::hunt_answers::{caught_lines, told_of};
+use crate::hunt_schedules::found_schedule;
 use crate::hunt_surveys::{DrawnRuns, LeastCaught, RunLines};
 use crate::program::{Program, read_program};
 use crate::record_answer::RecordAnswer;
 use crate::record_command::check_size;
-use crate::signs::{put_signs, signs_of};
-use command_words::HuntRequest;
-use debug_views::report;
+use crate::thread_runs::first_by_threads;
+use command_words::{HuntForm, HuntRequest};
 use log::Log;
+use pick_schedule::Schedule;
 use std::alloc::Global;
 use std::sync::Wait;
 use std::thread::{Threads, available_parallelism};
@@ -34,21 +38,27 @@ fn jobs_of<T: Threads>(threads: &T, jobs: Option<u32>) -> usize
     }
 }
 
-/// What is told of a run that is caught.
-fn caught_text(
-    alloc: Global,
-    request: &HuntRequest<'_>,
-    number: u64,
-    report: &[u8],
-) -> Result<Vec<u8>, NoMemory>
-    ensures { IfOk result (λ text. text.items ≡ caught_text request.now number report.now) }
+/// Whether the pieces of the run that is caught are wanted, as its number draws it.
+fn is_as_drawn(request: &HuntRequest<'_>) -> bool
+    ensures { result ≡ is_as_drawn request.now.form request.now.shrinks }
 {
-    let mut text = format!(in alloc; "caught {number}\n")?.into_bytes();
-    put_signs(&mut text, signs_of(request), report)?;
-    Ok(text)
+    match request.form {
+        HuntForm::Pieces => !request.shrinks,
+        HuntForm::Schedule | HuntForm::List => false,
+    }
 }
 
-/// The run of a number that is caught, to be written.
+/// Whether the schedule of the run that is caught is wanted.
+fn prints(request: &HuntRequest<'_>) -> bool
+    ensures { result ≡ prints request.now.form }
+{
+    match request.form {
+        HuntForm::Schedule => true,
+        HuntForm::Pieces | HuntForm::List => false,
+    }
+}
+
+/// The pieces of the run of a number that is caught, to be written.
 fn caught_answer<R: Wait>(runs: &DrawnRuns<'_, R>, number: u64) -> Result<RecordAnswer, NoMemory>
     requires suits { IsPlanOf runs.now.program.now.valid runs.now.program.now.plan }
     requires some { 0 < runs.now.request.now.size }
@@ -56,11 +66,73 @@ fn caught_answer<R: Wait>(runs: &DrawnRuns<'_, R>, number: u64) -> Result<Record
     requires least { IsLeastCaught (Comes runs.now.program.now.valid runs.now.program.now.plan runs.now.request.now) runs.now.request.now.range.from runs.now.request.now.range.count (Some number) }
     ensures { IfOk result (IsCaughtAnswer runs.now.program.now.valid runs.now.program.now.plan runs.now.request.now) }
 {
-    let alloc = runs.alloc;
     let recording = runs.recording(number)?;
-    let report = report(alloc, recording.recorded().end())?;
-    let told = caught_text(alloc, runs.request, number, report.as_bytes())?;
-    RecordAnswer::of_lines(alloc, recording, runs.request.size, told)
+    caught_lines(runs.alloc, runs.request, number, recording)
+}
+
+/// The schedule of a run that is caught, or its pieces, to be written.
+fn answer_by<R: Wait>(
+    runs: &DrawnRuns<'_, R>,
+    number: u64,
+    picks: &Schedule,
+) -> Result<RecordAnswer, NoMemory>
+    requires suits { IsPlanOf runs.now.program.now.valid runs.now.program.now.plan }
+    requires some { 0 < runs.now.request.now.size }
+    requires few { runs.now.request.now.size ≤ 4096 }
+    requires least { IsLeastCaught (Comes runs.now.program.now.valid runs.now.program.now.plan runs.now.request.now) runs.now.request.now.range.from runs.now.request.now.range.count (Some number) }
+    requires found { IsFoundSchedule runs.now.program.now.valid runs.now.program.now.plan runs.now.request.now runs.now.request.now.shrinks number picks.now }
+    requires of_threads { AreOfThreads picks.now }
+    ensures { IfOk result (IsScheduleAnswer runs.now.program.now.valid runs.now.program.now.plan runs.now.request.now) }
+{
+    let alloc = runs.alloc;
+    let recording = runs.recording_by(picks, number)?;
+    if prints(runs.request) {
+        let told = told_of(alloc, runs.request, number, &recording)?;
+        let text = picks.text(alloc)?;
+        return Ok(RecordAnswer::of_text(text.into_bytes(), told));
+    }
+    caught_lines(alloc, runs.request, number, recording)
+}
+
+/// The run of a number that is caught, by its schedule; None where it has none.
+fn schedule_answer<R: Wait>(
+    runs: &DrawnRuns<'_, R>,
+    number: u64,
+) -> Result<Option<RecordAnswer>, NoMemory>
+    requires suits { IsPlanOf runs.now.program.now.valid runs.now.program.now.plan }
+    requires some { 0 < runs.now.request.now.size }
+    requires few { runs.now.request.now.size ≤ 4096 }
+    requires least { IsLeastCaught (Comes runs.now.program.now.valid runs.now.program.now.plan runs.now.request.now) runs.now.request.now.range.from runs.now.request.now.range.count (Some number) }
+    ensures answer { IfOk result (λ answer. IfSome answer (IsScheduleAnswer runs.now.program.now.valid runs.now.program.now.plan runs.now.request.now)) }
+    ensures none { IfOk result (λ answer. IfNone answer (HasNoSchedule runs.now.program.now.valid runs.now.program.now.plan runs.now.request.now number)) }
+{
+    let Some(picks) = found_schedule(runs, number)? else {
+        return Ok(None);
+    };
+    Ok(Some(answer_by(runs, number, &picks)?))
+}
+
+/// The run of a number that is caught, as it is to be written.
+fn found_answer<R: Wait>(runs: &DrawnRuns<'_, R>, number: u64) -> Result<RecordAnswer, Fault>
+    requires suits { IsPlanOf runs.now.program.now.valid runs.now.program.now.plan }
+    requires some { 0 < runs.now.request.now.size }
+    requires few { runs.now.request.now.size ≤ 4096 }
+    requires catches { lists runs.now.request.now.form ≡ false }
+    requires least { IsLeastCaught (Comes runs.now.program.now.valid runs.now.program.now.plan runs.now.request.now) runs.now.request.now.range.from runs.now.request.now.range.count (Some number) }
+    ensures found { IfOk result (IsHuntedBy runs.now.program.now.valid runs.now.program.now.plan runs.now.request.now runs.now.request.now.form runs.now.request.now.shrinks) }
+    ensures refused { IfErr result (IsHuntRefusal runs.now.program.now.valid runs.now.program.now.plan runs.now.request.now) }
+{
+    if is_as_drawn(runs.request) {
+        return match caught_answer(runs, number) {
+            Ok(answer) => Ok(answer),
+            Err(NoMemory) => Err(Fault::NoMemory),
+        };
+    }
+    match schedule_answer(runs, number) {
+        Ok(Some(answer)) => Ok(answer),
+        Ok(None) => Err(Fault::TooLong),
+        Err(NoMemory) => Err(Fault::NoMemory),
+    }
 }
 
 /// A line for each run.
@@ -71,7 +143,7 @@ fn listed<T: Threads + Wait + Sync>(
 ) -> Result<RecordAnswer, NoMemory>
     requires suits { IsPlanOf runs.program.now.valid runs.program.now.plan }
     requires jobs { 0 < jobs }
-    ensures { IfOk result (IsHuntedBy runs.entry.program.now.valid runs.entry.program.now.plan runs.entry.request.now true) }
+    ensures { IfOk result (IsHuntedBy runs.entry.program.now.valid runs.entry.program.now.plan runs.entry.request.now List runs.entry.request.now.shrinks) }
 {
     let alloc = runs.alloc;
     let range = runs.request.range;
@@ -90,8 +162,9 @@ fn caught<T: Threads + Wait + Sync>(
     requires some { 0 < runs.request.now.size }
     requires few { runs.request.now.size ≤ 4096 }
     requires jobs { 0 < jobs }
-    requires catches { runs.request.now.list ≡ false }
-    ensures found { IfOk result (IsHuntedBy runs.entry.program.now.valid runs.entry.program.now.plan runs.entry.request.now false) }
+    requires catches { lists runs.request.now.form ≡ false }
+    requires by_numbers { runs.request.now.by_threads ≡ false }
+    ensures found { IfOk result (IsHuntedBy runs.entry.program.now.valid runs.entry.program.now.plan runs.entry.request.now runs.entry.request.now.form runs.entry.request.now.shrinks) }
     ensures refused { IfErr result (IsHuntRefusal runs.entry.program.now.valid runs.entry.program.now.plan runs.entry.request.now) }
 {
     let range = runs.request.range;
@@ -104,12 +177,64 @@ fn caught<T: Threads + Wait + Sync>(
         range.count,
         jobs,
     ) {
-        Ok(Some(number)) => match caught_answer(&least.runs, number) {
+        Ok(Some(number)) => found_answer(&least.runs, number),
+        Ok(None) => Err(Fault::NotCaught),
+        Err(NoMemory) => Err(Fault::NoMemory),
+    }
+}
+
+/// The first run by threads that is caught.
+fn hunted_by_threads<T: Threads + Wait + Sync>(
+    threads: &T,
+    alloc: Global,
+    program: &Program,
+    request: &HuntRequest<'_>,
+) -> Result<RecordAnswer, Fault>
+    requires suits { IsPlanOf program.now.valid program.now.plan }
+    requires some { 0 < request.now.size }
+    requires few { request.now.size ≤ 4096 }
+    requires by_threads { request.now.by_threads ≡ true }
+    ensures found { IfOk result (IsThreadsAnswer program.now.valid program.now.plan request.now) }
+    ensures refused { IfErr result (IsHuntRefusal program.now.valid program.now.plan request.now) }
+{
+    let found = match first_by_threads(threads, alloc, program, request) {
+        Ok(Some(found)) => found,
+        Ok(None) => return Err(Fault::NotCaught),
+        Err(NoMemory) => return Err(Fault::NoMemory),
+    };
+    match caught_lines(alloc, request, found.number, found.recording) {
+        Ok(answer) => Ok(answer),
+        Err(NoMemory) => Err(Fault::NoMemory),
+    }
+}
+
+/// What is found of the runs that numbers draw of a program.
+fn hunted_at_random<T: Threads + Wait + Sync>(
+    threads: &T,
+    alloc: Global,
+    program: &Program,
+    request: &HuntRequest<'_>,
+) -> Result<RecordAnswer, Fault>
+    requires suits { IsPlanOf program.now.valid program.now.plan }
+    requires some { 0 < request.now.size }
+    requires few { request.now.size ≤ 4096 }
+    requires by_numbers { request.now.by_threads ≡ false }
+    ensures found { IfOk result (IsHuntedBy program.now.valid program.now.plan request.now request.now.form request.now.shrinks) }
+    ensures refused { IfErr result (IsHuntRefusal program.now.valid program.now.plan request.now) }
+{
+    let jobs = jobs_of(threads, request.jobs);
+    let runs = DrawnRuns {
+        rt: threads,
+        alloc,
+        program,
+        request,
+    };
+    match request.form {
+        HuntForm::Pieces | HuntForm::Schedule => caught(threads, runs, jobs),
+        HuntForm::List => match listed(threads, runs, jobs) {
             Ok(answer) => Ok(answer),
             Err(NoMemory) => Err(Fault::NoMemory),
         },
-        Ok(None) => Err(Fault::NotCaught),
-        Err(NoMemory) => Err(Fault::NoMemory),
     }
 }
 
@@ -121,30 +246,21 @@ fn hunted<T: Threads + Wait + Sync>(
     request: &HuntRequest<'_>,
 ) -> Result<RecordAnswer, Fault>
     requires { IsPlanOf program.now.valid program.now.plan }
-    ensures hunted { IfOk result (IsHuntedBy program.now.valid program.now.plan request.now request.now.list) }
+    ensures hunted { IfOk result (IsHunted program.now.valid program.now.plan request.now request.now.by_threads) }
     ensures refused { IfErr result (IsHuntRefusal program.now.valid program.now.plan request.now) }
 {
     if let Err(fault) = check_size(request.size) {
         return Err(Fault::Pieces(fault));
     }
-    let jobs = jobs_of(threads, request.jobs);
-    let runs = DrawnRuns {
-        rt: threads,
-        alloc,
-        program,
-        request,
-    };
-    if !request.list {
-        return caught(threads, runs, jobs);
-    }
-    match listed(threads, runs, jobs) {
-        Ok(answer) => Ok(answer),
-        Err(NoMemory) => Err(Fault::NoMemory),
+    if request.by_threads {
+        hunted_by_threads(threads, alloc, program, request)
+    } else {
+        hunted_at_random(threads, alloc, program, request)
     }
 }
 
-/// What is found of many runs that numbers draw: the lines of the pieces of the first that is caught, or a line for
-/// each. The module is read and judged, then the plan, then the size of the pieces.
+/// What is found of many runs: the pieces or the schedule of the first that is caught, or a line for each. The module is
+/// read and judged, then the plan, then the size of the pieces.
 pub fn hunt<L: Log, T: Threads + Wait + Sync, F: Files>(
     rt: &L,
     threads: &T,

@@ -1,20 +1,21 @@
 //! What is found of the runs that numbers draw.
 
-ghost use Rattle.std.specs.Prelude.{◌≡◌, ◌++◌, IfOk, OnOk, codes, flat_map, string_bytes};
+ghost use Rattle.std.specs.Prelude.{◌≡◌, ◌++◌, IfOk, IfSome, IfNone, OnOk, codes, flat_map, string_bytes};
 ghost use Rattle.wasm_types.specs.Text.{outcome_text};
 ghost use Rattle.thread_plan.specs.Plans.{IsPlanOf};
 ghost use Rattle.wasm_types.specs.declared.key.Profile.TheVariants.{Two};
 ghost use Rattle.wasm_record.specs.Recordings.{IsKeyOf};
-ghost use Rattle.commands.specs.Hunts.{Comes, IsRunOfNumber, outcomes_text, run_line};
+ghost use Rattle.pick_schedule.specs.Printing.{AreOfThreads};
+ghost use Rattle.commands.specs.Hunts.{Comes, HasNoSchedule, IsRunOfNumber, IsRunOfPicks, IsScheduleOfNumber, outcomes_text, run_line};
 
+use crate::hunt_answers::judge;
 use crate::program::Program;
-use crate::signs::is_caught;
 use command_words::HuntRequest;
-use debug_views::report;
+use pick_schedule::Schedule;
 use std::alloc::Global;
 use std::fmt::Write;
 use std::sync::Wait;
-use wasm_record::{RandomRun, Recording, Survey, record_drawn};
+use wasm_record::{RandomRun, Recording, Survey, drawn_schedule, record_drawn, record_schedule};
 use wasm_types::{NoMemory, Outcome};
 
 /// The runs that numbers draw of a program.
@@ -42,14 +43,40 @@ impl<'a, R: Wait> DrawnRuns<'a, R> {
         record_drawn(self.rt, self.alloc, valid, plan, self.request.block, run)
     }
 
+    /// The schedule of the run of a number, if there is a schedule of so many picks.
+    pub(crate) fn schedule(&self, number: u64) -> Result<Option<Schedule>, NoMemory>
+        requires { IsPlanOf self.now.program.now.valid self.now.program.now.plan }
+        ensures drawn { IfOk result (λ schedule. IfSome schedule (IsScheduleOfNumber self.now.program.now.valid self.now.program.now.plan self.now.request.now number)) }
+        ensures of_threads { IfOk result (λ schedule. IfSome schedule AreOfThreads) }
+        ensures none { IfOk result (λ schedule. IfNone schedule (HasNoSchedule self.now.program.now.valid self.now.program.now.plan self.now.request.now number)) }
+    {
+        let run = RandomRun {
+            number,
+            timeouts: self.request.times_out,
+            steps: self.request.steps,
+        };
+        let Program { valid, plan } = self.program;
+        drawn_schedule(self.rt, self.alloc, valid, plan, self.request.block, run)
+    }
+
+    /// The run by a schedule, under a number.
+    pub(crate) fn recording_by(&self, picks: &Schedule, number: u64) -> Result<Recording, NoMemory>
+        requires { IsPlanOf self.now.program.now.valid self.now.program.now.plan }
+        ensures key { IfOk result (λ r. IsKeyOf self.now.program.now.valid self.now.program.now.plan number (Two self.now.request.now.block) r.key) }
+        ensures is_run { IfOk result (λ r. IsRunOfPicks self.now.program.now.valid self.now.program.now.plan self.now.request.now picks.now r.recorded) }
+    {
+        let HuntRequest { block, steps, .. } = *self.request;
+        let Program { valid, plan } = self.program;
+        record_schedule(self.alloc, valid, plan, number, block, picks, steps)
+    }
+
     /// Whether the run of a number is caught.
     fn comes(&self, number: u64) -> Result<bool, NoMemory>
         requires { IsPlanOf self.now.program.now.valid self.now.program.now.plan }
         ensures { IfOk result (Comes self.now.program.now.valid self.now.program.now.plan self.now.request.now number) }
     {
         let recording = self.recording(number)?;
-        let report = report(self.alloc, recording.recorded().end())?;
-        Ok(is_caught(self.request, report.as_bytes()))
+        judge(self.alloc, self.request, &recording)
     }
 }
 

@@ -9,7 +9,9 @@ mod check_command;
 mod fault;
 mod files;
 mod gathered;
+mod hunt_answers;
 mod hunt_command;
+mod hunt_schedules;
 mod hunt_surveys;
 mod memory;
 mod program;
@@ -21,6 +23,7 @@ mod schedule_file;
 mod signs;
 mod stopped;
 mod texts;
+mod thread_runs;
 mod view_command;
 
 pub use check_command::check;

@@ -14,6 +14,7 @@ use crate::program::{Program, read_program};
 use crate::record_answer::RecordAnswer;
 use crate::schedule_file::read_schedule;
 use crate::stopped::stopped_line;
+use crate::thread_runs::recording_by_threads;
 use command_words::{RecordOrder, RecordRequest};
 use debug_views::report;
 use log::Log;
@@ -22,10 +23,7 @@ use replica::MOST_ENTRIES;
 use std::alloc::Global;
 use std::sync::Wait;
 use std::thread::Threads;
-use wasm_record::{
-    AtOnce, Never, PiecesFault, RandomRun, Recording, Unkept, record_drawn, record_schedule,
-    record_threads,
-};
+use wasm_record::{PiecesFault, RandomRun, Recording, record_drawn, record_schedule};
 use wasm_types::NoMemory;
 
 /// Whether pieces of so many entries can be.
@@ -87,36 +85,6 @@ fn record_picks(
     }
 }
 
-/// The recording of a run of threads at once, with a timer that always or never says that a time is over.
-fn recording_by_threads<T: Threads + Wait + Sync>(
-    threads: &T,
-    alloc: Global,
-    program: &Program,
-    times_out: bool,
-    request: &RecordRequest<'_>,
-) -> Result<Recording, NoMemory>
-    requires { IsPlanOf program.now.valid program.now.plan }
-    ensures key { IfOk result (λ r. IsKeyOf program.now.valid program.now.plan request.now.run (Two request.now.block) r.key) }
-    ensures records { IfOk result (λ r. IsRunOfThreads program.now.valid program.now.plan request.now times_out r.recorded) }
-{
-    let Program { valid, plan } = program;
-    let RecordRequest {
-        run,
-        block,
-        steps,
-        ..
-    } = *request;
-    if times_out {
-        record_threads(
-            threads, alloc, valid, plan, run, block, steps, &AtOnce, &Unkept,
-        )
-    } else {
-        record_threads(
-            threads, alloc, valid, plan, run, block, steps, &Never, &Unkept,
-        )
-    }
-}
-
 /// What a run of threads at once came to. The size of the pieces is judged before.
 fn record_by_threads<T: Threads + Wait + Sync>(
     threads: &T,
@@ -132,7 +100,13 @@ fn record_by_threads<T: Threads + Wait + Sync>(
     if let Err(fault) = check_size(request.size) {
         return Err(Fault::Pieces(fault));
     }
-    match recording_by_threads(threads, alloc, program, times_out, request) {
+    let RecordRequest {
+        run,
+        block,
+        steps,
+        ..
+    } = *request;
+    match recording_by_threads(threads, alloc, program, times_out, run, block, steps) {
         Ok(recording) => answered(alloc, recording, request),
         Err(NoMemory) => Err(Fault::NoMemory),
     }

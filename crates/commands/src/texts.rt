@@ -217,6 +217,7 @@ impl Fault {
             Fault::Replay(refused) => text_of_refusal(&refused.fault),
             Fault::View(fault) => text_of_view(fault),
             Fault::NotCaught => plain("refused 71 NotCaught"),
+            Fault::TooLong => plain("refused 72 TooLong"),
             Fault::NoMemory => plain("refused 23 NoMemory"),
             Fault::SinkFailed => plain("refused 45 SinkFailed"),
         }

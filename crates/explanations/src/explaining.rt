@@ -125,6 +125,7 @@ fn place_of<'a>(request: &Request<'a>, fault: &Fault) -> FilePlace<'a>
         Fault::Replay(refused) => in_log(pieces_path(request), &refused.fault),
         Fault::View(_) => FilePlace::Whole("--from and --len"),
         Fault::NotCaught => FilePlace::Whole("--from and --runs"),
+        Fault::TooLong => FilePlace::Whole("--shrink and --print"),
         Fault::NoMemory => FilePlace::Whole("memory"),
         Fault::SinkFailed => FilePlace::Whole("standard output"),
     }

@@ -101,6 +101,10 @@ pub(crate) fn reason_of<F: Files>(
             alloc,
             "the report of none of these runs is one that is caught",
         ),
+        Fault::TooLong => words(
+            alloc,
+            "the run that is caught has more than 1,000,000 picks, the most of a schedule",
+        ),
         Fault::NoMemory => words(alloc, "memory for the answer could not be had"),
         Fault::SinkFailed => words(alloc, "writing failed, after a beginning was written"),
     }
