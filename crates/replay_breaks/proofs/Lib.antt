@@ -2,6 +2,7 @@ pub mod Marking
 pub mod Testing
 pub mod Ending
 pub mod Taking
+pub mod Noting
 pub mod Rounds
 pub mod Recorded
 pub mod LocalRounds

@@ -37,6 +37,8 @@ use Rattle.replay_breaks.specs.declared.breaks.Break.TheVariants as break
 use Rattle.replay_breaks.specs.Breaks.{is_event, Hits}
 use Rattle.replay_breaks.specs.Clear.{IsClear, AreClear}
 use Rattle.replay_breaks.specs.Stops.{GoesOn, IsBehind}
+use Rattle.replay_breaks.specs.Notes.{note_by, note_of_turn, notes}
+use Rattle.replay_breaks.proofs.Noting.{rests_note, quiet_note}
 use Rattle.replay_breaks.proofs.Rounds.{at_length, turn_on}
 
 -- ---- lists
@@ -244,6 +246,7 @@ module _ {State Op Reply Value Fixed : Type 0} (space : Space Op Reply Value Fix
         pub goes_on : GoesOn (turn_of space code log u j)
         pub mid : IsMid r (suc j) (world_after_turn space code u j (turn_of space code log u j))
         pub none : (b : Break) → IsClear code w k b → Hits space code log u j b → ⊥
+        pub quiet : (note : WorldAt State Value Fixed → ℕ → WorldAt State Value Fixed → List ℕ) → note_of_turn space code note log u j ≡ []
 
       -- the thread makes a local step
       module _ (r j : ℕ) (u : WorldAt State Value Fixed) (m : IsMid r j u) (less : r < k) (th z a : ThreadAt State) (e : slice_get w.threads j ≡ Some th) (f : slice_get v.threads j ≡ Some z) (h : slice_get u.threads j ≡ Some a)
@@ -316,6 +319,7 @@ module _ {State Op Reply Value Fixed : Type 0} (space : Space Op Reply Value Fix
                     (λ d. sym (get_other (thread_after_local code) u.threads j t d) ∙ h');
               });
           none = none_holds;
+          quiet = λ note. ap (note_by space code note u j) turns_locally;
         }
 
       -- the thread rests
@@ -339,6 +343,7 @@ module _ {State Op Reply Value Fixed : Type 0} (space : Space Op Reply Value Fix
                       (λ d. h');
                 });
             none = λ b clear hits. let x = hits.step in let y = rests_still (turn_of space code log u j) still in cc;
+            quiet = λ note. rests_note space code note u j (turn_of space code log u j) still;
           }
 
       turn_mid : (r j : ℕ) (u : WorldAt State Value Fixed) → IsMid r j u → r < k → j < length w.threads → TurnOn r j u
@@ -361,6 +366,8 @@ module _ {State Op Reply Value Fixed : Type 0} (space : Space Op Reply Value Fix
           pub world : WorldAt State Value Fixed
           pub mid : IsMid r j world
           pub behind : IsBehind space code log start order breaks (length order + ((first + r) * n + j)) world
+          pub quiet : (note : WorldAt State Value Fixed → ℕ → WorldAt State Value Fixed → List ℕ)
+              → notes space code note log start order (length order + ((first + r) * n + j)) ≡ notes space code note log start order (length order + (first * n + 0))
 
         next_turn : (r j : ℕ) → r < k → j < n → n ≡ length w.threads → Point r j → Point r (suc j)
         next_turn r j less within all p =
@@ -372,6 +379,11 @@ module _ {State Op Reply Value Fixed : Type 0} (space : Space Op Reply Value Fix
                   (let i : suc (length order + ((first + r) * n + j)) ≡ length order + ((first + r) * n + suc j) = omega arith in i)
                   (turn_on space code log start order breaks (length order + ((first + r) * n + j)) j p.world (world_after_turn space code p.world j (turn_of space code log p.world j)) p.behind
                   (thread_there order n (first + r) j within) t.goes_on (λ i b is. t.none b (clear i b is)) refl);
+              quiet = λ note.
+                  let i : length order + ((first + r) * n + suc j) ≡ suc (length order + ((first + r) * n + j)) = omega arith in
+                  ap (notes space code note log start order) i
+                  ∙ quiet_note space code log start order note (length order + ((first + r) * n + j)) j p.world p.behind.at (thread_there order n (first + r) j within) (t.quiet note)
+                  ∙ p.quiet note;
             }
 
         turns : (r j : ℕ) → r < k → j ≤ n → n ≡ length w.threads → Point r 0 → Point r j
@@ -384,22 +396,37 @@ module _ {State Op Reply Value Fixed : Type 0} (space : Space Op Reply Value Fix
           mid = mid_round r n p.world all p.mid;
           behind = subst (λ i. IsBehind space code log start order breaks i p.world)
               (let d : (first + suc r) * n ≡ (first + r) * n + n = grind arith in let i : length order + ((first + r) * n + n) ≡ length order + ((first + suc r) * n + 0) = omega (arith, d) in i) p.behind;
+          quiet = λ note.
+              let d : (first + suc r) * n ≡ (first + r) * n + n = grind arith in
+              let i : length order + ((first + suc r) * n + 0) ≡ length order + ((first + r) * n + n) = omega (arith, d) in
+              ap (notes space code note log start order) i ∙ p.quiet note;
         }
 
         all_rounds : (r : ℕ) → r ≤ k → n ≡ length w.threads → Point 0 0 → Point r 0
         all_rounds zero l all p = p
         all_rounds (suc r) l all p = next_round r all (turns r n (omega (arith, l)) (omega arith) all (all_rounds r (omega (arith, l)) all p))
 
-        pub behind_rounds : IsBehind space code log start order breaks (length order + (first * n + 0)) w → IsBehind space code log start order breaks (length order + ((first + k) * n + 0)) v
-        behind_rounds behind =
+        all_made : IsBehind space code log start order breaks (length order + (first * n + 0)) w → Point k 0
+        all_made behind =
             let all = sym (at_length space code log start order breaks (length order + (first * n + 0)) w behind) in
-            let p = all_rounds k (omega arith) all
+            let i : first ≡ first + 0 = omega arith in
+            all_rounds k (omega arith) all
             (record {
               world = w;
               mid = mid_start;
-              behind = subst (λ x. IsBehind space code log start order breaks (length order + (x * n + 0)) w) (let i : first ≡ first + 0 = omega arith in i) behind;
-            }) in
+              behind = subst (λ x. IsBehind space code log start order breaks (length order + (x * n + 0)) w) i behind;
+              quiet = λ note. ap (λ x. notes space code note log start order (length order + (x * n + 0))) (sym i);
+            })
+
+        pub behind_rounds : IsBehind space code log start order breaks (length order + (first * n + 0)) w → IsBehind space code log start order breaks (length order + ((first + k) * n + 0)) v
+        behind_rounds behind =
+            let p = all_made behind in
             subst (IsBehind space code log start order breaks (length order + ((first + k) * n + 0))) (mid_end p.world p.mid) p.behind
+
+        -- none of their turns is noted
+        pub quiet_rounds : IsBehind space code log start order breaks (length order + (first * n + 0)) w → (note : WorldAt State Value Fixed → ℕ → WorldAt State Value Fixed → List ℕ)
+            → notes space code note log start order (length order + ((first + k) * n + 0)) ≡ notes space code note log start order (length order + (first * n + 0))
+        quiet_rounds behind note = (all_made behind).quiet note
 
       -- no thread has made fewer steps
       pub steps_grow : all_steps code w.threads ≤ all_steps code v.threads

@@ -20,10 +20,11 @@ use Rattle.replay_breaks.specs.declared.breaks.Stopped.TheVariants as stopped
 use Rattle.replay_breaks.specs.declared.running.Taken.{Taken}
 use Rattle.replay_breaks.specs.Breaks.{NoneHits}
 use Rattle.replay_breaks.specs.Stops.{GoesOn, taken_of, is_step, is_held, TurnStopsAt, IsBehind, RunsOut, StopsAt}
+use Rattle.replay_breaks.specs.Notes.{notes}
 use Rattle.replay_breaks.specs.Rounds.{IsHeld, IsInRound}
 use Rattle.replay_breaks.proofs.Ending.{done_stands, finished_done}
 
-below_next : (P : ℕ → Type 0) (t n : ℕ) → t < suc n → ((i : ℕ) → i < n → P i) → P n → P t
+pub below_next : (P : ℕ → Type 0) (t n : ℕ) → t < suc n → ((i : ℕ) → i < n → P i) → P n → P t
 below_next P t n l below here = elim (cases_lt t n) [ inl m ↦ below t m | inr m ↦ subst P (let e : n ≡ t = omega (arith, l, m) in e) here ]
 
 pub steps_taken : (x : Turn) → is_step (taken_of x) ≡ makes_step x
@@ -33,20 +34,20 @@ steps_taken (turn.Event input) = refl
 steps_taken (turn.Refused r) = refl
 
 -- a turn that makes no step and is not held is done
-done_taken : (x : Turn) → is_step (taken_of x) ≡ false → is_held (taken_of x) ≡ false → x ≡ turn.Done
+pub done_taken : (x : Turn) → is_step (taken_of x) ≡ false → is_held (taken_of x) ≡ false → x ≡ turn.Done
 done_taken turn.Done s h = refl
 done_taken turn.Local s h = absurd cc
 done_taken (turn.Event input) s h = absurd cc
 done_taken (turn.Refused r) s h = absurd cc
 
-held_taken : (x : Turn) → is_held (taken_of x) ≡ true → x ≡ turn.Done → ⊥
+pub held_taken : (x : Turn) → is_held (taken_of x) ≡ true → x ≡ turn.Done → ⊥
 held_taken turn.Done h e = cc
 held_taken turn.Local h e = cc
 held_taken (turn.Event input) h e = cc
 held_taken (turn.Refused r) h e = cc
 
 module _ {State Op Reply Value Fixed : Type 0} (space : Space Op Reply Value Fixed) (code : Code State Op Reply Fixed) where
-  stays : (w : WorldAt State Value Fixed) (t : ℕ) (x : Turn) → makes_step x ≡ false → world_after_turn space code w t x ≡ w
+  pub stays : (w : WorldAt State Value Fixed) (t : ℕ) (x : Turn) → makes_step x ≡ false → world_after_turn space code w t x ≡ w
   stays w t turn.Done h = refl
   stays w t turn.Local h = absurd cc
   stays w t (turn.Event input) h = absurd cc
@@ -87,7 +88,15 @@ module _ {State Op Reply Value Fixed : Type 0} (space : Space Op Reply Value Fix
 
     -- ---- rounds
 
-    pub round_start : (w : WorldAt State Value Fixed) → IsBehind space code log start order breaks (length order) w → IsInRound space code log start order breaks 0 false false w
+    -- how many turns were taken
+    abbrev pub turns_in : (t : ℕ) (made held : Bool) (w : WorldAt State Value Fixed) → IsInRound space code log start order breaks t made held w → ℕ
+    turns_in t made held w r = length order + (r.rounds * length start.threads + t)
+
+    -- a place in a round, and what was noted up to it
+    abbrev pub NotedRound : (note : WorldAt State Value Fixed → ℕ → WorldAt State Value Fixed → List ℕ) (N : List ℕ → Type 0) (t : ℕ) (made held : Bool) → WorldAt State Value Fixed → Type 0
+    NotedRound note N t made held w = (r : IsInRound space code log start order breaks t made held w) × N (notes space code note log start order (turns_in t made held w r))
+
+    abbrev pub round_start : (w : WorldAt State Value Fixed) → IsBehind space code log start order breaks (length order) w → IsInRound space code log start order breaks 0 false false w
     round_start w a = record {
       rounds = 0;
       turn = subst (λ k. IsBehind space code log start order breaks k w) (let e : length order ≡ length order + (0 * length start.threads + 0) = omega arith in e) a;
@@ -98,7 +107,7 @@ module _ {State Op Reply Value Fixed : Type 0} (space : Space Op Reply Value Fix
       waits = λ h i. absurd cc;
     }
 
-    pub round_again : (t : ℕ) (made held : Bool) (w : WorldAt State Value Fixed) → length start.threads ≤ t → IsInRound space code log start order breaks t made held w → IsInRound space code log start order breaks 0 false false w
+    abbrev pub round_again : (t : ℕ) (made held : Bool) (w : WorldAt State Value Fixed) → length start.threads ≤ t → IsInRound space code log start order breaks t made held w → IsInRound space code log start order breaks 0 false false w
     round_again t made held w past r =
         let n = length start.threads in
         let same : t ≡ n = let l = r.within in omega (arith, l, past) in
@@ -117,7 +126,7 @@ module _ {State Op Reply Value Fixed : Type 0} (space : Space Op Reply Value Fix
         → thread_of_turn order (length start.threads) (length order + (r.rounds * length start.threads + t)) ≡ t
     of_round t made held w r l = thread_there order (length start.threads) r.rounds t l
 
-    pub round_on : (t : ℕ) (made held : Bool) (x : Taken) (w v : WorldAt State Value Fixed) → IsInRound space code log start order breaks t made held w → t < length start.threads → GoesOn (turn_of space code log w t)
+    abbrev pub round_on : (t : ℕ) (made held : Bool) (x : Taken) (w v : WorldAt State Value Fixed) → IsInRound space code log start order breaks t made held w → t < length start.threads → GoesOn (turn_of space code log w t)
         → NoneHits space code log w t breaks → x ≡ taken_of (turn_of space code log w t)
         → v ≡ world_after_turn space code w t (turn_of space code log w t) → IsInRound space code log start order breaks (t + 1) (made || is_step x) (held || is_held x) v
     round_on t made held x w v r l goes none is after =

@@ -8,3 +8,4 @@ pub mod OneStop
 pub mod Free
 pub mod Known
 pub mod Going
+pub mod Notes

@@ -1,12 +1,15 @@
 //! Replay up to a break.
 
-ghost use Rattle.std.specs.Prelude.{◌≡◌, ◌<◌, ◌||◌, None, Some, IfSome, IfOk, IfErr, slice_get};
-ghost use Rattle.event_core.specs.World.{world_of};
-ghost use Rattle.replay_breaks.specs.Tests.{holds_by, IsFirst, HoldsNone};
+ghost use Rattle.std.specs.Prelude.{ℕ, ◌≡◌, ◌<◌, ◌||◌, None, Some, IfSome, IfOk, IfErr, slice_get};
+ghost use Rattle.event_core.specs.World.{WorldAt, world_of};
+ghost use Rattle.replay_gate.specs.Shows.{ShowsRecorded};
+ghost use Rattle.replay_laws.specs.Ordered.{ordered_world};
+ghost use Rattle.replay_breaks.specs.Tests.{holds_by, is_answer, IsFirst, HoldsNone};
 ghost use Rattle.replay_breaks.specs.Free.{AreFree};
 ghost use Rattle.replay_breaks.specs.Going.{GoesOnBy};
 ghost use Rattle.replay_breaks.specs.Known.{AreKnown};
 ghost use Rattle.replay_breaks.specs.declared.known.Known.TheVariants as known;
+ghost use Rattle.replay_breaks.specs.Notes.{HasNoted, HasNotedTurns, noted_at, noted_if, event_note, note_of_turn};
 ghost use Rattle.replay_breaks.specs.Stops.{is_step, is_held, is_passed_over, is_done, TurnTakes, TurnStopsAt, StopsAt, StopsRight, StopsFree};
 
 use crate::ahead::{Pace, go_ahead};
@@ -14,6 +17,7 @@ use crate::breaks::{Break, Stopped};
 use crate::free::{free_steps, goes_freely};
 use crate::known::{Known, all_known_later, known_turn};
 use crate::marks::{Marks, marks_of, marks_of_item};
+use crate::watch::{Nobody, Watch};
 use event_core::World;
 use replay_gate::{OpenWorld, ReadLog, Ready, Replay, ReplayFault, Turned};
 use rw_objects::{Machine, ObjectSpace};
@@ -114,13 +118,29 @@ fn first_that_holds<M: Machine<S>, S: ObjectSpace>(
     None
 }
 
+/// Lets a turn that was made be noted, where it was an event.
+fn note_turn<M: Machine<S>, S: ObjectSpace, W: Watch<M, S>>(
+    watch: &mut W,
+    turned: Turned,
+    world: &World<M, S>,
+    thread: u32,
+)
+    ensures { (w : WorldAt M.State S.Value S.Fixed) → W.looked watch.old w thread → HasNoted W.asked W.whole W.notes watch.old watch.new (event_note (is_answer turned) (W.note (W.asked watch.old) w thread (world_of world.now))) }
+{
+    match turned {
+        Turned::Event => watch.take_note(world, thread),
+        Turned::Local | Turned::Done => {}
+    }
+}
+
 /// A turn of a thread, and the test of the breaks behind its step.
-fn take_turn<M: Machine<S>, S: ObjectSpace, L: ReadLog, O: OpenWorld<M, S>>(
+fn take_turn<M: Machine<S>, S: ObjectSpace, L: ReadLog, O: OpenWorld<M, S>, W: Watch<M, S>>(
     alloc: Global,
     replay: &mut Replay<M, S, L, O>,
     reader: &mut L::Reader,
     thread: u32,
     breaks: &[Break],
+    watch: &mut W,
 ) -> Result<Taken, Stopped>
     requires { L.reads replay.old.log reader.old }
     ensures reads { L.reads replay.new.log reader.new }
@@ -128,7 +148,10 @@ fn take_turn<M: Machine<S>, S: ObjectSpace, L: ReadLog, O: OpenWorld<M, S>>(
     ensures opens { replay.new.opens ≡ replay.old.opens }
     ensures takes { IfOk result (TurnTakes S.meaning M.code (L.log replay.old.log) (world_of replay.old.world) thread breaks.now (world_of replay.new.world)) }
     ensures stops { IfErr result (TurnStopsAt S.meaning M.code (L.log replay.old.log) (world_of replay.old.world) thread breaks.now (world_of replay.new.world)) }
+    ensures noted { IfOk result (λ taken. HasNoted W.asked W.whole W.notes watch.old watch.new (note_of_turn S.meaning M.code (W.note (W.asked watch.old)) (L.log replay.old.log) (world_of replay.old.world) thread)) }
+    ensures stopped { IfErr result (λ stopped. HasNoted W.asked W.whole W.notes watch.old watch.new (noted_at stopped (note_of_turn S.meaning M.code (W.note (W.asked watch.old)) (L.log replay.old.log) (world_of replay.old.world) thread))) }
 {
+    watch.look(replay.world(), thread);
     let marks = marks_of(alloc, replay.world(), thread);
     match replay.turn_by(alloc, reader, thread) {
         Err(fault) => {
@@ -142,6 +165,7 @@ fn take_turn<M: Machine<S>, S: ObjectSpace, L: ReadLog, O: OpenWorld<M, S>>(
             if is_done(turned) {
                 Ok(Taken::Done)
             } else {
+                note_turn(watch, turned, replay.world(), thread);
                 match first_that_holds(breaks, thread, turned, &marks, replay.world()) {
                     Some(index) => Err(Stopped::Break(index)),
                     None => Ok(Taken::Step),
@@ -154,13 +178,14 @@ fn take_turn<M: Machine<S>, S: ObjectSpace, L: ReadLog, O: OpenWorld<M, S>>(
 /// Makes the step by which a thread goes on, where one is free and the log lets it pass, and tests the breaks behind
 /// it. Behind a free local step none holds.
 #[inline(always)]
-fn go_on<M: Machine<S>, S: ObjectSpace, L: ReadLog, O: OpenWorld<M, S>>(
+fn go_on<M: Machine<S>, S: ObjectSpace, L: ReadLog, O: OpenWorld<M, S>, W: Watch<M, S>>(
     alloc: Global,
     replay: &mut Replay<M, S, L, O>,
     reader: &mut L::Reader,
     thread: u32,
     breaks: &[Break],
     free: &mut [u32; 16],
+    watch: &mut W,
 ) -> Result<Ready, Stopped>
     requires reads { L.reads replay.old.log reader.old }
     requires few { thread < 16 }
@@ -171,12 +196,16 @@ fn go_on<M: Machine<S>, S: ObjectSpace, L: ReadLog, O: OpenWorld<M, S>>(
     ensures goes { IfOk result (λ ready. GoesOnBy S.meaning M.code (L.log replay.old.log) breaks.now thread (world_of replay.old.world) ready (world_of replay.new.world)) }
     ensures free { IfOk result (λ ready. AreFree M.code (L.log replay.old.log) (world_of replay.new.world) breaks.now free.new) }
     ensures stops { IfErr result (TurnStopsAt S.meaning M.code (L.log replay.old.log) (world_of replay.old.world) thread breaks.now (world_of replay.new.world)) }
+    ensures noted { IfOk result (λ ready. HasNoted W.asked W.whole W.notes watch.old watch.new (noted_if ready (note_of_turn S.meaning M.code (W.note (W.asked watch.old)) (L.log replay.old.log) (world_of replay.old.world) thread))) }
+    ensures stopped { IfErr result (λ stopped. HasNoted W.asked W.whole W.notes watch.old watch.new (noted_at stopped (note_of_turn S.meaning M.code (W.note (W.asked watch.old)) (L.log replay.old.log) (world_of replay.old.world) thread))) }
 {
+    watch.look(replay.world(), thread);
     match goes_freely(replay, reader, thread, breaks, free) {
         Err(_) => Err(Stopped::Fault(ReplayFault::NoMemory)),
         Ok(Ready::Local) => Ok(Ready::Local),
         Ok(Ready::Not) => Ok(Ready::Not),
         Ok(Ready::Event) => {
+            watch.take_note(replay.world(), thread);
             let marks = marks_of_item(alloc, L::held(reader, thread));
             match first_that_holds(breaks, thread, Turned::Event, &marks, replay.world()) {
                 Some(index) => Err(Stopped::Break(index)),
@@ -189,7 +218,7 @@ fn go_on<M: Machine<S>, S: ObjectSpace, L: ReadLog, O: OpenWorld<M, S>>(
 /// A turn of a thread of which nothing is known, and the test of the breaks behind its step. It notes how many steps
 /// of the thread are free, or that it rests.
 #[inline(never)]
-fn turn_slowly<M: Machine<S>, S: ObjectSpace, L: ReadLog, O: OpenWorld<M, S>>(
+fn turn_slowly<M: Machine<S>, S: ObjectSpace, L: ReadLog, O: OpenWorld<M, S>, W: Watch<M, S>>(
     alloc: Global,
     replay: &mut Replay<M, S, L, O>,
     reader: &mut L::Reader,
@@ -197,6 +226,7 @@ fn turn_slowly<M: Machine<S>, S: ObjectSpace, L: ReadLog, O: OpenWorld<M, S>>(
     breaks: &[Break],
     free: &mut [u32; 16],
     all: &mut [Known; 16],
+    watch: &mut W,
 ) -> Result<Taken, Stopped>
     requires reads { L.reads replay.old.log reader.old }
     requires few { thread < 16 }
@@ -210,9 +240,11 @@ fn turn_slowly<M: Machine<S>, S: ObjectSpace, L: ReadLog, O: OpenWorld<M, S>>(
     ensures free { IfOk result (λ taken. AreFree M.code (L.log replay.old.log) (world_of replay.new.world) breaks.now free.new) }
     ensures known { IfOk result (λ taken. AreKnown S.meaning M.code (L.log replay.old.log) (world_of replay.new.world) all.new) }
     ensures stops { IfErr result (TurnStopsAt S.meaning M.code (L.log replay.old.log) (world_of replay.old.world) thread breaks.now (world_of replay.new.world)) }
+    ensures noted { IfOk result (λ taken. HasNoted W.asked W.whole W.notes watch.old watch.new (note_of_turn S.meaning M.code (W.note (W.asked watch.old)) (L.log replay.old.log) (world_of replay.old.world) thread)) }
+    ensures stopped { IfErr result (λ stopped. HasNoted W.asked W.whole W.notes watch.old watch.new (noted_at stopped (note_of_turn S.meaning M.code (W.note (W.asked watch.old)) (L.log replay.old.log) (world_of replay.old.world) thread))) }
 {
     let at = thread as usize;
-    match take_turn(alloc, replay, reader, thread, breaks) {
+    match take_turn(alloc, replay, reader, thread, breaks, watch) {
         Err(stopped) => Err(stopped),
         Ok(Taken::Step) => {
             free[at] = free_steps(replay, thread, breaks);
@@ -233,7 +265,7 @@ fn turn_slowly<M: Machine<S>, S: ObjectSpace, L: ReadLog, O: OpenWorld<M, S>>(
 /// A turn of a thread, and the test of the breaks behind its step. Where the thread is known to rest it is not asked
 /// again before another thread went on, and then its gate alone. There is no thread past the sixteenth.
 #[inline(always)]
-fn turn_on<M: Machine<S>, S: ObjectSpace, L: ReadLog, O: OpenWorld<M, S>>(
+fn turn_on<M: Machine<S>, S: ObjectSpace, L: ReadLog, O: OpenWorld<M, S>, W: Watch<M, S>>(
     alloc: Global,
     replay: &mut Replay<M, S, L, O>,
     reader: &mut L::Reader,
@@ -241,6 +273,7 @@ fn turn_on<M: Machine<S>, S: ObjectSpace, L: ReadLog, O: OpenWorld<M, S>>(
     breaks: &[Break],
     free: &mut [u32; 16],
     all: &mut [Known; 16],
+    watch: &mut W,
 ) -> Result<Taken, Stopped>
     requires reads { L.reads replay.old.log reader.old }
     requires free { AreFree M.code (L.log replay.old.log) (world_of replay.old.world) breaks.now free.old }
@@ -252,41 +285,47 @@ fn turn_on<M: Machine<S>, S: ObjectSpace, L: ReadLog, O: OpenWorld<M, S>>(
     ensures free { IfOk result (λ taken. AreFree M.code (L.log replay.old.log) (world_of replay.new.world) breaks.now free.new) }
     ensures known { IfOk result (λ taken. AreKnown S.meaning M.code (L.log replay.old.log) (world_of replay.new.world) all.new) }
     ensures stops { IfErr result (TurnStopsAt S.meaning M.code (L.log replay.old.log) (world_of replay.old.world) thread breaks.now (world_of replay.new.world)) }
+    ensures noted { IfOk result (λ taken. HasNoted W.asked W.whole W.notes watch.old watch.new (note_of_turn S.meaning M.code (W.note (W.asked watch.old)) (L.log replay.old.log) (world_of replay.old.world) thread)) }
+    ensures stopped { IfErr result (λ stopped. HasNoted W.asked W.whole W.notes watch.old watch.new (noted_at stopped (note_of_turn S.meaning M.code (W.note (W.asked watch.old)) (L.log replay.old.log) (world_of replay.old.world) thread))) }
 {
     if thread >= 16 {
         return Ok(Taken::Done);
     }
     match known_turn(replay, reader, thread, all) {
         Some(taken) => Ok(taken),
-        None => match go_on(alloc, replay, reader, thread, breaks, free) {
+        None => match go_on(alloc, replay, reader, thread, breaks, free, watch) {
             Err(stopped) => Err(stopped),
             Ok(Ready::Local) => Ok(Taken::Step),
             Ok(Ready::Event) => {
                 all_known_later(all);
                 Ok(Taken::Step)
             }
-            Ok(Ready::Not) => turn_slowly(alloc, replay, reader, thread, breaks, free, all),
+            Ok(Ready::Not) => turn_slowly(alloc, replay, reader, thread, breaks, free, all, watch),
         },
     }
 }
 
-/// As `run_to`; the reader goes forward through the log.
-fn run_by<M: Machine<S> + Drop, S: ObjectSpace, L: ReadLog, O: OpenWorld<M, S>>(
+/// As `run_watched`; the reader goes forward through the log.
+fn run_by<M: Machine<S> + Drop, S: ObjectSpace, L: ReadLog, O: OpenWorld<M, S>, W: Watch<M, S>>(
     alloc: Global,
     replay: &mut Replay<M, S, L, O>,
     reader: &mut L::Reader,
     order: &[u32],
     breaks: &[Break],
+    watch: &mut W,
 ) -> Stopped
     requires { L.reads replay.old.log reader.old }
     ensures log { replay.new.log ≡ replay.old.log }
     ensures opens { replay.new.opens ≡ replay.old.opens }
     ensures stops { StopsAt S.meaning M.code (L.log replay.old.log) (world_of replay.old.world) order.now breaks.now (world_of replay.new.world) result }
+    ensures noted { HasNotedTurns S.meaning M.code (W.note (W.asked watch.old)) (L.log replay.old.log) (world_of replay.old.world) order.now W.asked W.whole W.notes watch.old watch.new (world_of replay.new.world) }
 {
     let mut free = [0u32; 16];
     let mut all = [Known::Nothing; 16];
     for thread in order {
-        match turn_on(alloc, replay, reader, *thread, breaks, &mut free, &mut all) {
+        match turn_on(
+            alloc, replay, reader, *thread, breaks, &mut free, &mut all, watch,
+        ) {
             Ok(_) => {}
             Err(stopped) => return stopped,
         }
@@ -298,7 +337,9 @@ fn run_by<M: Machine<S> + Drop, S: ObjectSpace, L: ReadLog, O: OpenWorld<M, S>>(
     let mut pace = Pace::new();
     while made || next < count {
         if next < count {
-            match turn_on(alloc, replay, reader, next, breaks, &mut free, &mut all) {
+            match turn_on(
+                alloc, replay, reader, next, breaks, &mut free, &mut all, watch,
+            ) {
                 Ok(taken) => {
                     made = either(made, taken.is_step());
                     held = either(held, taken.is_held());
@@ -328,6 +369,34 @@ fn run_by<M: Machine<S> + Drop, S: ObjectSpace, L: ReadLog, O: OpenWorld<M, S>>(
 /// the log. Threads that are done, that the log does not let pass, or of which it does not know are passed over. The
 /// replay can go on from there. On a log below that of a run no thread diverges; on the whole log of a run it is
 /// never stuck.
+/// Who watches looks at each thread before its turn, and notes each event behind it.
+pub fn run_watched<
+    M: Machine<S> + Drop,
+    S: ObjectSpace,
+    L: ReadLog,
+    O: OpenWorld<M, S>,
+    W: Watch<M, S>,
+>(
+    alloc: Global,
+    replay: &mut Replay<M, S, L, O>,
+    order: &[u32],
+    breaks: &[Break],
+    watch: &mut W,
+) -> Stopped
+    ensures log { replay.new.log ≡ replay.old.log }
+    ensures opens { replay.new.opens ≡ replay.old.opens }
+    ensures stops { StopsAt S.meaning M.code (L.log replay.old.log) (world_of replay.old.world) order.now breaks.now (world_of replay.new.world) result }
+    ensures right { StopsRight S.meaning M.code (L.log replay.old.log) (O.opened replay.old.opens) result }
+    ensures free { StopsFree S.meaning M.code (L.log replay.old.log) (O.opened replay.old.opens) result }
+    ensures noted { HasNotedTurns S.meaning M.code (W.note (W.asked watch.old)) (L.log replay.old.log) (world_of replay.old.world) order.now W.asked W.whole W.notes watch.old watch.new (world_of replay.new.world) }
+    // Each world on the way shows recorded values alone.
+    ensures way { (k : ℕ) → ShowsRecorded S.meaning M.code (L.log replay.old.log) (O.opened replay.old.opens) (ordered_world S.meaning M.code (L.log replay.old.log) (world_of replay.old.world) order.now k) }
+{
+    let mut reader = replay.reader();
+    run_by(alloc, replay, &mut reader, order, breaks, watch)
+}
+
+/// As `run_watched`, where nobody watches.
 pub fn run_to<M: Machine<S> + Drop, S: ObjectSpace, L: ReadLog, O: OpenWorld<M, S>>(
     alloc: Global,
     replay: &mut Replay<M, S, L, O>,
@@ -340,6 +409,5 @@ pub fn run_to<M: Machine<S> + Drop, S: ObjectSpace, L: ReadLog, O: OpenWorld<M, 
     ensures right { StopsRight S.meaning M.code (L.log replay.old.log) (O.opened replay.old.opens) result }
     ensures free { StopsFree S.meaning M.code (L.log replay.old.log) (O.opened replay.old.opens) result }
 {
-    let mut reader = replay.reader();
-    run_by(alloc, replay, &mut reader, order, breaks)
+    run_watched(alloc, replay, order, breaks, &mut Nobody)
 }

@@ -28,7 +28,7 @@ returns-in-Some-clause-stops g c =
       goes = c.marks_of_item-marks.ensures.goes (entry_of space w.memory event.op) (c.held.ensures ∙ event.holds) ∙ found_marks (space.touches event.op) w.memory.counts ∙ ap (marks_of_step space w.memory.counts) (sym event.step);
       out = inr (c.marks_of_item-marks.ensures.times_out, event.is);
     } in
-    let first = subst (λ x. IsFirst code breaks t turned.Event marks (world_of x) c.in-Some.index) c.world.ensures.same c.in-Some.ensures.some in
+    let first = subst (λ x. IsFirst code breaks t turned.Event marks (world_of x) c.in-Some.index) c.world-in-Ok-Event-2.ensures.same c.in-Some.ensures.some in
     (first_hits space code log w t turned.Event marks v m (ap answer_of_turn event.is) after breaks c.in-Some.index refl first, after)
 
 pub returns-in-None-clause-goes : goal.returns-in-None-clause-goes
@@ -47,5 +47,5 @@ returns-in-None-clause-goes g c =
       goes = c.marks_of_item-marks.ensures.goes (entry_of space w.memory event.op) (c.held.ensures ∙ event.holds) ∙ found_marks (space.touches event.op) w.memory.counts ∙ ap (marks_of_step space w.memory.counts) (sym event.step);
       out = inr (c.marks_of_item-marks.ensures.times_out, event.is);
     } in
-    let none = subst (λ x. HoldsNone code breaks t turned.Event marks (world_of x)) c.world.ensures.same (c.first_that_holds.ensures.none c.in-None.is) in
+    let none = subst (λ x. HoldsNone code breaks t turned.Event marks (world_of x)) c.world-in-Ok-Event-2.ensures.same (c.first_that_holds.ensures.none c.in-None.is) in
     step_takes space code log w t turned.Event marks v m (ap answer_of_turn event.is) after breaks refl none

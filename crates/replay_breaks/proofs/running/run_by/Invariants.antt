@@ -5,12 +5,15 @@ use Rattle.event_core.specs.World.{world_of}
 use Rattle.replay_breaks.specs.Stops.{IsBehind}
 use Rattle.replay_breaks.specs.Free.{AreFree}
 use Rattle.replay_breaks.specs.Known.{AreKnown}
-use Rattle.replay_breaks.specs.Rounds.{IsInRound}
+use Rattle.replay_breaks.specs.Notes.{HasNoted, notes}
+use Rattle.replay_breaks.proofs.Rounds.{NotedRound}
 use Rattle.replay_breaks.proofs.running.run_by.Given as goal
 
 abbrev pub invariant-loop-thread : goal.invariant-loop-thread
 invariant-loop-thread g l = record {
   behind : IsBehind g.S.ObjectSpace.meaning g.M.Machine.code (g.L.ReadLog.log l.fn.replay.log) (world_of l.fn.replay.world) l.order l.breaks l.thread-index (world_of l.replay.world);
+  noted : HasNoted g.W.Watch.asked g.W.Watch.whole g.W.Watch.notes l.fn.watch l.watch
+      (notes g.S.ObjectSpace.meaning g.M.Machine.code (g.W.Watch.note (g.W.Watch.asked l.fn.watch)) (g.L.ReadLog.log l.fn.replay.log) (world_of l.fn.replay.world) l.order l.thread-index);
   free : AreFree g.M.Machine.code (g.L.ReadLog.log l.fn.replay.log) (world_of l.replay.world) l.breaks l.free;
   known : AreKnown g.S.ObjectSpace.meaning g.M.Machine.code (g.L.ReadLog.log l.fn.replay.log) (world_of l.replay.world) l.all;
   reads : g.L.ReadLog.reads l.replay.log l.reader;
@@ -20,7 +23,8 @@ invariant-loop-thread g l = record {
 
 abbrev pub invariant-loop-made : goal.invariant-loop-made
 invariant-loop-made g l = record {
-  round : IsInRound g.S.ObjectSpace.meaning g.M.Machine.code (g.L.ReadLog.log l.fn.replay.log) (world_of l.fn.replay.world) l.order l.breaks l.next l.made l.held (world_of l.replay.world);
+  round : NotedRound g.S.ObjectSpace.meaning g.M.Machine.code (g.L.ReadLog.log l.fn.replay.log) (world_of l.fn.replay.world) l.order l.breaks
+      (g.W.Watch.note (g.W.Watch.asked l.fn.watch)) (HasNoted g.W.Watch.asked g.W.Watch.whole g.W.Watch.notes l.fn.watch l.watch) l.next l.made l.held (world_of l.replay.world);
   count : l.count ≡ length (world_of l.fn.replay.world).threads;
   free : AreFree g.M.Machine.code (g.L.ReadLog.log l.fn.replay.log) (world_of l.replay.world) l.breaks l.free;
   known : AreKnown g.S.ObjectSpace.meaning g.M.Machine.code (g.L.ReadLog.log l.fn.replay.log) (world_of l.replay.world) l.all;
