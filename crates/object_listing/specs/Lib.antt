@@ -1,0 +1,6 @@
+pub mod Rising
+pub mod Touched
+pub mod Versions
+pub mod Chosen
+pub mod Order
+pub mod Example
