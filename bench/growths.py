@@ -37,6 +37,7 @@ WITH_REASONS = [
     "replay counter.wasm counter.plan object.pieces --why",
     "replay counter.wasm counter.plan first.pieces --threads --why",
     "view counter.wasm counter.plan first.pieces --place 1.1 --why",
+    "trace counter.wasm counter.plan first.pieces --only 0,1 --why",
 ]
 USUAL = ["first.", "five.", "hunt counter.wasm counter.plan --until 'thread 0 i32 3'", *BY_THREADS]
 

@@ -1,5 +1,5 @@
 #!/usr/bin/env python3
-"""Measures the memory that `wreplay replay` takes for a long log of one thread.
+"""Measures the memory that `wreplay replay` takes for a long log of one thread, and how long `wreplay trace` of it takes.
 
 usage: long_log.py PATH_OF_WREPLAY [EVENTS]
 
@@ -7,7 +7,8 @@ A module is made with a function that goes round a loop and adds 1 to a counter 
 the log of its run by one thread, EVENTS events (10,000,000 by default), in pieces of 4,096 entries. A schedule has at most a million
 picks, so `wreplay record` makes no log of that length: the pieces are made here, and of a short run they are compared with those
 of `wreplay record`. It prints the log's bytes, which are half of the digits of its lines, the seconds of the replay, its greatest
-resident memory, less that of the replay of a log of two events, and the ratio of the two. Half a gigabyte of files is written.
+resident memory, less that of the replay of a log of two events, the ratio of the two, and the seconds of a trace to /dev/null beside
+those of the replay. Half a gigabyte of files is written.
 """
 
 import hashlib
@@ -57,12 +58,12 @@ def files(folder, turns):
     return words, size
 
 
-def replayed(wreplay, words):
-    """The processor time of a replay, and its greatest resident memory in bytes."""
-    process = subprocess.Popen([wreplay, "replay", *words], stdout=subprocess.DEVNULL)
+def measured(wreplay, command, words):
+    """The processor time of a command, and its greatest resident memory in bytes."""
+    process = subprocess.Popen([wreplay, command, *words], stdout=subprocess.DEVNULL)
     _, status, used = os.wait4(process.pid, 0)
     if os.waitstatus_to_exitcode(status) != 0:
-        sys.exit(f"replay: status {os.waitstatus_to_exitcode(status)}")
+        sys.exit(f"{command}: status {os.waitstatus_to_exitcode(status)}")
     return used.ru_utime + used.ru_stime, used.ru_maxrss * 1024
 
 
@@ -82,12 +83,13 @@ def main():
     wreplay, events = sys.argv[1], int(sys.argv[2]) if len(sys.argv) == 3 else 10_000_000
     with tempfile.TemporaryDirectory() as folder:
         check(wreplay, folder, 5000)
-        start = replayed(wreplay, files(folder, 1)[0])[1]
+        start = measured(wreplay, "replay", files(folder, 1)[0])[1]
         words, size = files(folder, events // 2)
-        seconds, memory = replayed(wreplay, words)
-    print("| events | log's MB | replay s | replay's peak MB | peak / log |")
-    print("|---:|---:|---:|---:|---:|")
-    print(f"| {events:,} | {size / 1e6:.0f} | {seconds:.2f} | {(memory - start) / 1e6:.0f} | {(memory - start) / size:.2f} |")
+        seconds, memory = measured(wreplay, "replay", words)
+        traced, _ = measured(wreplay, "trace", words)
+    print("| events | log's MB | replay s | replay's peak MB | peak / log | trace s | trace / replay |")
+    print("|---:|---:|---:|---:|---:|---:|---:|")
+    print(f"| {events:,} | {size / 1e6:.0f} | {seconds:.2f} | {(memory - start) / 1e6:.0f} | {(memory - start) / size:.2f} | {traced:.2f} | {traced / seconds:.2f} |")
 
 
 if __name__ == "__main__":

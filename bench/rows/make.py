@@ -2,7 +2,7 @@
 recordings of profile 1 by what was recorded apart, and for the hunt by what is kept with it."""
 import os, struct, sys
 from model import Module, World, digest, schedule_text, shrunk
-from views import stop, view
+from views import stop, trace, view
 
 TARGET = sys.argv[1]
 DATA = os.path.join(TARGET, 'data')
@@ -54,6 +54,11 @@ def recorded(name, module_file, module, plan_file, plan, schedule, block=64, ste
     for order in orders:
         command('replay %s %s.pieces%s' % (files, name, ' --order ' + order if order else ''), world.report())
     command('replay %s %s.pieces --threads' % (files, name), world.report())
+    entries = {(t.n, p): e for t in world.threads for p, e in enumerate(t.entries)}
+    ends = {t.n: (t.steps, len(t.entries), world.outcome(t)) for t in world.threads}
+    for order in orders:
+        turns = [int(n) for n in order.split(',')] if order else []
+        command('trace %s %s.pieces%s' % (files, name, ' --order ' + order if order else ''), trace(World(module, plan, block), entries, ends, turns))
     return world
 
 # ---- modules and plans
@@ -326,6 +331,33 @@ refused('view counter.wasm counter.plan kind.pieces', '55 Diverged 0 0')
 refused('view counter.wasm counter.plan absent.pieces', '44 SourceFailed')
 refused('view bad.wasm bad.plan absent.pieces', '1 Refused 33')
 
+# ---- traces
+
+def traced(pieces, entries, ends, order='', only='', held=None, since=None, to=None):
+    line = 'trace counter.wasm counter.plan %s.pieces' % pieces
+    if order: line += ' --order ' + order
+    if only: line += ' --only ' + only
+    if held: line += ' --bytes %d+%d' % held
+    if since: line += ' --from %d.%d' % since
+    if to: line += ' --to %d.%d' % to
+    numbers = lambda list: [int(n) for n in list.split(',')] if list else []
+    command(line, trace(World(COUNTER, TWO), entries, ends, numbers(order), numbers(only), held, since, to))
+traced('hole', HOLE, ENDS)
+for order in ORDERS + ('1,1,1,1,7,0,0',):
+    for only in ('0', '1', '7,1', '0,1,1', '7'): traced('whole', ENTRIES, ENDS, order, only)
+    for held in ((0, 4), (3, 1), (4, 4), (0, 0), (0, 4294967295), (4294967295, 4294967295)): traced('whole', ENTRIES, ENDS, order, held=held)
+    for thread in (0, 1, 7):
+        for n in (0, 1, 2, 4294967295):
+            traced('whole', ENTRIES, ENDS, order, since=(thread, n))
+            traced('whole', ENTRIES, ENDS, order, to=(thread, n))
+    traced('whole', ENTRIES, ENDS, order, '1', (0, 1), (0, 0), (1, 0))
+refused('trace readers.wasm readers.plan whole.pieces', '51 OtherRun')
+refused('trace counter.wasm counter.plan otherrun.pieces', '41 OtherRun 2')
+refused('trace large.wasm counter.plan large.pieces', '58 OldProfile')
+refused('trace counter.wasm counter.plan kind.pieces', '55 Diverged 0 0')
+refused('trace counter.wasm counter.plan absent.pieces', '44 SourceFailed')
+refused('trace bad.wasm bad.plan absent.pieces', '1 Refused 33')
+
 # recordings of profile 1 that were made apart: their listings, and their replays by three orders
 ROWS = os.path.join(os.path.dirname(os.path.abspath(__file__)), 'profile1')
 def row(name, kind):
@@ -454,6 +486,14 @@ usage(REPLAY + ' --order 1,0 --threads', "'replay' takes either '--order <LIST>'
 for order in ('=', ' 1,', ' +1', ' 4294967296'):
     usage(REPLAY + ' --order' + order, "'--order <LIST>' takes 1 to 1000000 thread numbers, joined by commas")
 unexpected('view counter.wasm counter.plan first.pieces --threads', '--threads', 'view <MODULE> <PLAN> <PIECES>', True)
+TRACE = 'trace counter.wasm counter.plan first.pieces'
+usage(TRACE + ' --order 1,', "'--order <LIST>' takes 1 to 1000000 thread numbers, joined by commas")
+for only in ('=', ' 1,', ' +1', ' 4294967296'): usage(TRACE + ' --only' + only, "'--only <LIST>' takes 1 to 1000000 thread numbers, joined by commas")
+for held in ('4', '4+', '4+-1', '4.1', '0+4294967296'): usage(TRACE + ' --bytes ' + held, "'--bytes <FROM+LEN>' takes an address and a length, as 0+4")
+for at in ('1', '1.', '1+1', '1.4294967296', '1.0.0'):
+    usage(TRACE + ' --from ' + at, "'--from <T.P>' takes a thread and a place, as 1.0")
+    usage(TRACE + ' --to ' + at, "'--to <T.P>' takes a thread and a place, as 1.0")
+unexpected(TRACE + ' --threads', '--threads', 'trace <MODULE> <PLAN> <PIECES>', True)
 STOOD = ''.join('thread %d steps 0 places 0 running at 0+0\n' % thread for thread in (0, 1))
 ZEROS = ''.join('%08x %s\n' % (at, '00' * 16) for at in range(0, 64, 16))
 command('view counter.wasm counter.plan empty --step 0.0 --names', 'stuck\n' + STOOD + 'object 1 version 0 reads 0\n' + ZEROS)

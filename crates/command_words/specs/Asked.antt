@@ -8,7 +8,7 @@ use Rattle.wasm_types.specs.declared.sizes.TheConstants.{MOST_STEPS}
 use Rattle.command_words.specs.Words.{number_up_to, order_in, pair_in, may_begin}
 use Rattle.command_words.specs.Commands.{program}
 use Rattle.command_words.specs.declared.requests.Request.{Request}
-use Rattle.command_words.specs.declared.requests.Request.TheVariants.{Gather, Check, Record, Hunt, Replay, View}
+use Rattle.command_words.specs.declared.requests.Request.TheVariants.{Gather, Check, Record, Hunt, Replay, View, Trace}
 use Rattle.command_words.specs.declared.requests.RecordOrder.{RecordOrder}
 use Rattle.command_words.specs.declared.requests.RecordOrder.TheVariants as order
 use Rattle.command_words.specs.declared.requests.RecordRequest.{RecordRequest}
@@ -19,6 +19,7 @@ use Rattle.command_words.specs.declared.requests.ReplayRequest.{ReplayRequest}
 use Rattle.command_words.specs.declared.requests.ThreadCount.{ThreadCount}
 use Rattle.command_words.specs.declared.requests.ByteRange.{ByteRange}
 use Rattle.command_words.specs.declared.requests.ViewRequest.{ViewRequest}
+use Rattle.command_words.specs.declared.requests.TraceRequest.{TraceRequest}
 use Rattle.command_words.specs.declared.wanted.Sizes.{Sizes}
 use Rattle.command_words.specs.declared.command.Asked.{Asked}
 use Rattle.command_words.specs.declared.command.Asked.TheVariants as asked
@@ -28,7 +29,7 @@ abbrev pub number_of : ℕ → Option Text → Option ℕ
 number_of most None = None
 number_of most (Some text) = number_up_to most text
 
--- no order is an empty one
+-- no list of threads is an empty one
 abbrev pub order_of : Option Text → Option (List ℕ)
 order_of None = Some []
 order_of (Some text) = order_in text
@@ -158,6 +159,14 @@ pub record IsViewAsked (rows : List Row) (v : ViewRequest) : Type 0 where
   pub has_len : number_of 4294967295 (first_of (codes "len") rows) ≡ Some v.range.len
   pub has_names : v.names ≡ is_text (codes "true") (first_of (codes "names") rows)
 
+-- the values that a parser found ask for this trace
+pub record IsTraceAsked (rows : List Row) (t : TraceRequest) : Type 0 where
+  pub has_replay : IsReplayAsked rows t.replay
+  pub has_only : order_of (first_of (codes "only") rows) ≡ Some t.only.items
+  pub has_bytes : IsRangeAsked (first_of (codes "bytes") rows) t.bytes
+  pub has_from : IsCountAsked (first_of (codes "from") rows) t.from
+  pub has_to : IsCountAsked (first_of (codes "to") rows) t.to
+
 -- a command and its values ask for this
 abbrev pub IsAsked : Text → List Row → Request → Type 0
 IsAsked name rows (Gather skips objects contradictions) = (name ≡ codes "gather") × (skips ≡ is_text (codes "true") (first_of (codes "skip") rows))
@@ -167,6 +176,7 @@ IsAsked name rows (Record r) = (name ≡ codes "record") × IsRecordAsked rows r
 IsAsked name rows (Hunt r) = (name ≡ codes "hunt") × IsHuntAsked rows r
 IsAsked name rows (Replay r by_threads) = (name ≡ codes "replay") × IsReplayAsked rows r × IsTurnsAsked rows by_threads
 IsAsked name rows (View v) = (name ≡ codes "view") × IsViewAsked rows v
+IsAsked name rows (Trace t) = (name ≡ codes "trace") × IsTraceAsked rows t
 
 -- the same of a command and its values that a parser found
 abbrev pub IsFoundBy : Option (Text × List Row) → Request → Type 0

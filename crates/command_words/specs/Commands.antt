@@ -86,9 +86,17 @@ with_range a = with_rule (with_rule (with_rule a (default_rule (codes "from") (c
 abbrev pub viewing : App
 viewing = with_why (with_range (with_breaks (on_pieces (new_app (codes "view")))))
 
+-- which events have a line
+abbrev pub with_events : App → App
+with_events a = with_rule (with_rule (with_rule (with_rule a (option_rule (codes "only"))) (option_rule (codes "bytes"))) (option_rule (codes "from"))) (option_rule (codes "to"))
+
+abbrev pub tracing : App
+tracing = with_why (with_events (on_pieces (new_app (codes "trace"))))
+
 -- the program before its commands, one of which is required
 abbrev pub above : App
 above = record { top = record (new_app (codes "wreplay")).top { has_version = true; subcommand_required = true }; subs = [] }
 
 abbrev pub program : App
-program = with_subcommand (with_subcommand (with_subcommand (with_subcommand (with_subcommand (with_subcommand above check.top) recording.top) hunting.top) replaying.top) viewing.top) gather.top
+program = with_subcommand
+    (with_subcommand (with_subcommand (with_subcommand (with_subcommand (with_subcommand (with_subcommand above check.top) recording.top) hunting.top) replaying.top) viewing.top) tracing.top) gather.top

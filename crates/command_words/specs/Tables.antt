@@ -1,10 +1,10 @@
 -- The arguments of commands, as the rows of tables name them.
 use Rattle.std.specs.Prelude.{List, [], ◌∷◌, codes}
 use Rattle.clap.specs.Words.{App, Rule, Text, with_rule, with_subcommand}
-use Rattle.command_words.specs.Commands.{check, recording, hunting, replaying, viewing, gather, file_rule, option_rule, default_rule, repeated_rule, flag_rule}
+use Rattle.command_words.specs.Commands.{check, recording, hunting, replaying, viewing, tracing, gather, file_rule, option_rule, default_rule, repeated_rule, flag_rule}
 use Rattle.command_words.specs.declared.rows.ArgumentRow.{ArgumentRow}
 use Rattle.command_words.specs.declared.rows.Subcommand.{Subcommand}
-use Rattle.command_words.specs.declared.rows.Subcommand.TheVariants.{Check, Record, Hunt, Replay, View, Gather}
+use Rattle.command_words.specs.declared.rows.Subcommand.TheVariants.{Check, Record, Hunt, Replay, View, Trace, Gather}
 use Rattle.command_words.specs.declared.rows.Takes.{Takes}
 use Rattle.command_words.specs.declared.rows.Takes.TheVariants as takes
 
@@ -29,6 +29,7 @@ name_for Record = codes "record"
 name_for Hunt = codes "hunt"
 name_for Replay = codes "replay"
 name_for View = codes "view"
+name_for Trace = codes "trace"
 name_for Gather = codes "gather"
 
 abbrev pub app_for : Subcommand → App
@@ -37,6 +38,7 @@ app_for Record = recording
 app_for Hunt = hunting
 app_for Replay = replaying
 app_for View = viewing
+app_for Trace = tracing
 app_for Gather = gather
 
 -- a program with these commands behind its own

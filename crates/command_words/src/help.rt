@@ -9,8 +9,9 @@ A recorder logs, for each access of shared memory, only which version of each
 object it met, and writes the log in pieces: lines of hexadecimal digits. The
 pieces of one run may come from several machines, in any order, with repeats,
 and some may be lost. `wreplay gather` joins them into the one log that they
-claim, `wreplay replay` makes the run again, and `wreplay view` stops it where a
-thread has come so far, or where a byte is written.";
+claim, `wreplay replay` makes the run again, `wreplay view` stops it where a
+thread has come so far, or where a byte is written, and `wreplay trace` writes
+a line for each access.";
 
 /// How the program ends.
 pub(crate) const STATUSES: &str = "\
@@ -324,3 +325,54 @@ Refusals (exit status 1), the first of them in this order:
 Example:
   wreplay view examples/lost.wasm examples/lost.plan examples/lost.pieces \\
       --place 1.2 --len 16";
+
+/// What `trace` reads and writes.
+pub(crate) const TRACE_ABOUT: &str = "\
+Replays a run in turns, as `wreplay replay` does, and writes a line for each
+access, in the order of the replay, as in
+
+  1.1 bump+5 store 0 i32 0 -> 1
+
+Of `T.P FUNCTION+N WORD ADDRESS TYPE OLD -> NEW` a line has what goes with its
+access:
+
+T.P         the thread, and the place of the event in that thread
+FUNCTION+N  the function by its name in the module's name section, or by its
+            number, and the instruction in it, numbered from 0
+WORD        what was done: load, store, add, sub, and, or, xor, xchg, cmpxchg
+            or wait
+ADDRESS     where
+TYPE        how wide: i8, i16, i32 or i64
+OLD         the number that stood there
+NEW         the number that stands there then, where it was written
+
+Numbers of 65,536 and more are in hexadecimal. A cmpxchg or a wait that found
+another number than it looked for ends with `not` and that one, a wait that
+sleeps with `waiting`, an access that traps with the trap. Other lines have
+`notify ADDRESS COUNT`, `size PAGES`, `grow BY OLD -> NEW`, or of a thread that
+goes on behind a wait `woken ADDRESS` or `timed out ADDRESS`.
+
+Behind the lines stands what `wreplay view --names` shows of the threads where
+the replay stops: at its end, or where no thread can go on, as entries that are
+missing or clash are passed over.
+
+With `--to T.P` it stops behind that event. `--from T.P` leaves out the lines
+before that event, --only those of other threads, and --bytes those of events
+that touch none of the bytes; the replay is the same.";
+
+/// How `trace` refuses.
+pub(crate) const TRACE_REFUSALS: &str = "\
+Refusals (exit status 1), the first of them in this order:
+  refused 1, 2, 3, 11, 12      MODULE, as `wreplay check` refuses it
+  refused 12 to 17             PLAN, as `wreplay record` refuses it
+  refused 41 to 43, 51, 58     PIECES, as `wreplay replay` refuses them
+  refused 55 Diverged T P      thread T cannot do what the log says at place P
+  refused 56 NoMemory          the replay does not fit into memory
+  refused 23 NoMemory          a file or the text does not fit into memory
+  refused 44 SourceFailed      a file can't be read
+  refused 45 SinkFailed        writing failed; a beginning was written
+
+Example:
+  wreplay trace examples/lost.wasm examples/lost.plan examples/lost.pieces
+  wreplay trace examples/lost.wasm examples/lost.plan examples/lost.pieces \\
+      --bytes 0+4 --from 1.1 --to 0.1";

@@ -14,5 +14,5 @@ mod wanted;
 pub use command::{Asked, requested};
 pub use requests::{
     ByteRange, HuntForm, HuntRequest, RecordOrder, RecordRequest, ReplayRequest, Request, RunRange,
-    ThreadCount, ViewRequest,
+    ThreadCount, TraceRequest, ViewRequest,
 };

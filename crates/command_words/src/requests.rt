@@ -121,6 +121,20 @@ pub struct ViewRequest<'a> {
     pub names: bool,
 }
 
+/// A trace of a replay: which of its events have a line.
+#[derive(Drop)]
+pub struct TraceRequest<'a> {
+    pub replay: ReplayRequest<'a>,
+    /// Events of these threads; of all where none is named.
+    pub only: Vec<u32>,
+    /// Events that touch one of these bytes.
+    pub bytes: Option<ByteRange>,
+    /// From this event of a thread on, by its place.
+    pub from: Option<ThreadCount>,
+    /// Up to this one.
+    pub to: Option<ThreadCount>,
+}
+
 /// What a command line asks for.
 #[derive(Drop)]
 pub enum Request<'a> {
@@ -144,4 +158,6 @@ pub enum Request<'a> {
     },
     /// A view of a replay that stops.
     View(ViewRequest<'a>),
+    /// A trace of a replay, a line for each event.
+    Trace(TraceRequest<'a>),
 }

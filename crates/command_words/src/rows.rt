@@ -14,6 +14,7 @@ pub(crate) enum Subcommand {
     Hunt,
     Replay,
     View,
+    Trace,
     Gather,
 }
 
@@ -24,6 +25,7 @@ pub(crate) static SUBCOMMANDS: &[Subcommand] = &[
     Subcommand::Hunt,
     Subcommand::Replay,
     Subcommand::View,
+    Subcommand::Trace,
     Subcommand::Gather,
 ];
 
@@ -254,6 +256,35 @@ static OF_VIEW: &[ArgumentRow] = &[
     WHY,
 ];
 
+/// The arguments of `trace`.
+static OF_TRACE: &[ArgumentRow] = &[
+    MODULE,
+    PLAN,
+    PIECES,
+    ORDER,
+    ArgumentRow {
+        name: "only",
+        takes: Takes::Value("LIST"),
+        help: "Write lines of these threads alone: numbers joined by commas",
+    },
+    ArgumentRow {
+        name: "bytes",
+        takes: Takes::Value("FROM+LEN"),
+        help: "Write lines of events alone that touch one of LEN bytes from FROM on",
+    },
+    ArgumentRow {
+        name: "from",
+        takes: Takes::Value("T.P"),
+        help: "Write lines from the event at place P of thread T on",
+    },
+    ArgumentRow {
+        name: "to",
+        takes: Takes::Value("T.P"),
+        help: "Stop behind the event at place P of thread T",
+    },
+    WHY,
+];
+
 /// The arguments of `gather`.
 static OF_GATHER: &[ArgumentRow] = &[
     ArgumentRow {
@@ -285,6 +316,7 @@ impl Subcommand {
             Subcommand::Hunt => "hunt",
             Subcommand::Replay => "replay",
             Subcommand::View => "view",
+            Subcommand::Trace => "trace",
             Subcommand::Gather => "gather",
         }
     }
@@ -299,6 +331,7 @@ impl Subcommand {
             Subcommand::Hunt => "Make random runs until one shows a fault, and write its log",
             Subcommand::Replay => "Make a recorded run again, and write what it came to",
             Subcommand::View => "Stop a replay where it matters, and show it",
+            Subcommand::Trace => "Replay a run, and write a line for each access",
             Subcommand::Gather => "Join piece lines into one log, and list it",
         }
     }
@@ -311,6 +344,7 @@ impl Subcommand {
             Subcommand::Hunt => help::HUNT_ABOUT,
             Subcommand::Replay => help::REPLAY_ABOUT,
             Subcommand::View => help::VIEW_ABOUT,
+            Subcommand::Trace => help::TRACE_ABOUT,
             Subcommand::Gather => help::GATHER_ABOUT,
         }
     }
@@ -323,6 +357,7 @@ impl Subcommand {
             Subcommand::Hunt => help::HUNT_REFUSALS,
             Subcommand::Replay => help::REPLAY_REFUSALS,
             Subcommand::View => help::VIEW_REFUSALS,
+            Subcommand::Trace => help::TRACE_REFUSALS,
             Subcommand::Gather => help::GATHER_REFUSALS,
         }
     }
@@ -337,6 +372,7 @@ impl Subcommand {
             Subcommand::Hunt => OF_HUNT,
             Subcommand::Replay => OF_REPLAY,
             Subcommand::View => OF_VIEW,
+            Subcommand::Trace => OF_TRACE,
             Subcommand::Gather => OF_GATHER,
         }
     }

@@ -3,7 +3,7 @@
 ghost use Rattle.std.specs.Prelude.{◌≡◌, ℕ, Bool, Option, codes, map, Some, None, IfOk, OnErr, IfSome, IfNone, option_map};
 ghost use Rattle.clap.specs.Words.{Row, rows_of, first_of};
 ghost use Rattle.clap.specs.Matches.{found_of};
-ghost use Rattle.command_words.specs.Asked.{IsAsked, AreSizesAsked, IsByThreadsAsked, IsFormAsked, IsOrderAsked, IsRecordAsked, IsHuntAsked, IsRangeOfRuns, IsJobsAsked, IsReplayAsked, IsTurnsAsked, IsViewAsked, IsCountAsked, IsRangeAsked, IsBlockOf, order_of, is_text, number_of, pair_of_option, texts_of};
+ghost use Rattle.command_words.specs.Asked.{IsAsked, AreSizesAsked, IsByThreadsAsked, IsFormAsked, IsOrderAsked, IsRecordAsked, IsHuntAsked, IsRangeOfRuns, IsJobsAsked, IsReplayAsked, IsTurnsAsked, IsViewAsked, IsTraceAsked, IsCountAsked, IsRangeAsked, IsBlockOf, order_of, is_text, number_of, pair_of_option, texts_of};
 ghost use Rattle.command_words.specs.declared.requests.Request.{Request};
 ghost use Rattle.command_words.specs.declared.requests.RecordOrder.{RecordOrder};
 ghost use Rattle.command_words.specs.declared.requests.RecordRequest.{RecordRequest};
@@ -13,13 +13,14 @@ ghost use Rattle.command_words.specs.declared.requests.ReplayRequest.{ReplayRequ
 ghost use Rattle.command_words.specs.declared.requests.ThreadCount.{ThreadCount};
 ghost use Rattle.command_words.specs.declared.requests.ByteRange.{ByteRange};
 ghost use Rattle.command_words.specs.declared.requests.ViewRequest.{ViewRequest};
+ghost use Rattle.command_words.specs.declared.requests.TraceRequest.{TraceRequest};
 ghost use Rattle.command_words.specs.declared.wanted.Sizes.{Sizes};
 
 use crate::numbers::{number_up_to, order_in, pair_in, small_number_up_to};
 use crate::report_texts::may_begin_all;
 use crate::requests::{
     ByteRange, HuntForm, HuntRequest, RecordOrder, RecordRequest, ReplayRequest, Request, RunRange,
-    ThreadCount, ViewRequest,
+    ThreadCount, TraceRequest, ViewRequest,
 };
 use clap::ArgMatches;
 use std::alloc::Global;
@@ -81,6 +82,15 @@ const BAD_WRITE: &str = "error: '--write <FROM+LEN>' takes an address and a leng
 const BAD_FROM: &str = "error: '--from <N>' takes a number from 0 to 4294967295\n";
 
 const BAD_LEN: &str = "error: '--len <N>' takes a number from 0 to 4294967295\n";
+
+const BAD_ONLY: &str =
+    "error: '--only <LIST>' takes 1 to 1000000 thread numbers, joined by commas\n";
+
+const BAD_BYTES: &str = "error: '--bytes <FROM+LEN>' takes an address and a length, as 0+4\n";
+
+const BAD_FIRST_EVENT: &str = "error: '--from <T.P>' takes a thread and a place, as 1.0\n";
+
+const BAD_LAST_EVENT: &str = "error: '--to <T.P>' takes a thread and a place, as 1.0\n";
 
 const NO_COMMAND: &str = "error: there is no such command\n";
 
@@ -350,40 +360,46 @@ fn hunt_of<'a>(
     })
 }
 
-/// The order that the values of `replay` have.
-fn order_of(alloc: Global, matches: &ArgMatches<'_>) -> Result<Option<Vec<u32>>, NoMemory>
-    ensures { IfOk result (λ order. option_map (λ o. o.items) order ≡ order_of (first_of (codes "order") (rows_of (found_of matches.now)))) }
+/// The thread numbers that an option lists, none where it is not there.
+fn thread_list(
+    alloc: Global,
+    matches: &ArgMatches<'_>,
+    id: &str,
+) -> Result<Option<Vec<u32>>, NoMemory>
+    ensures { IfOk result (λ list. option_map (λ l. l.items) list ≡ order_of (first_of id.now (rows_of (found_of matches.now)))) }
 {
-    match value(matches, "order") {
+    match value(matches, id) {
         Some(text) => order_in(alloc, text.as_bytes()),
         None => Ok(Some(Vec::new(alloc))),
     }
 }
 
-/// The replay, in that order, that the values of `replay` ask for.
-fn replay_of<'a>(matches: &ArgMatches<'a>, order: Option<Vec<u32>>) -> Wanted<ReplayRequest<'a>>
-    requires { option_map (λ o. o.items) order ≡ order_of (first_of (codes "order") (rows_of (found_of matches.now))) }
-    ensures asked { IfOk result (IsReplayAsked (rows_of (found_of matches.now))) }
-    ensures none { OnErr result ((r : ReplayRequest) → IsReplayAsked (rows_of (found_of matches.now)) r → ⊥) }
+/// The replay that the values of `replay`, `view` or `trace` ask for.
+fn replay_of<'a>(
+    alloc: Global,
+    matches: &ArgMatches<'a>,
+) -> Result<Wanted<ReplayRequest<'a>>, NoMemory>
+    ensures asked { IfOk result (λ wanted. IfOk wanted (IsReplayAsked (rows_of (found_of matches.now)))) }
+    ensures none { IfOk result (λ wanted. OnErr wanted ((r : ReplayRequest) → IsReplayAsked (rows_of (found_of matches.now)) r → ⊥)) }
 {
     let Some(module) = value(matches, "MODULE") else {
-        return Err(MISSING);
+        return Ok(Err(MISSING));
     };
     let Some(plan) = value(matches, "PLAN") else {
-        return Err(MISSING);
+        return Ok(Err(MISSING));
     };
     let Some(pieces) = value(matches, "PIECES") else {
-        return Err(MISSING);
+        return Ok(Err(MISSING));
     };
-    let Some(order) = order else {
-        return Err(BAD_ORDER);
+    let Some(order) = thread_list(alloc, matches, "order")? else {
+        return Ok(Err(BAD_ORDER));
     };
-    Ok(ReplayRequest {
+    Ok(Ok(ReplayRequest {
         module,
         plan,
         pieces,
         order,
-    })
+    }))
 }
 
 /// Whether threads replay at once, as the values of `replay` say; None where they name an order, too.
@@ -470,6 +486,39 @@ fn view_of<'a>(
     })
 }
 
+/// The trace that the values of `trace` ask for.
+fn trace_of<'a>(
+    alloc: Global,
+    matches: &ArgMatches<'a>,
+) -> Result<Wanted<TraceRequest<'a>>, NoMemory>
+    ensures asked { IfOk result (λ wanted. IfOk wanted (IsTraceAsked (rows_of (found_of matches.now)))) }
+    ensures none { IfOk result (λ wanted. OnErr wanted ((t : TraceRequest) → IsTraceAsked (rows_of (found_of matches.now)) t → ⊥)) }
+{
+    let replay = match replay_of(alloc, matches)? {
+        Ok(replay) => replay,
+        Err(wrong) => return Ok(Err(wrong)),
+    };
+    let Some(only) = thread_list(alloc, matches, "only")? else {
+        return Ok(Err(BAD_ONLY));
+    };
+    let Some(bytes) = byte_range(matches, "bytes") else {
+        return Ok(Err(BAD_BYTES));
+    };
+    let Some(from) = thread_count(matches, "from") else {
+        return Ok(Err(BAD_FIRST_EVENT));
+    };
+    let Some(to) = thread_count(matches, "to") else {
+        return Ok(Err(BAD_LAST_EVENT));
+    };
+    Ok(Ok(TraceRequest {
+        replay,
+        only,
+        bytes,
+        from,
+        to,
+    }))
+}
+
 /// What a command of that name with these values asks for.
 pub(crate) fn request_of<'a>(
     alloc: Global,
@@ -501,15 +550,19 @@ pub(crate) fn request_of<'a>(
                 Err(wrong) => Ok(Err(wrong)),
             }
         }
-        "replay" => match replay_of(matches, order_of(alloc, matches)?) {
+        "replay" => match replay_of(alloc, matches)? {
             Ok(replay) => match by_threads(matches) {
                 Some(by_threads) => Ok(Ok(Request::Replay { replay, by_threads })),
                 None => Ok(Err(BAD_TURNS)),
             },
             Err(wrong) => Ok(Err(wrong)),
         },
-        "view" => match view_of(matches, replay_of(matches, order_of(alloc, matches)?)) {
+        "view" => match view_of(matches, replay_of(alloc, matches)?) {
             Ok(view) => Ok(Ok(Request::View(view))),
+            Err(wrong) => Ok(Err(wrong)),
+        },
+        "trace" => match trace_of(alloc, matches)? {
+            Ok(trace) => Ok(Ok(Request::Trace(trace))),
             Err(wrong) => Ok(Err(wrong)),
         },
         _ => Ok(Err(NO_COMMAND)),

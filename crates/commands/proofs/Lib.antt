@@ -4,6 +4,7 @@ pub mod Streams
 pub mod Beginnings
 pub mod Ends
 pub mod Viewed
+pub mod Traced
 pub mod Least
 pub mod Rest
 pub mod Forms

@@ -9,4 +9,5 @@ pub mod Least
 pub mod Hunts
 pub mod Replays
 pub mod Views
+pub mod Traces
 pub mod Answered

@@ -1,8 +1,8 @@
-//! What the commands make of the files that they name: a summary, a recording, a run that is caught, a report, a view.
+//! What the commands make of the files that they name: a summary, a recording, a run that is caught, a report, a view, a trace.
 //!
-//! `check`, `record`, `hunt`, `replay` and `view` answer what is so of the bytes that the files hold (`checked`,
-//! `recorded`, `hunted`, `replayed`, `viewed`), or the first fault in the order of the files (`refused`); `Fault::text`
-//! is its line. Through `Files` they read; `MemoryFiles` are exact ones.
+//! `check`, `record`, `hunt`, `replay`, `view` and `trace` answer what is so of the bytes that the files hold
+//! (`checked`, `recorded`, `hunted`, `replayed`, `viewed`, `traced`), or the first fault in the order of the files
+//! (`refused`); `Fault::text` is its line. Through `Files` they read; `MemoryFiles` are exact ones.
 #![tactic(auto)]
 
 mod check_command;
@@ -24,6 +24,7 @@ mod signs;
 mod stopped;
 mod texts;
 mod thread_runs;
+mod trace_command;
 mod view_command;
 
 pub use check_command::check;
@@ -38,4 +39,5 @@ pub use record_answer::RecordAnswer;
 pub use record_command::record;
 pub use replay_command::replay;
 pub use texts::skipped_text;
+pub use trace_command::trace;
 pub use view_command::view;

@@ -5,3 +5,5 @@ pub mod Counted
 pub mod Rows
 pub mod Stopping
 pub mod Frames
+pub mod TraceLaws
+pub mod TraceRows

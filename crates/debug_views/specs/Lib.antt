@@ -7,3 +7,6 @@ pub mod Report
 pub mod Views
 pub mod Standing
 pub use Rattle.replay_breaks.specs.declared.breaks.Break
+pub mod TraceLines
+pub mod Trace
+pub mod Traces

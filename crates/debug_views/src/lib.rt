@@ -2,7 +2,8 @@
 //!
 //! `report`, `view`, `thread_view`, `versions` and `bytes`: each by its definition; `fault`: the range passes the
 //! memory, or memory is wanting. `view_log`: the view of the world at which the replay stops; on a log below a run's it
-//! has recorded values alone (`shown`).
+//! has recorded values alone (`shown`). `trace_log`: a line for each event on the way, told by worlds that have recorded
+//! values alone, and that view (`traced`).
 #![tactic(auto)]
 
 mod blocks;
@@ -14,6 +15,11 @@ mod report_text;
 mod row;
 mod text;
 mod threads;
+mod trace_choice;
+mod trace_lines;
+mod trace_seen;
+mod trace_watch;
+mod tracing;
 mod values;
 mod viewing;
 
@@ -25,5 +31,7 @@ pub use replay_breaks::Break;
 pub use report_text::{put_row, report};
 pub use text::view;
 pub use threads::{ThreadView, thread_view};
+pub use trace_choice::{AddressRange, TraceChoice};
+pub use tracing::{TraceFault, trace_log};
 pub use values::{bytes, is_in_view, versions};
 pub use viewing::{WasmViewFault, view_log};

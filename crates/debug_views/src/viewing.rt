@@ -38,7 +38,7 @@ pub enum WasmViewFault {
 
 /// Shows a world at which a replay stopped, with where its threads stand if names are asked for. A range that passes
 /// the memory is refused before memory is wanted for names.
-fn show(
+pub(crate) fn show(
     alloc: Global,
     valid: &Valid,
     world: &World<ThreadState<'_>, SharedSpace>,

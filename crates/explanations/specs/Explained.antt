@@ -2,7 +2,7 @@
 -- differs in its key. Its other words are open.
 use Rattle.std.specs.Prelude.{◌≡◌, ◌++◌, ℕ, List, codes, Some}
 use Rattle.command_words.specs.declared.requests.Request.{Request}
-use Rattle.command_words.specs.declared.requests.Request.TheVariants.{Gather, Check, Record, Hunt, Replay, View}
+use Rattle.command_words.specs.declared.requests.Request.TheVariants.{Gather, Check, Record, Hunt, Replay, View, Trace}
 use Rattle.command_words.specs.declared.requests.RecordOrder.{RecordOrder}
 use Rattle.command_words.specs.declared.requests.RecordOrder.TheVariants as order
 use Rattle.binary_decoder.specs.declared.fault.DecodeFault.{DecodeFault}
@@ -34,6 +34,7 @@ module_path (Record r) = r.«module».now
 module_path (Hunt r) = r.«module».now
 module_path (Replay r by_threads) = r.«module».now
 module_path (View v) = v.replay.«module».now
+module_path (Trace t) = t.replay.«module».now
 
 abbrev pub plan_path : Request → List ℕ
 plan_path (Gather skips objects contradictions) = codes "standard input"
@@ -42,6 +43,7 @@ plan_path (Record r) = r.plan.now
 plan_path (Hunt r) = r.plan.now
 plan_path (Replay r by_threads) = r.plan.now
 plan_path (View v) = v.replay.plan.now
+plan_path (Trace t) = t.replay.plan.now
 
 abbrev pub schedule_of : RecordOrder → List ℕ
 schedule_of (order.Schedule path) = path.now
@@ -55,6 +57,7 @@ schedule_path r = codes "--schedule"
 abbrev pub pieces_path : Request → List ℕ
 pieces_path (Replay r by_threads) = r.pieces.now
 pieces_path (View v) = v.replay.pieces.now
+pieces_path (Trace t) = t.replay.pieces.now
 pieces_path r = codes "standard input"
 
 abbrev pub path_of : Request → InputFile → List ℕ

@@ -20,6 +20,7 @@ pub(crate) fn module_path<'a>(request: &Request<'a>) -> &'a str
         Request::Hunt(hunt) => hunt.module,
         Request::Replay { replay, .. } => replay.module,
         Request::View(view) => view.replay.module,
+        Request::Trace(trace) => trace.replay.module,
     }
 }
 
@@ -34,6 +35,7 @@ pub(crate) fn plan_path<'a>(request: &Request<'a>) -> &'a str
         Request::Hunt(hunt) => hunt.plan,
         Request::Replay { replay, .. } => replay.plan,
         Request::View(view) => view.replay.plan,
+        Request::Trace(trace) => trace.replay.plan,
     }
 }
 
@@ -65,6 +67,7 @@ pub(crate) fn pieces_path<'a>(request: &Request<'a>) -> &'a str
     match request {
         Request::Replay { replay, .. } => replay.pieces,
         Request::View(view) => view.replay.pieces,
+        Request::Trace(trace) => trace.replay.pieces,
         _ => STANDARD_INPUT,
     }
 }

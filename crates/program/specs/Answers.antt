@@ -21,6 +21,7 @@ use Rattle.commands.specs.Records.{AnswerAt, IsRecordAnswer, IsRecordRefused}
 use Rattle.commands.specs.Hunts.{IsHuntAnswer, IsHuntRefused}
 use Rattle.commands.specs.Replays.{IsReplayedText, IsReplayRefused}
 use Rattle.commands.specs.Views.{IsViewedText, IsViewRefused}
+use Rattle.commands.specs.Traces.{IsTracedText, IsTraceRefused}
 use Rattle.commands.specs.declared.fault.Fault.{Fault}
 use Rattle.commands.specs.declared.fault.Fault.TheVariants.{Gather, NoMemory, SinkFailed}
 
@@ -127,6 +128,7 @@ module _ (holds : List ℕ → List ℕ → Type 0) (fails : List ℕ → Type 0
   IsDone counted said told (request.Hunt r) text = (answer : AnswerAt) × IsHuntAnswer holds r answer × (text ≡ answer.text) × told answer.told
   IsDone counted said told (request.Replay r by_threads) text = IsReplayedText holds r text × said []
   IsDone counted said told (request.View r) text = IsViewedText holds r text × said []
+  IsDone counted said told (request.Trace r) text = IsTracedText holds r text × said []
 
   -- when each fault is answered
   abbrev pub IsRefused : Request → Fault → Type 0
@@ -137,6 +139,7 @@ module _ (holds : List ℕ → List ℕ → Type 0) (fails : List ℕ → Type 0
   IsRefused (request.Hunt r) fault = IsHuntRefused holds fails r fault
   IsRefused (request.Replay r by_threads) fault = IsReplayRefused holds fails r by_threads fault
   IsRefused (request.View r) fault = IsViewRefused holds fails r fault
+  IsRefused (request.Trace r) fault = IsTraceRefused holds fails r fault
 
   -- Which texts the output took from first to last, and whether it took nothing, or failed.
   module _ (took : List ℕ → Type 0) (unwritten unwritable : Type 0) where

@@ -12,7 +12,9 @@ use crate::refusing::{refuse, refuse_request};
 use arrayvec::ArrayString;
 use byte_streams::{Failed, Sink, Source, write_all};
 use command_words::{Asked, Request, requested};
-use commands::{Fault, Files, RecordAnswer, check, hunt, record, replay, skipped_text, view};
+use commands::{
+    Fault, Files, RecordAnswer, check, hunt, record, replay, skipped_text, trace, view,
+};
 use itoa::Buffer;
 use log::Log;
 use replica::{GatherFault, ListingForm, Skipped, gather, gather_skipping};
@@ -224,6 +226,10 @@ fn perform<L: Log, T: Threads + Wait + Sync, F: Files, R: Source, W: Sink, E: Si
             Err(fault) => Err(fault),
         },
         Request::View(request) => match view(rt, alloc, files, request) {
+            Ok(text) => show(output, text.as_str().as_bytes()),
+            Err(fault) => Err(fault),
+        },
+        Request::Trace(request) => match trace(rt, alloc, files, request) {
             Ok(text) => show(output, text.as_str().as_bytes()),
             Err(fault) => Err(fault),
         },

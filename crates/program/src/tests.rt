@@ -497,6 +497,7 @@ const HELP: &[&[&str]] = &[
     &["wreplay", "hunt", "--help"],
     &["wreplay", "replay", "--help"],
     &["wreplay", "view", "--help"],
+    &["wreplay", "trace", "--help"],
 ];
 
 #[test]

@@ -95,3 +95,14 @@ returns-in-Ok-view-clause-stopped g c =
 pub returns-in-Err-replay-clause-stopped : goal.returns-in-Err-replay-clause-stopped
 returns-in-Err-replay-clause-stopped g c =
     replay_stops _ _ _ _ _ _ _ _ c.args.request.now _ _ c.in-Err-replay.fault c.in-Replay.is c.in-Err-replay.ensures.refused refl
+
+pub returns-in-Ok-trace-clause-done : goal.returns-in-Ok-trace-clause-done
+returns-in-Ok-trace-clause-done g c =
+    let took : List ℕ → Type 0 = λ text. g.W.Sink.takes c.args.output.now text c.show-in-Ok-trace.new.output in
+    let tells : List ℕ → Type 0 = λ text. g.E.Sink.takes c.args.errors.now text c.args.errors.now ⊎ (g.E.Sink.failed c.args.errors.now ≡ g.E.Sink.failed c.args.errors.now + 1) in
+    let none = none_said tells c.args.why (inl (g.met.E.Sink.takes_nothing c.args.errors.now)) in
+    shown_done _ (λ path. Unit {0}) _ _ (Unit {0}) took (Unit {0}) (Unit {0}) c.args.request.now _ c.as_bytes-in-Ok-trace.result.now _ (λ skipped. tells (skipped_text skipped ++ 10 ∷ [])) (IsSaid tells c.args.why) tells c.show-in-Ok-trace.result c.in-Trace.is (search rules) (c.in-Ok-trace.ensures.traced, none) c.show-in-Ok-trace.ensures.shown
+
+pub returns-in-Ok-trace-clause-stopped : goal.returns-in-Ok-trace-clause-stopped
+returns-in-Ok-trace-clause-stopped g c =
+    shown_stops _ _ _ _ _ _ _ _ c.args.request.now _ c.as_bytes-in-Ok-trace.result.now _ c.show-in-Ok-trace.result c.in-Trace.is (search rules) (c.in-Ok-trace.ensures.traced, tt) c.show-in-Ok-trace.ensures.error c.show-in-Ok-trace.ensures.one_failed c.show-in-Ok-trace.ensures.begun

@@ -1,0 +1,174 @@
+//! Who watches a replay and writes a line for each event that is asked for.
+
+ghost use Rattle.std.specs.Prelude.{◌≡◌, ◌++◌, ℕ, [], false, OnOk, IfOk, string_bytes};
+ghost use Rattle.binary_decoder.specs.Kept.{name_of};
+ghost use Rattle.binary_decoder.specs.Names.{function_name};
+ghost use Rattle.event_core.specs.World.{world_of};
+ghost use Rattle.debug_views.specs.Standing.{title};
+ghost use Rattle.debug_views.specs.Trace.{asked_with, standing_text, measured, outcome_in, seen_of, trace_note};
+ghost use Rattle.debug_views.specs.TraceLines.{event_line};
+
+use crate::trace_choice::TraceChoice;
+use crate::trace_lines::{Done, put_number, write_done};
+use crate::trace_seen::{Seen, measured, seen_of};
+use binary_decoder::{FunctionNames, fits_line};
+use event_core::World;
+use integer_machine::{CodePlace, ThreadState};
+use replay_breaks::Watch;
+use std::alloc::Global;
+use std::marker::Model;
+use wasm_types::{NoMemory, Outcome};
+use wasm_world::SharedSpace;
+
+/// What contracts see of what a trace is asked for.
+pub struct AskedTrace {}
+
+impl Model for AskedTrace {
+    ghost use Rattle.std.specs.Prelude.{[], None};
+    ghost use Rattle.debug_views.specs.Trace.{TraceAsked};
+
+    ghost Value = { TraceAsked };
+
+    ghost view = { λ _. record { source = []; only = []; bytes = None; since = None } };
+}
+
+/// Writes a line for each event that is asked for, until memory is wanted for one.
+#[derive(Drop)]
+pub(crate) struct Tracer<'a> {
+    names: &'a FunctionNames,
+    source: &'a [u8],
+    choice: TraceChoice<'a>,
+    seen: Option<Seen>,
+    text: String,
+    is_wanting: bool,
+    ghost named: { (function : ℕ) → name_of names.now function ≡ function_name source.now function },
+}
+
+/// Writes a function: by its name, or by its number where it has none that may be put into a line.
+fn write_title(text: &mut String, names: &FunctionNames, function: u32) -> Result<(), NoMemory>
+    ensures { OnOk result (string_bytes text.new ≡ string_bytes text.old ++ title (name_of names.now function) function) }
+{
+    match names.get(function) {
+        Some(name) if fits_line(name) => text.push_str(name)?,
+        _ => put_number(text, u64::from(function))?,
+    }
+    Ok(())
+}
+
+/// Writes where a thread stands in a function.
+fn write_standing(
+    text: &mut String,
+    names: &FunctionNames,
+    standing: Option<CodePlace>,
+) -> Result<(), NoMemory>
+    ensures { OnOk result (string_bytes text.new ≡ string_bytes text.old ++ standing_text (name_of names.now) standing) }
+{
+    let Some(place) = standing else {
+        return Ok(());
+    };
+    write_title(text, names, place.function)?;
+    text.push_str("+")?;
+    put_number(text, u64::from(place.instruction))?;
+    text.push_str(" ")?;
+    Ok(())
+}
+
+/// How a thread stands in a world.
+fn outcome_in(world: &World<ThreadState<'_>, SharedSpace>, thread: u32) -> Outcome
+    ensures { result ≡ outcome_in (world_of world.now) thread }
+{
+    match world.outcome(thread) {
+        Some(outcome) => outcome,
+        None => Outcome::Running,
+    }
+}
+
+/// Writes the line of an event.
+fn write_event(
+    text: &mut String,
+    names: &FunctionNames,
+    thread: u32,
+    seen: &Seen,
+    world: &World<ThreadState<'_>, SharedSpace>,
+) -> Result<(), NoMemory>
+    ensures { OnOk result (string_bytes text.new ≡ string_bytes text.old ++ event_line thread seen.now.place (standing_text (name_of names.now) seen.now.standing) seen.now.action seen.now.found (measured seen.now.action (world_of world.now)) (outcome_in (world_of world.now) thread)) }
+{
+    put_number(text, u64::from(thread))?;
+    text.push_str(".")?;
+    put_number(text, u64::from(seen.place))?;
+    text.push_str(" ")?;
+    write_standing(text, names, seen.standing)?;
+    let done = Done {
+        action: seen.action,
+        found: seen.found,
+        left: measured(&seen.action, world),
+        outcome: outcome_in(world, thread),
+    };
+    write_done(text, &done)
+}
+
+impl<'a> Tracer<'a> {
+    /// A tracer that wrote nothing so far, by the names in a module's bytes.
+    pub(crate) fn new(
+        alloc: Global,
+        names: &'a FunctionNames,
+        source: &'a [u8],
+        choice: TraceChoice<'a>,
+    ) -> Tracer<'a>
+        requires { (function : ℕ) → name_of names.now function ≡ function_name source.now function }
+        ensures source { result.source.now ≡ source.now }
+        ensures choice { result.choice ≡ choice.entry }
+        ensures text { string_bytes result.text ≡ [] }
+        ensures fine { result.is_wanting ≡ false }
+    {
+        Tracer {
+            names,
+            source,
+            choice,
+            seen: None,
+            text: String::new(alloc),
+            is_wanting: false,
+        }
+    }
+
+    /// What it wrote, or that memory was wanted.
+    pub(crate) fn into_text(self) -> Result<String, NoMemory>
+        ensures { IfOk result (λ text. (self.entry.is_wanting ≡ false) × (text ≡ self.entry.text)) }
+    {
+        let Tracer {
+            text,
+            is_wanting,
+            ..
+        } = self;
+        if is_wanting { Err(NoMemory) } else { Ok(text) }
+    }
+}
+
+impl<'a, 'b> Watch<ThreadState<'b>, SharedSpace> for Tracer<'a> {
+    type Asked = AskedTrace;
+
+    ghost asked = { λ t. asked_with t.source.now t.choice };
+
+    ghost note = { trace_note };
+
+    ghost notes = { λ t. string_bytes t.text };
+
+    ghost whole = { λ t. t.is_wanting ≡ false };
+
+    ghost looked = { λ t w thread. t.seen ≡ seen_of w thread };
+
+    fn look(&mut self, world: &World<ThreadState<'b>, SharedSpace>, thread: u32) {
+        self.seen = seen_of(world, thread);
+    }
+
+    fn take_note(&mut self, world: &World<ThreadState<'b>, SharedSpace>, thread: u32) {
+        let Some(seen) = self.seen else {
+            return;
+        };
+        if self.choice.has(thread, &seen.action, world) {
+            if let Err(_) = write_event(&mut self.text, self.names, thread, &seen, world) {
+                self.is_wanting = true;
+            }
+        }
+    }
+}

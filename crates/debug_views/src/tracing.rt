@@ -1,0 +1,98 @@
+//! The trace of a replay.
+
+ghost use Rattle.std.specs.Prelude.{◌≡◌, ◌++◌, false, OnOk, IfOk, IfErr, string_bytes};
+ghost use Rattle.event_core.specs.World.{world_of};
+ghost use Rattle.wasm_world.specs.Plans.{IsPlanOf};
+ghost use Rattle.wasm_replay.specs.Replays.{HasWorld, IsOfRun};
+ghost use Rattle.debug_views.specs.Traces.{asked_of, IsTraceOfLog, IsNotTraced};
+
+use crate::trace_choice::TraceChoice;
+use crate::trace_watch::Tracer;
+use crate::viewing::show;
+use binary_decoder::FunctionNames;
+use integer_machine::memory_limits;
+use replay_breaks::{Break, Stopped, run_watched};
+use replica::Log;
+use std::alloc::Global;
+use thiserror::Error;
+use wasm_replay::{Standing, Unreplayed, WasmReplay, WasmReplayFault, open_replay};
+use wasm_types::NoMemory;
+use wasm_world::{Plan, Valid};
+
+/// Why a log is not traced.
+#[derive(Clone, Copy, Debug, PartialEq, Eq, Error)]
+pub enum TraceFault {
+    /// Refusals 51, 55, 56 and 58: the log is not replayed to a stop.
+    #[error("{0}")]
+    Replay(Unreplayed),
+    /// Memory for the lines could not be had.
+    #[error("out of memory")]
+    NoMemory,
+}
+
+/// What was traced, with the view behind it.
+fn with_view(tracer: Tracer<'_>, view: &str) -> Result<String, NoMemory>
+    ensures { IfOk result (λ text. (tracer.entry.is_wanting ≡ false) × (string_bytes text ≡ string_bytes tracer.entry.text ++ view.now)) }
+{
+    let mut text = tracer.into_text()?;
+    text.push_str(view)?;
+    Ok(text)
+}
+
+/// Replays a log that was gathered, in this order, up to the first break that holds, or until no thread goes on, and
+/// writes a line for each event on the way that is asked for, and behind them the view of the world at which it stops,
+/// with where its threads stand. Functions have the names in the module's bytes. On a log below that of a run of the
+/// module and plan, each line is told by recorded values alone.
+pub fn trace_log(
+    alloc: Global,
+    valid: &Valid,
+    plan: &Plan,
+    log: &Log,
+    order: &[u32],
+    breaks: &[Break],
+    choice: TraceChoice<'_>,
+) -> Result<String, TraceFault>
+    requires { IsPlanOf valid.now plan.now }
+    ensures of_run { OnOk result (IsOfRun valid.now plan.now log.now) }
+    // There is a world from which the runs of the log begin; of it speak the clauses below.
+    ensures has_world { HasWorld valid.now plan.now log.now }
+    ensures traced { IfOk result (λ text. IsTraceOfLog valid.now plan.now log.now order.now breaks.now (asked_of valid.now choice.entry) (string_bytes text)) }
+    ensures refused { IfErr result (IsNotTraced valid.now plan.now log.now order.now breaks.now) }
+{
+    let mut replay = match open_replay(alloc, valid, plan, log) {
+        Ok(replay) => replay,
+        Err(fault) => {
+            let standing = Standing::unopened(valid, plan, log, fault);
+            return Err(TraceFault::Replay(Unreplayed { fault, standing }));
+        }
+    };
+    let source = valid.module().source.as_slice();
+    let Ok(names) = FunctionNames::new(alloc, source) else {
+        return Err(TraceFault::NoMemory);
+    };
+    let mut tracer = Tracer::new(alloc, &names, source, choice);
+    let stopped = run_watched(alloc, &mut replay, order, breaks, &mut tracer);
+    if let Stopped::Fault(fault) = stopped {
+        let standing = Standing::of(alloc, log, fault, Some(replay.world()));
+        let fault = WasmReplayFault::Replay(fault);
+        return Err(TraceFault::Replay(Unreplayed { fault, standing }));
+    }
+    let block = memory_limits(valid.module(), log.key().profile).block;
+    let Ok(view) = show(
+        alloc,
+        valid,
+        replay.world(),
+        block,
+        stopped,
+        breaks,
+        true,
+        0,
+        0,
+    ) else {
+        return Err(TraceFault::NoMemory);
+    };
+    match with_view(tracer, &view) {
+        Ok(text) => Ok(text),
+        Err(_) => Err(TraceFault::NoMemory),
+    }
+}
