@@ -11,10 +11,14 @@ number before it is the one that the lines before left there. Places of each thr
 --from and --to leave are those lines of the whole trace. Without a number 2,000 recordings are made; it ends with status 1 where one
 differs.
 """
-import os, random, subprocess, sys, tempfile
+import os
+import random
+import subprocess
+import sys
+import tempfile
 
 sys.path.insert(0, os.path.join(os.path.dirname(os.path.abspath(__file__)), "rows"))
-from model import Module, SIZE  # noqa: E402
+from model import Module  # noqa: E402
 
 ADDRESSES = [0, 1, 2, 4, 60, 62, 64, 65528, 65532, 65535, 65536, 65600]
 LOADS = ["i32.load", "i64.load", "i32.load8_u", "i32.atomic.load"]
