@@ -21,7 +21,7 @@ use Rattle.wasm_types.specs.Locals.{locals_in, locals_of}
 
 -- ---- locals
 
-group_exact : (limited : Bool) (used : ℕ) → Exact group (λ (g : LocalGroup). Keeps limited 1024 used g.count) (group_at limited used)
+pub group_exact : (limited : Bool) (used : ℕ) → Exact group (λ (g : LocalGroup). Keeps limited 1024 used g.count) (group_at limited used)
 unfolding group_at
 group_exact limited used =
     as_exact (λ (p : ℕ × ValType). record { count = p.0; val_type = p.1 }) (λ (p : ℕ × ValType). u32 p.0 ⨾ val_type p.1) (λ (p : ℕ × ValType). Keeps limited 1024 used p.0 × Unit {0}) group (λ (g : LocalGroup). Keeps limited 1024 used g.count) (then_at (limited_at limited 1024 used) (λ _. val_type_at))

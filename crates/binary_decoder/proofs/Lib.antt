@@ -12,3 +12,5 @@ pub mod ReadLaws
 pub mod ReadNumbers
 pub mod NameLaws
 mod NameItems
+mod OffsetItems
+mod OffsetTable

@@ -7,7 +7,7 @@ use Rattle.binary_decoder.specs.declared.fault.DecodeFault.TheVariants.{Refused,
 use Rattle.binary_decoder.specs.Names.{with_next, whole_items, part_at, content_of, or_behind, first_content, entry_at, named_or}
 use Rattle.binary_decoder.specs.declared.name_parts.Wanted.{Wanted}
 
-malformed : {X : Type 0} (e : DecodeFault) (r : Reading X) → IsRefusal e → Fails e r → r ≡ Err Malformed
+pub malformed : {X : Type 0} (e : DecodeFault) (r : Reading X) → IsRefusal e → Fails e r → r ≡ Err Malformed
 malformed (Refused offset place cause) r refusal fails = fails
 malformed (TooLarge limit count place) r refusal fails = absurd refusal
 malformed NoMemory r refusal fails = absurd refusal

@@ -9,5 +9,8 @@ pub mod Fault
 pub mod Reading
 pub mod Moves
 pub mod Names
+pub mod Offsets
+pub mod OffsetsExample
+pub mod Passed
 pub mod Kept
 pub mod Printable

@@ -99,7 +99,7 @@ fn branch_table(
 
 /// The instruction at the cursor. Its labels, if it has any, go behind those of the instructions before it.
 #[tactic(auto, unfolding(crate::specs::Reader::instr_at, crate::specs::Reader::operands_at))]
-fn instruction(
+pub(crate) fn instruction(
     alloc: Global,
     cursor: &mut Cursor,
     labels: &mut Vec<u32>,

@@ -17,8 +17,8 @@ const TITLE: &[u8] = b"name";
 /// A part, which is a section of a module or a subsection of its name section: its id, and its content.
 #[derive(Clone, Copy)]
 pub(crate) struct Part<'a> {
-    id: u8,
-    content: Cursor<'a>,
+    pub id: u8,
+    pub content: Cursor<'a>,
 }
 
 /// Which part is looked for.
@@ -40,7 +40,7 @@ pub(crate) fn sections(bytes: &[u8]) -> Cursor<'_>
 
 /// The next part.
 #[tactic(auto, unfolding(crate::specs::Names::part_at))]
-fn next_part<'a>(cursor: &mut Cursor<'a>) -> Result<Part<'a>, DecodeFault>
+pub(crate) fn next_part<'a>(cursor: &mut Cursor<'a>) -> Result<Part<'a>, DecodeFault>
     ensures value { MovesBy (λ p. (p.id, p.content.rest.now)) result cursor.new.rest.now (part_at cursor.old.rest.now) }
     ensures refusal { IfErr result IsRefusal }
 {
