@@ -8,7 +8,7 @@ ghost use Rattle.replay_breaks.specs.Free.{AreFree};
 ghost use Rattle.replay_breaks.specs.Known.{IsLone, AreKnown, GoesAhead};
 
 use crate::breaks::Break;
-use crate::known::{Known, lone};
+use crate::known::{Known, KnownTurns, lone};
 use event_core::World;
 use replay_gate::{OpenWorld, ReadLog, Replay};
 use rw_objects::{Machine, ObjectSpace};
@@ -117,17 +117,16 @@ fn go_together<M: Machine<S> + Drop, S: ObjectSpace, L: ReadLog, O: OpenWorld<M,
     replay: &mut Replay<M, S, L, O>,
     breaks: &[Break],
     most: u32,
-    free: &mut [u32; 16],
-    all: &mut [Known; 16],
+    turns: &mut KnownTurns,
 ) -> u32
-    requires free { AreFree M.code (L.log replay.old.log) (world_of replay.old.world) breaks.now free.old }
-    requires known { AreKnown S.meaning M.code (L.log replay.old.log) (world_of replay.old.world) all.old }
+    requires free { AreFree M.code (L.log replay.old.log) (world_of replay.old.world) breaks.now turns.old.free }
+    requires known { AreKnown S.meaning M.code (L.log replay.old.log) (world_of replay.old.world) turns.old.all }
     ensures log { replay.new.log ≡ replay.old.log }
     ensures opens { replay.new.opens ≡ replay.old.opens }
     ensures rounds { RoundsLead S.meaning M.code (L.log replay.old.log) result (world_of replay.old.world) (world_of replay.new.world) }
     ensures clear { AreClear M.code (world_of replay.old.world) result breaks.now }
-    ensures free { AreFree M.code (L.log replay.old.log) (world_of replay.new.world) breaks.now free.new }
-    ensures known { AreKnown S.meaning M.code (L.log replay.old.log) (world_of replay.new.world) all.new }
+    ensures free { AreFree M.code (L.log replay.old.log) (world_of replay.new.world) breaks.now turns.new.free }
+    ensures known { AreKnown S.meaning M.code (L.log replay.old.log) (world_of replay.new.world) turns.new.all }
 {
     if most == 0 {
         return 0;
@@ -135,8 +134,7 @@ fn go_together<M: Machine<S> + Drop, S: ObjectSpace, L: ReadLog, O: OpenWorld<M,
     let clear = clear_of_all(breaks, replay.world(), most);
     let made = replay.local_rounds(alloc, clear);
     if made > 0 {
-        *free = [0; 16];
-        *all = [Known::Nothing; 16];
+        *turns = KnownTurns::none();
     }
     made
 }
@@ -175,22 +173,21 @@ pub(crate) fn go_ahead<M: Machine<S> + Drop, S: ObjectSpace, L: ReadLog, O: Open
     replay: &mut Replay<M, S, L, O>,
     breaks: &[Break],
     pace: Pace,
-    free: &mut [u32; 16],
-    all: &mut [Known; 16],
+    turns: &mut KnownTurns,
 ) -> Pace
-    requires free { AreFree M.code (L.log replay.old.log) (world_of replay.old.world) breaks.now free.old }
-    requires known { AreKnown S.meaning M.code (L.log replay.old.log) (world_of replay.old.world) all.old }
+    requires free { AreFree M.code (L.log replay.old.log) (world_of replay.old.world) breaks.now turns.old.free }
+    requires known { AreKnown S.meaning M.code (L.log replay.old.log) (world_of replay.old.world) turns.old.all }
     ensures log { replay.new.log ≡ replay.old.log }
     ensures opens { replay.new.opens ≡ replay.old.opens }
     ensures ahead { GoesAhead S.meaning M.code (L.log replay.old.log) (world_of replay.old.world) (world_of replay.new.world) breaks.now }
-    ensures free { AreFree M.code (L.log replay.old.log) (world_of replay.new.world) breaks.now free.new }
-    ensures known { AreKnown S.meaning M.code (L.log replay.old.log) (world_of replay.new.world) all.new }
+    ensures free { AreFree M.code (L.log replay.old.log) (world_of replay.new.world) breaks.now turns.new.free }
+    ensures known { AreKnown S.meaning M.code (L.log replay.old.log) (world_of replay.new.world) turns.new.all }
 {
-    match lone(all, replay.world().count() as u32) {
+    match lone(&turns.all, replay.world().count() as u32) {
         Some(thread) => {
-            go_alone(replay, breaks, thread, free, all);
+            go_alone(replay, breaks, thread, &mut turns.free, &turns.all);
             pace
         }
-        None => pace.behind(go_together(alloc, replay, breaks, pace.tries(), free, all)),
+        None => pace.behind(go_together(alloc, replay, breaks, pace.tries(), turns)),
     }
 }

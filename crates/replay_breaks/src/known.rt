@@ -1,6 +1,6 @@
 //! What is known of the turns of threads that rest.
 
-ghost use Rattle.std.specs.Prelude.{◌≡◌, ◌<◌, ◌≤◌, ℕ, None, Some, IfSome, option_map, slice_get};
+ghost use Rattle.std.specs.Prelude.{◌≡◌, ◌<◌, ◌≤◌, ℕ, None, Some, IfSome, option_map, replicate, slice_get};
 ghost use Rattle.event_core.specs.World.{world_of};
 ghost use Rattle.replay_breaks.specs.Known.{known_later, IsLone, RestsSo, AreKnown};
 ghost use Rattle.replay_breaks.specs.declared.known.Known.TheVariants as known;
@@ -18,6 +18,28 @@ pub enum Known {
     Rests(Taken),
     /// It made no step and did this, before other threads went on.
     Rested(Taken),
+}
+
+/// What is known of the turns that come next.
+#[derive(Clone, Copy, Debug)]
+pub(crate) struct KnownTurns {
+    /// How many steps of each thread are free.
+    pub(crate) free: [u32; 16],
+    /// What is known of each thread's turn.
+    pub(crate) all: [Known; 16],
+}
+
+impl KnownTurns {
+    /// No step is known to be free, and nothing is known of any thread.
+    pub(crate) fn none() -> KnownTurns
+        ensures free { result.free ≡ replicate 16 0 }
+        ensures all { result.all ≡ replicate 16 known.Nothing }
+    {
+        KnownTurns {
+            free: [0; 16],
+            all: [Known::Nothing; 16],
+        }
+    }
 }
 
 /// What is known behind steps of other threads.

@@ -15,7 +15,7 @@ ghost use Rattle.replay_breaks.specs.Stops.{is_step, is_held, is_passed_over, is
 use crate::ahead::{Pace, go_ahead};
 use crate::breaks::{Break, Stopped};
 use crate::free::{free_steps, goes_freely};
-use crate::known::{Known, all_known_later, known_turn};
+use crate::known::{Known, KnownTurns, all_known_later, known_turn};
 use crate::marks::{Marks, marks_of, marks_of_item};
 use crate::watch::{Nobody, Watch};
 use event_core::World;
@@ -224,21 +224,20 @@ fn turn_slowly<M: Machine<S>, S: ObjectSpace, L: ReadLog, O: OpenWorld<M, S>, W:
     reader: &mut L::Reader,
     thread: u32,
     breaks: &[Break],
-    free: &mut [u32; 16],
-    all: &mut [Known; 16],
+    turns: &mut KnownTurns,
     watch: &mut W,
 ) -> Result<Taken, Stopped>
     requires reads { L.reads replay.old.log reader.old }
     requires few { thread < 16 }
-    requires free { AreFree M.code (L.log replay.old.log) (world_of replay.old.world) breaks.now free.old }
-    requires known { AreKnown S.meaning M.code (L.log replay.old.log) (world_of replay.old.world) all.old }
-    requires nothing { slice_get all.old thread ≡ Some known.Nothing }
+    requires free { AreFree M.code (L.log replay.old.log) (world_of replay.old.world) breaks.now turns.old.free }
+    requires known { AreKnown S.meaning M.code (L.log replay.old.log) (world_of replay.old.world) turns.old.all }
+    requires nothing { slice_get turns.old.all thread ≡ Some known.Nothing }
     ensures reads { L.reads replay.new.log reader.new }
     ensures log { replay.new.log ≡ replay.old.log }
     ensures opens { replay.new.opens ≡ replay.old.opens }
     ensures takes { IfOk result (TurnTakes S.meaning M.code (L.log replay.old.log) (world_of replay.old.world) thread breaks.now (world_of replay.new.world)) }
-    ensures free { IfOk result (λ taken. AreFree M.code (L.log replay.old.log) (world_of replay.new.world) breaks.now free.new) }
-    ensures known { IfOk result (λ taken. AreKnown S.meaning M.code (L.log replay.old.log) (world_of replay.new.world) all.new) }
+    ensures free { IfOk result (λ taken. AreFree M.code (L.log replay.old.log) (world_of replay.new.world) breaks.now turns.new.free) }
+    ensures known { IfOk result (λ taken. AreKnown S.meaning M.code (L.log replay.old.log) (world_of replay.new.world) turns.new.all) }
     ensures stops { IfErr result (TurnStopsAt S.meaning M.code (L.log replay.old.log) (world_of replay.old.world) thread breaks.now (world_of replay.new.world)) }
     ensures noted { IfOk result (λ taken. HasNoted W.asked W.whole W.notes watch.old watch.new (note_of_turn S.meaning M.code (W.note (W.asked watch.old)) (L.log replay.old.log) (world_of replay.old.world) thread)) }
     ensures stopped { IfErr result (λ stopped. HasNoted W.asked W.whole W.notes watch.old watch.new (noted_at stopped (note_of_turn S.meaning M.code (W.note (W.asked watch.old)) (L.log replay.old.log) (world_of replay.old.world) thread))) }
@@ -247,16 +246,16 @@ fn turn_slowly<M: Machine<S>, S: ObjectSpace, L: ReadLog, O: OpenWorld<M, S>, W:
     match take_turn(alloc, replay, reader, thread, breaks, watch) {
         Err(stopped) => Err(stopped),
         Ok(Taken::Step) => {
-            free[at] = free_steps(replay, thread, breaks);
-            all_known_later(all);
+            turns.free[at] = free_steps(replay, thread, breaks);
+            all_known_later(&mut turns.all);
             Ok(Taken::Step)
         }
         Ok(Taken::Done) => {
-            all[at] = Known::Rests(Taken::Done);
+            turns.all[at] = Known::Rests(Taken::Done);
             Ok(Taken::Done)
         }
         Ok(Taken::Held) => {
-            all[at] = Known::Rests(Taken::Held);
+            turns.all[at] = Known::Rests(Taken::Held);
             Ok(Taken::Held)
         }
     }
@@ -271,19 +270,18 @@ fn turn_on<M: Machine<S>, S: ObjectSpace, L: ReadLog, O: OpenWorld<M, S>, W: Wat
     reader: &mut L::Reader,
     thread: u32,
     breaks: &[Break],
-    free: &mut [u32; 16],
-    all: &mut [Known; 16],
+    turns: &mut KnownTurns,
     watch: &mut W,
 ) -> Result<Taken, Stopped>
     requires reads { L.reads replay.old.log reader.old }
-    requires free { AreFree M.code (L.log replay.old.log) (world_of replay.old.world) breaks.now free.old }
-    requires known { AreKnown S.meaning M.code (L.log replay.old.log) (world_of replay.old.world) all.old }
+    requires free { AreFree M.code (L.log replay.old.log) (world_of replay.old.world) breaks.now turns.old.free }
+    requires known { AreKnown S.meaning M.code (L.log replay.old.log) (world_of replay.old.world) turns.old.all }
     ensures reads { L.reads replay.new.log reader.new }
     ensures log { replay.new.log ≡ replay.old.log }
     ensures opens { replay.new.opens ≡ replay.old.opens }
     ensures takes { IfOk result (TurnTakes S.meaning M.code (L.log replay.old.log) (world_of replay.old.world) thread breaks.now (world_of replay.new.world)) }
-    ensures free { IfOk result (λ taken. AreFree M.code (L.log replay.old.log) (world_of replay.new.world) breaks.now free.new) }
-    ensures known { IfOk result (λ taken. AreKnown S.meaning M.code (L.log replay.old.log) (world_of replay.new.world) all.new) }
+    ensures free { IfOk result (λ taken. AreFree M.code (L.log replay.old.log) (world_of replay.new.world) breaks.now turns.new.free) }
+    ensures known { IfOk result (λ taken. AreKnown S.meaning M.code (L.log replay.old.log) (world_of replay.new.world) turns.new.all) }
     ensures stops { IfErr result (TurnStopsAt S.meaning M.code (L.log replay.old.log) (world_of replay.old.world) thread breaks.now (world_of replay.new.world)) }
     ensures noted { IfOk result (λ taken. HasNoted W.asked W.whole W.notes watch.old watch.new (note_of_turn S.meaning M.code (W.note (W.asked watch.old)) (L.log replay.old.log) (world_of replay.old.world) thread)) }
     ensures stopped { IfErr result (λ stopped. HasNoted W.asked W.whole W.notes watch.old watch.new (noted_at stopped (note_of_turn S.meaning M.code (W.note (W.asked watch.old)) (L.log replay.old.log) (world_of replay.old.world) thread))) }
@@ -291,16 +289,24 @@ fn turn_on<M: Machine<S>, S: ObjectSpace, L: ReadLog, O: OpenWorld<M, S>, W: Wat
     if thread >= 16 {
         return Ok(Taken::Done);
     }
-    match known_turn(replay, reader, thread, all) {
+    match known_turn(replay, reader, thread, &mut turns.all) {
         Some(taken) => Ok(taken),
-        None => match go_on(alloc, replay, reader, thread, breaks, free, watch) {
+        None => match go_on(
+            alloc,
+            replay,
+            reader,
+            thread,
+            breaks,
+            &mut turns.free,
+            watch,
+        ) {
             Err(stopped) => Err(stopped),
             Ok(Ready::Local) => Ok(Taken::Step),
             Ok(Ready::Event) => {
-                all_known_later(all);
+                all_known_later(&mut turns.all);
                 Ok(Taken::Step)
             }
-            Ok(Ready::Not) => turn_slowly(alloc, replay, reader, thread, breaks, free, all, watch),
+            Ok(Ready::Not) => turn_slowly(alloc, replay, reader, thread, breaks, turns, watch),
         },
     }
 }
@@ -320,12 +326,9 @@ fn run_by<M: Machine<S> + Drop, S: ObjectSpace, L: ReadLog, O: OpenWorld<M, S>, 
     ensures stops { StopsAt S.meaning M.code (L.log replay.old.log) (world_of replay.old.world) order.now breaks.now (world_of replay.new.world) result }
     ensures noted { HasNotedTurns S.meaning M.code (W.note (W.asked watch.old)) (L.log replay.old.log) (world_of replay.old.world) order.now W.asked W.whole W.notes watch.old watch.new (world_of replay.new.world) }
 {
-    let mut free = [0u32; 16];
-    let mut all = [Known::Nothing; 16];
+    let mut turns = KnownTurns::none();
     for thread in order {
-        match turn_on(
-            alloc, replay, reader, *thread, breaks, &mut free, &mut all, watch,
-        ) {
+        match turn_on(alloc, replay, reader, *thread, breaks, &mut turns, watch) {
             Ok(_) => {}
             Err(stopped) => return stopped,
         }
@@ -337,9 +340,7 @@ fn run_by<M: Machine<S> + Drop, S: ObjectSpace, L: ReadLog, O: OpenWorld<M, S>, 
     let mut pace = Pace::new();
     while made || next < count {
         if next < count {
-            match turn_on(
-                alloc, replay, reader, next, breaks, &mut free, &mut all, watch,
-            ) {
+            match turn_on(alloc, replay, reader, next, breaks, &mut turns, watch) {
                 Ok(taken) => {
                     made = either(made, taken.is_step());
                     held = either(held, taken.is_held());
@@ -348,7 +349,7 @@ fn run_by<M: Machine<S> + Drop, S: ObjectSpace, L: ReadLog, O: OpenWorld<M, S>, 
             }
             next += 1;
         } else {
-            pace = go_ahead(alloc, replay, breaks, pace, &mut free, &mut all);
+            pace = go_ahead(alloc, replay, breaks, pace, &mut turns);
             next = 0;
             made = false;
             held = false;

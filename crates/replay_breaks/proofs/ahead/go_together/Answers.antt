@@ -21,7 +21,7 @@ returns-else-made-gt0-clause-clear g c = λ j b is.
 pub returns-else-made-gt0-clause-free : goal.returns-else-made-gt0-clause-free
 returns-else-made-gt0-clause-free g c =
     let none : c.local_rounds-made.result ≡ 0 = let h = c.if-made-gt0.false in omega (arith, h) in
-    free_still g.S.ObjectSpace.meaning g.M.Machine.code (g.L.ReadLog.log c.args.replay.now.log) c.args.breaks.now c.args.free.now c.local_rounds-made.result (world_of c.args.replay.now.world) (world_of c.local_rounds-made.new.self.world)
+    free_still g.S.ObjectSpace.meaning g.M.Machine.code (g.L.ReadLog.log c.args.replay.now.log) c.args.breaks.now c.args.turns.now.free c.local_rounds-made.result (world_of c.args.replay.now.world) (world_of c.local_rounds-made.new.self.world)
     none c.local_rounds-made.ensures.rounds c.requires.free
 
 pub returns-else-made-gt0-clause-known : goal.returns-else-made-gt0-clause-known
@@ -30,4 +30,4 @@ returns-else-made-gt0-clause-known g c =
     let log = g.L.ReadLog.log c.args.replay.now.log in
     let w = world_of c.args.replay.now.world in
     let v = world_of c.local_rounds-made.new.self.world in
-    known_same g.S.ObjectSpace.meaning g.M.Machine.code log w v c.args.all.now (stays_still g.S.ObjectSpace.meaning g.M.Machine.code log c.local_rounds-made.result w v none c.local_rounds-made.ensures.rounds) c.requires.known
+    known_same g.S.ObjectSpace.meaning g.M.Machine.code log w v c.args.turns.now.all (stays_still g.S.ObjectSpace.meaning g.M.Machine.code log c.local_rounds-made.result w v none c.local_rounds-made.ensures.rounds) c.requires.known

@@ -24,8 +24,10 @@ loop-thread-init g c =
     let start = world_of c.args.replay.now.world in
     record {
       behind = record { at = refl; goes_on = λ i l. absurd (omega (arith, l)); no_break = λ i l. absurd (omega (arith, l)) };
-      free = all_none_free g.M.Machine.code (g.L.ReadLog.log c.args.replay.now.log) c.args.breaks.now start 16;
-      known = all_nothing g.S.ObjectSpace.meaning g.M.Machine.code (g.L.ReadLog.log c.args.replay.now.log) start 16;
+      free = subst (AreFree g.M.Machine.code (g.L.ReadLog.log c.args.replay.now.log) start c.args.breaks.now) (sym c.none-turns.ensures.free)
+          (all_none_free g.M.Machine.code (g.L.ReadLog.log c.args.replay.now.log) c.args.breaks.now start 16);
+      known = subst (AreKnown g.S.ObjectSpace.meaning g.M.Machine.code (g.L.ReadLog.log c.args.replay.now.log) start) (sym c.none-turns.ensures.all)
+          (all_nothing g.S.ObjectSpace.meaning g.M.Machine.code (g.L.ReadLog.log c.args.replay.now.log) start 16);
       reads = c.requires;
       log = refl;
       opens = refl;
@@ -83,8 +85,8 @@ loop-thread-preserved g c =
     (subst (λ r. NoneHits space code (g.L.ReadLog.log r) w t breaks) inv.log c.in-Ok.ensures.takes.none)
     (subst (λ r. v ≡ world_after_turn space code w t (turn_of space code (g.L.ReadLog.log r) w t)) inv.log c.in-Ok.ensures.takes.world) in
     record {
-      free = subst (λ y. AreFree code (g.L.ReadLog.log y) v breaks c.turn_on.new.free) inv.log c.in-Ok.ensures.free;
-      known = subst (λ y. AreKnown space code (g.L.ReadLog.log y) v c.turn_on.new.all) inv.log c.in-Ok.ensures.known;
+      free = subst (λ y. AreFree code (g.L.ReadLog.log y) v breaks c.turn_on.new.turns.free) inv.log c.in-Ok.ensures.free;
+      known = subst (λ y. AreKnown space code (g.L.ReadLog.log y) v c.turn_on.new.turns.all) inv.log c.in-Ok.ensures.known;
       reads = c.turn_on.ensures.reads;
       behind = subst (λ j. IsBehind space code log start order breaks j v) (sym (add-one k)) on;
       noted = subst (λ j. HasNoted g.W.Watch.asked g.W.Watch.whole g.W.Watch.notes c.args.watch.now c.turn_on.new.watch (notes space code (g.W.Watch.note (g.W.Watch.asked c.args.watch.now)) log start order j)) (sym (add-one k))
@@ -213,8 +215,8 @@ loop-made-preserved-then-next-count-2 g c =
       reads = c.turn_on-then-next-count-2.ensures.reads;
       log = c.turn_on-then-next-count-2.ensures.log ∙ inv.log;
       opens = c.turn_on-then-next-count-2.ensures.opens ∙ inv.opens;
-      free = subst (λ y. AreFree code (g.L.ReadLog.log y) v breaks c.turn_on-then-next-count-2.new.free) inv.log c.in-Ok-turn_on.ensures.free;
-      known = subst (λ y. AreKnown space code (g.L.ReadLog.log y) v c.turn_on-then-next-count-2.new.all) inv.log c.in-Ok-turn_on.ensures.known;
+      free = subst (λ y. AreFree code (g.L.ReadLog.log y) v breaks c.turn_on-then-next-count-2.new.turns.free) inv.log c.in-Ok-turn_on.ensures.free;
+      known = subst (λ y. AreKnown space code (g.L.ReadLog.log y) v c.turn_on-then-next-count-2.new.turns.all) inv.log c.in-Ok-turn_on.ensures.known;
     }
 
 pub loop-made-smaller : goal.loop-made-smaller
@@ -254,8 +256,8 @@ loop-made-preserved g c =
           (subst (λ r. RoundsLead space code (g.L.ReadLog.log r) ahead.rounds w v) inv.log ahead.leads) ahead.clear begun;
       count = inv.count;
       reads = subst (λ y. g.L.ReadLog.reads y c.loop-made.reader) (sym c.go_ahead-pace.ensures.log) inv.reads;
-      free = subst (λ y. AreFree code (g.L.ReadLog.log y) v breaks c.go_ahead-pace.new.free) inv.log c.go_ahead-pace.ensures.free;
-      known = subst (λ y. AreKnown space code (g.L.ReadLog.log y) v c.go_ahead-pace.new.all) inv.log c.go_ahead-pace.ensures.known;
+      free = subst (λ y. AreFree code (g.L.ReadLog.log y) v breaks c.go_ahead-pace.new.turns.free) inv.log c.go_ahead-pace.ensures.free;
+      known = subst (λ y. AreKnown space code (g.L.ReadLog.log y) v c.go_ahead-pace.new.turns.all) inv.log c.go_ahead-pace.ensures.known;
       log = c.go_ahead-pace.ensures.log ∙ inv.log;
       opens = c.go_ahead-pace.ensures.opens ∙ inv.opens;
     }

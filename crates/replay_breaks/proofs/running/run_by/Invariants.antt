@@ -14,8 +14,8 @@ invariant-loop-thread g l = record {
   behind : IsBehind g.S.ObjectSpace.meaning g.M.Machine.code (g.L.ReadLog.log l.fn.replay.log) (world_of l.fn.replay.world) l.order l.breaks l.thread-index (world_of l.replay.world);
   noted : HasNoted g.W.Watch.asked g.W.Watch.whole g.W.Watch.notes l.fn.watch l.watch
       (notes g.S.ObjectSpace.meaning g.M.Machine.code (g.W.Watch.note (g.W.Watch.asked l.fn.watch)) (g.L.ReadLog.log l.fn.replay.log) (world_of l.fn.replay.world) l.order l.thread-index);
-  free : AreFree g.M.Machine.code (g.L.ReadLog.log l.fn.replay.log) (world_of l.replay.world) l.breaks l.free;
-  known : AreKnown g.S.ObjectSpace.meaning g.M.Machine.code (g.L.ReadLog.log l.fn.replay.log) (world_of l.replay.world) l.all;
+  free : AreFree g.M.Machine.code (g.L.ReadLog.log l.fn.replay.log) (world_of l.replay.world) l.breaks l.turns.free;
+  known : AreKnown g.S.ObjectSpace.meaning g.M.Machine.code (g.L.ReadLog.log l.fn.replay.log) (world_of l.replay.world) l.turns.all;
   reads : g.L.ReadLog.reads l.replay.log l.reader;
   log : l.replay.log ≡ l.fn.replay.log;
   opens : l.replay.opens ≡ l.fn.replay.opens;
@@ -26,8 +26,8 @@ invariant-loop-made g l = record {
   round : NotedRound g.S.ObjectSpace.meaning g.M.Machine.code (g.L.ReadLog.log l.fn.replay.log) (world_of l.fn.replay.world) l.order l.breaks
       (g.W.Watch.note (g.W.Watch.asked l.fn.watch)) (HasNoted g.W.Watch.asked g.W.Watch.whole g.W.Watch.notes l.fn.watch l.watch) l.next l.made l.held (world_of l.replay.world);
   count : l.count ≡ length (world_of l.fn.replay.world).threads;
-  free : AreFree g.M.Machine.code (g.L.ReadLog.log l.fn.replay.log) (world_of l.replay.world) l.breaks l.free;
-  known : AreKnown g.S.ObjectSpace.meaning g.M.Machine.code (g.L.ReadLog.log l.fn.replay.log) (world_of l.replay.world) l.all;
+  free : AreFree g.M.Machine.code (g.L.ReadLog.log l.fn.replay.log) (world_of l.replay.world) l.breaks l.turns.free;
+  known : AreKnown g.S.ObjectSpace.meaning g.M.Machine.code (g.L.ReadLog.log l.fn.replay.log) (world_of l.replay.world) l.turns.all;
   reads : g.L.ReadLog.reads l.replay.log l.reader;
   log : l.replay.log ≡ l.fn.replay.log;
   opens : l.replay.opens ≡ l.fn.replay.opens;
