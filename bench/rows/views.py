@@ -89,9 +89,9 @@ def event_line(before, after, n, kind):
 
 def touches(before, n, kind, start, length):
     word, addr, size, _, _ = action(before, n, kind)
-    return addr is not None and addr < start + length and start < addr + (size or 4)
+    return addr is not None and max(addr, start) < min(addr + (size or 4), start + length)
 
-def trace(world, entries, ends, order, only=(), held=None, since=None, to=None):
+def trace(world, entries, ends, order, only=(), held=(), since=None, to=None):
     """A line for each event on the way to where a replay stops, and the view of that world."""
     text, turns, quiet, stopped = '', list(order), 0, None
     while stopped is None:
@@ -105,7 +105,7 @@ def trace(world, entries, ends, order, only=(), held=None, since=None, to=None):
         quiet = 0
         if not made: continue
         passed = since is None or since[0] < len(world.threads) and len(world.threads[since[0]].entries) > since[1]
-        if passed and (not only or n in only) and (held is None or touches(before, n, made[0][0], *held)):
+        if passed and (not only or n in only) and (not held or any(touches(before, n, made[0][0], *range_) for range_ in held)):
             text += event_line(before, world, n, made[0][0])
         if to and n == to[0] and len(world.threads[n].entries) == to[1] + 1: stopped = 'stopped place'
     done = all((t.steps, len(t.entries), world.outcome(t)) == ends.get(t.n) for t in world.threads)

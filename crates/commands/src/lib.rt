@@ -1,4 +1,4 @@
-//! What the commands make of the files that they name: a summary, a recording, a run that is caught, a report, a view, a trace.
+//! What the commands make of the files that they name: summaries, recordings, caught runs, reports, views and traces.
 //!
 //! `check`, `record`, `hunt`, `replay`, `view` and `trace` answer what is so of the bytes that the files hold
 //! (`checked`, `recorded`, `hunted`, `replayed`, `viewed`, `traced`), or the first fault in the order of the files

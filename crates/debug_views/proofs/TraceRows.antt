@@ -1,5 +1,5 @@
 -- Lines of events, worked out.
-use Rattle.std.proofs.Common.{◌≡◌, [], ◌∷◌, ◌++◌, Some, None, refl}
+use Rattle.std.proofs.Common.{◌≡◌, true, false, [], ◌∷◌, ◌++◌, Some, None, refl}
 use Rattle.std.specs.Prelude.{codes}
 use Rattle.std.specs.Fmt.{digits}
 use Rattle.wasm_types.specs.declared.value.ValType.TheVariants.{I32, I64}
@@ -11,6 +11,7 @@ use Rattle.wasm_types.specs.declared.instruction.RmwOp.TheVariants.{Add}
 use Rattle.wasm_types.specs.declared.operation.Action.TheVariants as act
 use Rattle.wasm_types.specs.declared.outcome.Outcome.TheVariants.{Running, Waiting, Trapped}
 use Rattle.wasm_types.specs.declared.trap.Trap.TheVariants.{OutOfBounds}
+use Rattle.debug_views.specs.Trace.{do_meet, is_of_ranges}
 use Rattle.debug_views.specs.TraceLines.{event_line}
 
 -- a store of a large number over 0
@@ -42,3 +43,18 @@ notified = refl
 pub out_of_bounds : event_line 3 2 (codes "get+1 ") (act.Load (load.Narrow I32Of8 Unsigned) 65536) None None (Trapped OutOfBounds) ≡ codes "3.2 get+1 load 65536 i8 trap 4 out of bounds" ++ 10 ∷ []
 unfolding digits
 out_of_bounds = refl
+
+-- a range has the last of eight bytes, and none behind it
+pub last_met : do_meet (record { from = 11; len = 1 }) (4, 8) ≡ true
+last_met = refl
+
+pub past_not_met : do_meet (record { from = 12; len = 4294967295 }) (4, 8) ≡ false
+past_not_met = refl
+
+-- a range of no bytes has none
+pub none_met : do_meet (record { from = 6; len = 0 }) (4, 8) ≡ false
+none_met = refl
+
+-- a second range has a byte of a wait
+pub second_met : is_of_ranges (record { from = 0; len = 4 } ∷ record { from = 131; len = 1 } ∷ []) (act.Wait I32 2 128 5) ≡ true
+second_met = refl

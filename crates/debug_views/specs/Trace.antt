@@ -1,5 +1,5 @@
 -- Traces: a line for each event of a replay that is asked for.
-use Rattle.std.specs.Prelude.{ℕ, ◌+◌, Bool, true, false, ◌&&◌, ◌||◌, ◌==◌, nat_lt, nat_le, cond, List, [], ◌∷◌, ◌++◌, codes, length, Option, Some, None, option_map, slice_get}
+use Rattle.std.specs.Prelude.{ℕ, ◌+◌, Bool, true, false, ◌&&◌, ◌||◌, ◌==◌, nat_lt, nat_le, min, max, cond, List, [], ◌∷◌, ◌++◌, codes, length, Option, Some, None, option_map, slice_get, unwrap_or}
 use Rattle.std.specs.Int.{Width, byte_len}
 use Rattle.std.specs.List.{list_any}
 use Rattle.std.specs.Fmt.{decimal}
@@ -110,28 +110,38 @@ seen_of w t = seen_by w (slice_get w.threads t) (action_of w t)
 abbrev pub is_of_threads : List ℕ → ℕ → Bool
 is_of_threads only t = length only == 0 || list_any (λ m. m == t) only
 
+-- the address of the waiters that an action concerns
+abbrev pub waiters_at : Action → Option ℕ
+waiters_at (act.Load load address) = None
+waiters_at (act.Store access address operand) = None
+waiters_at (act.Rmw op access address operand) = None
+waiters_at (act.CompareExchange access address expected replacement) = None
+waiters_at act.Size = None
+waiters_at (act.Grow by) = None
+waiters_at (act.Wait width thread address expected) = None
+waiters_at (act.Notify address count) = Some address
+waiters_at (act.Resume thread address) = Some address
+waiters_at (act.TimeOut thread address) = Some address
+
+abbrev pub bytes_by : Option (Access × ℕ) → Option ℕ → Option (ℕ × ℕ)
+bytes_by None waiters = option_map (λ address. (address, 4)) waiters
+bytes_by (Some a) waiters = Some (a.1, byte_len (access_width a.0))
+
 -- the address of an action, and how many bytes it concerns there
 abbrev pub bytes_of_action : Action → Option (ℕ × ℕ)
-bytes_of_action (act.Load load address) = Some (address, byte_len (access_width (load_access load)))
-bytes_of_action (act.Store access address operand) = Some (address, byte_len (access_width access))
-bytes_of_action (act.Rmw op access address operand) = Some (address, byte_len (access_width access))
-bytes_of_action (act.CompareExchange access address expected replacement) = Some (address, byte_len (access_width access))
-bytes_of_action act.Size = None
-bytes_of_action (act.Grow by) = None
-bytes_of_action (act.Wait width thread address expected) = Some (address, byte_len (access_width (Whole width)))
-bytes_of_action (act.Notify address count) = Some (address, 4)
-bytes_of_action (act.Resume thread address) = Some (address, 4)
-bytes_of_action (act.TimeOut thread address) = Some (address, 4)
+bytes_of_action action = bytes_by (accessed action) (waiters_at action)
 
--- two ranges of bytes have one in common
-abbrev pub do_meet : AddressRange → Option (ℕ × ℕ) → Bool
-do_meet r None = false
-do_meet r (Some b) = nat_lt b.0 (r.from + r.len) && nat_lt r.from (b.0 + b.1)
+-- a range has one of so many bytes from an address on
+abbrev pub do_meet : AddressRange → ℕ × ℕ → Bool
+do_meet r b = nat_lt (max r.from b.0) (min (r.from + r.len) (b.0 + b.1))
 
--- any action, where no range is named
-abbrev pub is_of_range : Option AddressRange → Action → Bool
-is_of_range None action = true
-is_of_range (Some r) action = do_meet r (bytes_of_action action)
+abbrev pub is_met : List AddressRange → Option (ℕ × ℕ) → Bool
+is_met ranges None = false
+is_met ranges (Some b) = list_any (λ r. do_meet r b) ranges
+
+-- on a byte of one of the ranges; any action, where none is named
+abbrev pub is_of_ranges : List AddressRange → Action → Bool
+is_of_ranges ranges action = length ranges == 0 || is_met ranges (bytes_of_action action)
 
 abbrev pub has_passed : Option ℕ → ℕ → Bool
 has_passed None place = false
@@ -142,19 +152,24 @@ abbrev pub is_since : Option EventAt → WasmWorld → Bool
 is_since None v = true
 is_since (Some e) v = has_passed (option_map (λ (th : ThreadAt CodeThread). th.places) (slice_get v.threads e.thread)) e.place
 
--- what a trace is asked for: the names in a module's bytes, and events of these threads, on one of these bytes, from
--- this one on
+-- what a trace is asked for: the names in a module's bytes, and events of these threads, on a byte of one of these
+-- ranges, from this one on
 pub record TraceAsked : Type 0 where
   pub source : List ℕ
   pub only : List ℕ
-  pub bytes : Option AddressRange
+  pub bytes : List AddressRange
   pub since : Option EventAt
 
 abbrev pub asked_with : List ℕ → TraceChoice → TraceAsked
-asked_with source choice = record { source = source; only = choice.only.now; bytes = choice.bytes; since = choice.since }
+asked_with source choice = record { source = source; only = choice.only.now; bytes = choice.bytes.items; since = choice.since }
 
-abbrev pub is_chosen : List ℕ → Option AddressRange → Option EventAt → ℕ → Action → WasmWorld → Bool
-is_chosen only bytes since t action v = is_of_threads only t && (is_of_range bytes action && is_since since v)
+abbrev pub is_chosen : List ℕ → List AddressRange → Option EventAt → ℕ → Action → WasmWorld → Bool
+is_chosen only bytes since t action v = is_of_threads only t && (is_of_ranges bytes action && is_since since v)
+
+-- what is seen of thread t, where its thread and its action are asked for
+abbrev pub seen_if : List ℕ → List AddressRange → ℕ → Option Seen → Option Seen
+seen_if only bytes t None = None
+seen_if only bytes t (Some s) = cond (is_of_threads only t && is_of_ranges bytes s.action) (Some s) None
 
 -- ---- lines
 
@@ -163,13 +178,9 @@ abbrev pub standing_text : (ℕ → Option (List ℕ)) → Option CodePlace → 
 standing_text names None = []
 standing_text names (Some p) = title (names p.function) p.function ++ (codes "+" ++ (decimal p.instruction ++ 32 ∷ []))
 
-abbrev pub outcome_or_running : Option Outcome → Outcome
-outcome_or_running None = Running
-outcome_or_running (Some outcome) = outcome
-
 -- how a thread stands in a world
 abbrev pub outcome_in : WasmWorld → ℕ → Outcome
-outcome_in v t = outcome_or_running (option_map (λ (th : ThreadAt CodeThread). outcome_of (thread_code.next th.state)) (slice_get v.threads t))
+outcome_in v t = unwrap_or (option_map (λ (th : ThreadAt CodeThread). outcome_of (thread_code.next th.state)) (slice_get v.threads t)) Running
 
 abbrev pub line_of : TraceAsked → ℕ → Option Seen → WasmWorld → List ℕ
 line_of asked t None v = []

@@ -5,11 +5,11 @@ ghost use Rattle.event_core.specs.World.{world_of};
 ghost use Rattle.binary_decoder.specs.Kept.{name_of};
 ghost use Rattle.debug_views.specs.Standing.{word_at, frame_text, note_of, notes_of, notes_if};
 
-use binary_decoder::{FunctionNames, fits_line};
+use crate::titles::write_place;
+use binary_decoder::FunctionNames;
 use event_core::World;
 use integer_machine::{CodePlace, ThreadState};
 use std::alloc::Global;
-use std::fmt::Write;
 use wasm_types::NoMemory;
 use wasm_world::{SharedSpace, Valid};
 
@@ -29,14 +29,8 @@ fn write_frame(
 ) -> Result<(), NoMemory>
     ensures { OnOk result (string_bytes text.new ≡ string_bytes text.old ++ frame_text (name_of names.now) depth place) }
 {
-    let word = word_at(depth);
-    let function = place.function;
-    let instruction = place.instruction;
-    match names.get(function) {
-        Some(name) if fits_line(name) => write!(text, "{word}{name}+{instruction}")?,
-        _ => write!(text, "{word}{function}+{instruction}")?,
-    }
-    Ok(())
+    text.push_str(word_at(depth))?;
+    write_place(text, names, place)
 }
 
 /// Where a thread stands.

@@ -1,13 +1,14 @@
 //! Which events of a replay have a line in its trace.
 
-ghost use Rattle.std.specs.Prelude.{◌≡◌, option_map};
+ghost use Rattle.std.specs.Prelude.{◌≡◌, ◌<◌, ℕ, Some, option_map, slice_get};
 ghost use Rattle.event_core.specs.World.{world_of};
-ghost use Rattle.debug_views.specs.Trace.{is_of_threads, bytes_of_action, do_meet, is_of_range, has_passed, is_since, is_chosen};
+ghost use Rattle.debug_views.specs.Trace.{is_of_threads, waiters_at, bytes_of_action, do_meet, is_met, is_of_ranges, is_since};
 
+use crate::trace_seen::accessed;
 use event_core::World;
 use integer_machine::ThreadState;
 use replica::EventAt;
-use wasm_types::{Access, Action};
+use wasm_types::{Action, MOST_THREADS};
 use wasm_world::SharedSpace;
 
 /// The bytes from an address on, so many.
@@ -17,13 +18,25 @@ pub struct AddressRange {
     pub len: u32,
 }
 
+impl AddressRange {
+    /// Whether a byte is of both ranges.
+    fn meets(self, other: AddressRange) -> bool
+        ensures { result ≡ do_meet self (other.from, other.len) }
+    {
+        let from = self.from.max(other.from);
+        let end = u64::from(self.from) + u64::from(self.len);
+        let other_end = u64::from(other.from) + u64::from(other.len);
+        u64::from(from) < end.min(other_end)
+    }
+}
+
 /// Which events have a line.
-#[derive(Clone, Copy, Debug)]
+#[derive(Debug, Drop)]
 pub struct TraceChoice<'a> {
     /// Those of these threads; of all where none is named.
     pub only: &'a [u32],
-    /// Those that concern one of these bytes.
-    pub bytes: Option<AddressRange>,
+    /// Those that concern a byte of one of these ranges; any where none is named.
+    pub bytes: Vec<AddressRange>,
     /// From this one on.
     pub since: Option<EventAt>,
 }
@@ -35,52 +48,63 @@ fn is_of_threads(only: &[u32], thread: u32) -> bool
     only.is_empty() || only.contains(&thread)
 }
 
+/// Which threads' events may have a line, where these are named.
+pub(crate) fn threads_of(only: &[u32]) -> [bool; MOST_THREADS]
+    ensures { (t : ℕ) → t < MOST_THREADS → slice_get result t ≡ Some (is_of_threads only.now t) }
+{
+    let mut threads = [false; MOST_THREADS];
+    for thread in 0..MOST_THREADS {
+        threads[thread] = is_of_threads(only, thread as u32);
+    }
+    threads
+}
+
+/// The address of the waiters that an action concerns.
+fn waiters_at(action: &Action) -> Option<u32>
+    ensures { result ≡ waiters_at action.now }
+{
+    match *action {
+        Action::Notify { address, .. }
+        | Action::Resume { address, .. }
+        | Action::TimeOut { address, .. } => Some(address),
+        _ => None,
+    }
+}
+
 /// The address that an action concerns, and how many bytes there.
 fn bytes_of(action: &Action) -> Option<AddressRange>
     ensures { option_map (λ r. (r.from, r.len)) result ≡ bytes_of_action action.now }
 {
-    let (from, access) = match *action {
-        Action::Load { load, address } => (address, load.access()),
-        Action::Store {
-            access,
-            address,
-            ..
-        } => (address, access),
-        Action::Rmw {
-            access,
-            address,
-            ..
-        } => (address, access),
-        Action::CompareExchange {
-            access,
-            address,
-            ..
-        } => (address, access),
-        Action::Wait { width, address, .. } => (address, Access::Whole(width)),
-        Action::Notify { address, .. }
-        | Action::Resume { address, .. }
-        | Action::TimeOut { address, .. } => return Some(AddressRange {
-            from: address,
-            len: 4,
-        }),
-        Action::Size | Action::Grow { .. } => return None,
-    };
-    let len = access.width().bytes();
-    Some(AddressRange { from, len })
+    match accessed(action) {
+        Some((access, from)) => {
+            let len = access.width().bytes();
+            Some(AddressRange { from, len })
+        }
+        None => match waiters_at(action) {
+            Some(from) => Some(AddressRange { from, len: 4 }),
+            None => None,
+        },
+    }
 }
 
-/// Whether an action concerns one of these bytes.
-fn is_of_range(range: Option<AddressRange>, action: &Action) -> bool
-    ensures { result ≡ is_of_range range action.now }
+/// Whether one of these ranges has one of these bytes.
+fn is_met(ranges: &[AddressRange], bytes: AddressRange) -> bool
+    ensures { result ≡ is_met ranges.now (Some (bytes.from, bytes.len)) }
 {
-    let Some(range) = range else {
+    ranges.iter().any(|range| range.meets(bytes))
+}
+
+/// Whether an action concerns a byte of one of these ranges, or none is named.
+fn is_of_ranges(ranges: &[AddressRange], action: &Action) -> bool
+    ensures { result ≡ is_of_ranges ranges.now action.now }
+{
+    if ranges.is_empty() {
         return true;
-    };
-    let Some(bytes) = bytes_of(action) else {
-        return false;
-    };
-    u64::from(bytes.from) < u64::from(range.from) + u64::from(range.len)
-        && u64::from(range.from) < u64::from(bytes.from) + u64::from(bytes.len)
+    }
+    match bytes_of(action) {
+        Some(bytes) => is_met(ranges, bytes),
+        None => false,
+    }
 }
 
 /// Whether the thread of this event has made it in a world.
@@ -97,17 +121,17 @@ fn is_since(since: Option<EventAt>, world: &World<ThreadState<'_>, SharedSpace>)
 }
 
 impl<'a> TraceChoice<'a> {
-    /// Whether an event of a thread has a line that does this and leads to a world.
-    pub(crate) fn has(
-        &self,
-        thread: u32,
-        action: &Action,
-        world: &World<ThreadState<'_>, SharedSpace>,
-    ) -> bool
-        ensures { result ≡ is_chosen self.now.only.now self.now.bytes self.now.since thread action.now (world_of world.now) }
+    /// Whether an event that does this may have a line.
+    pub(crate) fn has_action(&self, action: &Action) -> bool
+        ensures { result ≡ is_of_ranges self.now.bytes.items action.now }
     {
-        is_of_threads(self.only, thread)
-            && is_of_range(self.bytes, action)
-            && is_since(self.since, world)
+        is_of_ranges(self.bytes.as_slice(), action)
+    }
+
+    /// Whether an event that leads to a world may have a line.
+    pub(crate) fn has_begun(&self, world: &World<ThreadState<'_>, SharedSpace>) -> bool
+        ensures { result ≡ is_since self.now.since (world_of world.now) }
+    {
+        is_since(self.since, world)
     }
 }

@@ -4,15 +4,11 @@ ghost use Rattle.std.specs.Prelude.{◌≡◌, ◌++◌, OnOk, codes, string_byt
 ghost use Rattle.std.specs.Fmt.{decimal};
 ghost use Rattle.wasm_types.specs.Accesses.{access_width, load_width, type_width};
 ghost use Rattle.wasm_types.specs.Widths.{width_of};
-ghost use Rattle.debug_views.specs.TraceLines.{number_text, width_text, found_text, changed_text, unlike_text, access_text, rmw_word, action_text, stopped_text, done_text};
+ghost use Rattle.debug_views.specs.TraceLines.{width_text, found_text, changed_text, unlike_text, access_text, rmw_word, action_text, stopped_text, done_text};
 
-use itoa::Buffer;
-use std::alloc::AllocError;
+use crate::numbers::{put_number, write_number};
 use std::fmt::Write;
 use wasm_types::{Access, Action, Load, NoMemory, Outcome, RmwOp, ValType, Width};
-
-/// The least number that is written in hexadecimal.
-const LEAST_HEXADECIMAL: u64 = 65536;
 
 /// What an event did.
 #[derive(Clone, Copy, Debug)]
@@ -24,25 +20,6 @@ pub(crate) struct Done {
     pub(crate) left: Option<u64>,
     /// How the thread stands behind it.
     pub(crate) outcome: Outcome,
-}
-
-/// Writes a number in decimal.
-pub(crate) fn put_number(text: &mut String, number: u64) -> Result<(), AllocError>
-    ensures { OnOk result (string_bytes text.new ≡ string_bytes text.old ++ decimal number) }
-{
-    let mut buffer = Buffer::new();
-    text.push_str(buffer.format(number))
-}
-
-/// Writes a number: one below 65,536 in decimal, any other in hexadecimal.
-fn write_number(text: &mut String, number: u64) -> Result<(), NoMemory>
-    ensures { OnOk result (string_bytes text.new ≡ string_bytes text.old ++ number_text number) }
-{
-    if number < LEAST_HEXADECIMAL {
-        return Ok(put_number(text, number)?);
-    }
-    write!(text, "0x{number:x}")?;
-    Ok(())
 }
 
 /// The integer that fills a width.

@@ -1,9 +1,9 @@
 //! What is seen of a thread before its event.
 
-ghost use Rattle.std.specs.Prelude.{◌≡◌};
+ghost use Rattle.std.specs.Prelude.{◌≡◌, Some, slice_get};
 ghost use Rattle.event_core.specs.World.{world_of};
 ghost use Rattle.wasm_types.specs.Accesses.{access_width};
-ghost use Rattle.debug_views.specs.Trace.{action_if, action_of, accessed, is_of_length, pages_in, measured, number_if, seen_of};
+ghost use Rattle.debug_views.specs.Trace.{action_if, action_of, accessed, is_of_length, pages_in, measured, number_if, seen_by};
 
 use block_objects::access_number;
 use event_core::{Input, Pick, PickStep, World};
@@ -35,7 +35,7 @@ fn action_if(step: PickStep<Op>) -> Option<Action>
 }
 
 /// What a thread's next event does, if that comes next.
-fn action_of(world: &World<ThreadState<'_>, SharedSpace>, thread: u32) -> Option<Action>
+pub(crate) fn action_of(world: &World<ThreadState<'_>, SharedSpace>, thread: u32) -> Option<Action>
     ensures { result ≡ action_of (world_of world.now) thread }
 {
     let input = Input::Go;
@@ -63,7 +63,7 @@ fn number_if(bytes: &[u8], access: Access, address: u32) -> Option<u64>
 }
 
 /// The access of an action to numbers in memory, and its address.
-fn accessed(action: &Action) -> Option<(Access, u32)>
+pub(crate) fn accessed(action: &Action) -> Option<(Access, u32)>
     ensures { result ≡ accessed action.now }
 {
     match *action {
@@ -121,11 +121,14 @@ pub(crate) fn measured(action: &Action, world: &World<ThreadState<'_>, SharedSpa
     }
 }
 
-/// What is seen of a thread whose event comes next.
-pub(crate) fn seen_of(world: &World<ThreadState<'_>, SharedSpace>, thread: u32) -> Option<Seen>
-    ensures { result ≡ seen_of (world_of world.now) thread }
+/// What is seen of a thread whose next event does this.
+pub(crate) fn seen_of(
+    world: &World<ThreadState<'_>, SharedSpace>,
+    thread: u32,
+    action: Action,
+) -> Option<Seen>
+    ensures { result ≡ seen_by (world_of world.now) (slice_get (world_of world.now).threads thread) (Some action) }
 {
-    let action = action_of(world, thread)?;
     let machine = world.machine(thread)?;
     let place = world.places(thread)?;
     Some(Seen {

@@ -1,23 +1,25 @@
 //! Who watches a replay and writes a line for each event that is asked for.
 
-ghost use Rattle.std.specs.Prelude.{◌≡◌, ◌++◌, ℕ, [], false, OnOk, IfOk, string_bytes};
+ghost use Rattle.std.specs.Prelude.{◌≡◌, ◌++◌, ◌<◌, ℕ, [], false, OnOk, IfOk, Some, slice_get, string_bytes};
 ghost use Rattle.binary_decoder.specs.Kept.{name_of};
 ghost use Rattle.binary_decoder.specs.Names.{function_name};
 ghost use Rattle.event_core.specs.World.{world_of};
-ghost use Rattle.debug_views.specs.Standing.{title};
-ghost use Rattle.debug_views.specs.Trace.{asked_with, standing_text, measured, outcome_in, seen_of, trace_note};
+ghost use Rattle.debug_views.specs.Trace.{asked_with, standing_text, is_of_threads, measured, outcome_in, seen_if, seen_of, trace_note};
+ghost use Rattle.wasm_types.specs.declared.sizes.TheConstants.{MOST_THREADS};
 ghost use Rattle.debug_views.specs.TraceLines.{event_line};
 
-use crate::trace_choice::TraceChoice;
-use crate::trace_lines::{Done, put_number, write_done};
-use crate::trace_seen::{Seen, measured, seen_of};
-use binary_decoder::{FunctionNames, fits_line};
+use crate::numbers::put_number;
+use crate::titles::write_place;
+use crate::trace_choice::{TraceChoice, threads_of};
+use crate::trace_lines::{Done, write_done};
+use crate::trace_seen::{Seen, action_of, measured, seen_of};
+use binary_decoder::FunctionNames;
 use event_core::World;
 use integer_machine::{CodePlace, ThreadState};
 use replay_breaks::Watch;
 use std::alloc::Global;
 use std::marker::Model;
-use wasm_types::{NoMemory, Outcome};
+use wasm_types::{MOST_THREADS, NoMemory, Outcome};
 use wasm_world::SharedSpace;
 
 /// What contracts see of what a trace is asked for.
@@ -29,7 +31,7 @@ impl Model for AskedTrace {
 
     ghost Value = { TraceAsked };
 
-    ghost view = { λ _. record { source = []; only = []; bytes = None; since = None } };
+    ghost view = { λ _. record { source = []; only = []; bytes = []; since = None } };
 }
 
 /// Writes a line for each event that is asked for, until memory is wanted for one.
@@ -38,21 +40,12 @@ pub(crate) struct Tracer<'a> {
     names: &'a FunctionNames,
     source: &'a [u8],
     choice: TraceChoice<'a>,
+    threads: [bool; MOST_THREADS],
     seen: Option<Seen>,
     text: String,
     is_wanting: bool,
     ghost named: { (function : ℕ) → name_of names.now function ≡ function_name source.now function },
-}
-
-/// Writes a function: by its name, or by its number where it has none that may be put into a line.
-fn write_title(text: &mut String, names: &FunctionNames, function: u32) -> Result<(), NoMemory>
-    ensures { OnOk result (string_bytes text.new ≡ string_bytes text.old ++ title (name_of names.now function) function) }
-{
-    match names.get(function) {
-        Some(name) if fits_line(name) => text.push_str(name)?,
-        _ => put_number(text, u64::from(function))?,
-    }
-    Ok(())
+    ghost chosen: { (t : ℕ) → t < MOST_THREADS → slice_get threads t ≡ Some (is_of_threads choice.only.now t) },
 }
 
 /// Writes where a thread stands in a function.
@@ -66,9 +59,7 @@ fn write_standing(
     let Some(place) = standing else {
         return Ok(());
     };
-    write_title(text, names, place.function)?;
-    text.push_str("+")?;
-    put_number(text, u64::from(place.instruction))?;
+    write_place(text, names, place)?;
     text.push_str(" ")?;
     Ok(())
 }
@@ -77,10 +68,7 @@ fn write_standing(
 fn outcome_in(world: &World<ThreadState<'_>, SharedSpace>, thread: u32) -> Outcome
     ensures { result ≡ outcome_in (world_of world.now) thread }
 {
-    match world.outcome(thread) {
-        Some(outcome) => outcome,
-        None => Outcome::Running,
-    }
+    world.outcome(thread).unwrap_or(Outcome::Running)
 }
 
 /// Writes the line of an event.
@@ -124,11 +112,27 @@ impl<'a> Tracer<'a> {
         Tracer {
             names,
             source,
+            threads: threads_of(choice.only),
             choice,
             seen: None,
             text: String::new(alloc),
             is_wanting: false,
         }
+    }
+
+    /// What is seen of a thread whose event comes next, where it may have a line.
+    fn seen_of(&self, world: &World<ThreadState<'_>, SharedSpace>, thread: u32) -> Option<Seen>
+        ensures { result ≡ seen_if self.now.choice.only.now self.now.choice.bytes.items thread (seen_of (world_of world.now) thread) }
+    {
+        let at = thread as usize;
+        if at >= world.count() || !self.threads[at] {
+            return None;
+        }
+        let action = action_of(world, thread)?;
+        if !self.choice.has_action(&action) {
+            return None;
+        }
+        seen_of(world, thread, action)
     }
 
     /// What it wrote, or that memory was wanted.
@@ -155,17 +159,17 @@ impl<'a, 'b> Watch<ThreadState<'b>, SharedSpace> for Tracer<'a> {
 
     ghost whole = { λ t. t.is_wanting ≡ false };
 
-    ghost looked = { λ t w thread. t.seen ≡ seen_of w thread };
+    ghost looked = { λ t w thread. t.seen ≡ seen_if t.choice.only.now t.choice.bytes.items thread (seen_of w thread) };
 
     fn look(&mut self, world: &World<ThreadState<'b>, SharedSpace>, thread: u32) {
-        self.seen = seen_of(world, thread);
+        self.seen = self.seen_of(world, thread);
     }
 
     fn take_note(&mut self, world: &World<ThreadState<'b>, SharedSpace>, thread: u32) {
         let Some(seen) = self.seen else {
             return;
         };
-        if self.choice.has(thread, &seen.action, world) {
+        if self.choice.has_begun(world) {
             if let Err(_) = write_event(&mut self.text, self.names, thread, &seen, world) {
                 self.is_wanting = true;
             }

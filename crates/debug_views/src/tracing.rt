@@ -6,6 +6,7 @@ ghost use Rattle.wasm_world.specs.Plans.{IsPlanOf};
 ghost use Rattle.wasm_replay.specs.Replays.{HasWorld, IsOfRun};
 ghost use Rattle.debug_views.specs.Traces.{asked_of, IsTraceOfLog, IsNotTraced};
 
+use crate::replays::{opened, refused_at};
 use crate::trace_choice::TraceChoice;
 use crate::trace_watch::Tracer;
 use crate::viewing::show;
@@ -15,7 +16,7 @@ use replay_breaks::{Break, Stopped, run_watched};
 use replica::Log;
 use std::alloc::Global;
 use thiserror::Error;
-use wasm_replay::{Standing, Unreplayed, WasmReplay, WasmReplayFault, open_replay};
+use wasm_replay::Unreplayed;
 use wasm_types::NoMemory;
 use wasm_world::{Plan, Valid};
 
@@ -59,12 +60,9 @@ pub fn trace_log(
     ensures traced { IfOk result (λ text. IsTraceOfLog valid.now plan.now log.now order.now breaks.now (asked_of valid.now choice.entry) (string_bytes text)) }
     ensures refused { IfErr result (IsNotTraced valid.now plan.now log.now order.now breaks.now) }
 {
-    let mut replay = match open_replay(alloc, valid, plan, log) {
+    let mut replay = match opened(alloc, valid, plan, log) {
         Ok(replay) => replay,
-        Err(fault) => {
-            let standing = Standing::unopened(valid, plan, log, fault);
-            return Err(TraceFault::Replay(Unreplayed { fault, standing }));
-        }
+        Err(refused) => return Err(TraceFault::Replay(refused)),
     };
     let source = valid.module().source.as_slice();
     let Ok(names) = FunctionNames::new(alloc, source) else {
@@ -73,9 +71,8 @@ pub fn trace_log(
     let mut tracer = Tracer::new(alloc, &names, source, choice);
     let stopped = run_watched(alloc, &mut replay, order, breaks, &mut tracer);
     if let Stopped::Fault(fault) = stopped {
-        let standing = Standing::of(alloc, log, fault, Some(replay.world()));
-        let fault = WasmReplayFault::Replay(fault);
-        return Err(TraceFault::Replay(Unreplayed { fault, standing }));
+        let refused = refused_at(alloc, log, fault, replay.world());
+        return Err(TraceFault::Replay(refused));
     }
     let block = memory_limits(valid.module(), log.key().profile).block;
     let Ok(view) = show(

@@ -13,6 +13,7 @@ ghost use Rattle.debug_views.specs.Views.{IsViewOfLog, IsNotViewed};
 
 use crate::fault::ViewFault;
 use crate::notes::notes_if;
+use crate::replays::{opened, refused_at};
 use crate::text::view;
 use crate::values::is_in_view;
 use event_core::World;
@@ -21,7 +22,7 @@ use replay_breaks::{Break, Stopped, run_to};
 use replica::Log;
 use std::alloc::Global;
 use thiserror::Error;
-use wasm_replay::{Standing, Unreplayed, WasmReplayFault, open_replay};
+use wasm_replay::Unreplayed;
 use wasm_types::Block;
 use wasm_world::{Plan, SharedSpace, Valid};
 
@@ -95,18 +96,14 @@ pub fn view_log(
     ensures shown { IfOk result (λ text. IsViewOfLog valid.now plan.now log.now order.now breaks.now names from len (string_bytes text)) }
     ensures refused { IfErr result (IsNotViewed valid.now plan.now log.now order.now breaks.now from len) }
 {
-    let mut replay = match open_replay(alloc, valid, plan, log) {
+    let mut replay = match opened(alloc, valid, plan, log) {
         Ok(replay) => replay,
-        Err(fault) => {
-            let standing = Standing::unopened(valid, plan, log, fault);
-            return Err(WasmViewFault::Replay(Unreplayed { fault, standing }));
-        }
+        Err(refused) => return Err(WasmViewFault::Replay(refused)),
     };
     let stopped = run_to(alloc, &mut replay, order, breaks);
     if let Stopped::Fault(fault) = stopped {
-        let standing = Standing::of(alloc, log, fault, Some(replay.world()));
-        let fault = WasmReplayFault::Replay(fault);
-        return Err(WasmViewFault::Replay(Unreplayed { fault, standing }));
+        let refused = refused_at(alloc, log, fault, replay.world());
+        return Err(WasmViewFault::Replay(refused));
     }
     let block = memory_limits(valid.module(), log.key().profile).block;
     let world = replay.world();
