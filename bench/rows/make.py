@@ -2,6 +2,7 @@
 recordings of profile 1 by what was recorded apart, and for the hunt by what is kept with it."""
 import os, struct, sys
 from model import Module, World, digest, schedule_text, shrunk
+from objects import by_object
 from views import stop, trace, view
 
 TARGET = sys.argv[1]
@@ -29,6 +30,12 @@ def refused(line, text):
     asked = front + ' --why' + mark + name
     command(asked, '', 'refused %s\n%s\n' % (text, REASONS.get(asked, '?')), 1)
 
+def gathered(name, listing):
+    """Gathers pieces, and lists them by thread and by object."""
+    command('gather < %s.pieces' % name, listing)
+    command('gather --by-object < %s.pieces' % name, by_object(listing))
+    command('gather --by-object --shared < %s.pieces' % name, by_object(listing, shared=True))
+
 # ---- one recorded run, its pieces, its listing and its replays
 
 def run_of(name, module, plan, schedule, block=64, steps=1000000):
@@ -50,7 +57,7 @@ def recorded(name, module_file, module, plan_file, plan, schedule, block=64, ste
     cut = '' if size is None else ' --size %d' % size
     script.append('record %s%s%s > %s.pieces' % (files, options, cut, name))
     expected.append('$ wreplay ' + script[-1] + '\n')
-    command('gather < %s.pieces' % name, world.listing(d, number))
+    gathered(name, world.listing(d, number))
     for order in orders:
         command('replay %s %s.pieces%s' % (files, name, ' --order ' + order if order else ''), world.report())
     command('replay %s %s.pieces --threads' % (files, name), world.report())
@@ -333,11 +340,11 @@ refused('view bad.wasm bad.plan absent.pieces', '1 Refused 33')
 
 # ---- traces
 
-def traced(pieces, entries, ends, order='', only='', held=None, since=None, to=None):
+def traced(pieces, entries, ends, order='', only='', held=(), since=None, to=None):
     line = 'trace counter.wasm counter.plan %s.pieces' % pieces
     if order: line += ' --order ' + order
     if only: line += ' --only ' + only
-    if held: line += ' --bytes %d+%d' % held
+    for range_ in held: line += ' --bytes %d+%d' % range_
     if since: line += ' --from %d.%d' % since
     if to: line += ' --to %d.%d' % to
     numbers = lambda list: [int(n) for n in list.split(',')] if list else []
@@ -345,12 +352,14 @@ def traced(pieces, entries, ends, order='', only='', held=None, since=None, to=N
 traced('hole', HOLE, ENDS)
 for order in ORDERS + ('1,1,1,1,7,0,0',):
     for only in ('0', '1', '7,1', '0,1,1', '7'): traced('whole', ENTRIES, ENDS, order, only)
-    for held in ((0, 4), (3, 1), (4, 4), (0, 0), (0, 4294967295), (4294967295, 4294967295)): traced('whole', ENTRIES, ENDS, order, held=held)
+    for held in ((0, 4), (3, 1), (4, 4), (0, 0), (0, 4294967295), (4294967295, 4294967295), (1, 0)): traced('whole', ENTRIES, ENDS, order, held=[held])
+    traced('whole', ENTRIES, ENDS, order, held=[(8, 4), (2, 1), (2, 1)])
+    traced('whole', ENTRIES, ENDS, order, only='1', held=[(1, 0), (64, 4)])
     for thread in (0, 1, 7):
         for n in (0, 1, 2, 4294967295):
             traced('whole', ENTRIES, ENDS, order, since=(thread, n))
             traced('whole', ENTRIES, ENDS, order, to=(thread, n))
-    traced('whole', ENTRIES, ENDS, order, '1', (0, 1), (0, 0), (1, 0))
+    traced('whole', ENTRIES, ENDS, order, '1', [(0, 1)], (0, 0), (1, 0))
 refused('trace readers.wasm readers.plan whole.pieces', '51 OtherRun')
 refused('trace counter.wasm counter.plan otherrun.pieces', '41 OtherRun 2')
 refused('trace large.wasm counter.plan large.pieces', '58 OldProfile')
@@ -364,7 +373,7 @@ def row(name, kind):
     with open(os.path.join(ROWS, name + '.' + kind), 'rb') as file: return file.read()
 for name in sorted({file.split('.')[0] for file in os.listdir(ROWS)}):
     for kind in ('wasm', 'plan', 'pieces'): keep('%s.%s' % (name, kind), row(name, kind))
-    command('gather < %s.pieces' % name, row(name, 'listing').decode())
+    gathered(name, row(name, 'listing').decode())
     for order in ORDERS:
         command('replay %s.wasm %s.plan %s.pieces%s' % (name, name, name, ' --order ' + order if order else ''), row(name, 'report').decode())
 
@@ -380,11 +389,18 @@ LISTED = 'run %s:1\n0.0 access w1@0/0\n0.1 access w1@1/0\n0 end steps=8 places=2
 NO_PIECES = 'run none\nends 0 missing 0 strays 0 clashes 0\n'
 keep('mixed.pieces', 'zz\n' + SECOND_WRITE + TWO_WRITES % 2 + FIRST_WRITE)
 command('gather --skip < mixed.pieces', LISTED, 'skipped 1 1\n')
+command('gather --skip --by-object < mixed.pieces', by_object(LISTED), 'skipped 1 1\n')
+refused('gather --by-object < mixed.pieces', '43 BadLine 1')
+keep('second.piece', SECOND_WRITE)
+gathered_by = by_object('\n'.join(line for line in LISTED.split('\n') if not line.startswith('0.0')))
+command('gather --by-object < second.piece', gathered_by)
 refused('gather < mixed.pieces', '43 BadLine 1')
 keep('twice.pieces', TWO_WRITES % 1 + '\n' + TWO_WRITES % 1 + 'z' * 1000)
 command('gather --skip < twice.pieces', LISTED, 'skipped 2 0\n')
 command('gather --skip < counter.plan', NO_PIECES, 'skipped 3 0\n')
 command('gather --skip', NO_PIECES, 'skipped 0 0\n')
+command('gather --by-object', NO_PIECES)
+command('gather --skip --by-object', NO_PIECES, 'skipped 0 0\n')
 
 # reasons of more refusals: modules, plans, schedules and lines with one change
 def patched(at, *bytes_): return COUNTER.bytes[:at] + bytes(bytes_) + COUNTER.bytes[at + len(bytes_):]
@@ -503,6 +519,17 @@ for word in ('--fast', 'first.pieces'): unexpected('gather ' + word, word, 'gath
 TOLD = [line + '; 1: bytes 0..63' if ' access ' in line else line for line in expected[script.index('gather < first.pieces')].split('\n')[1:]]
 command('gather --objects < first.pieces', '\n'.join(TOLD))
 command('gather --skip --objects < first.pieces', '\n'.join(TOLD), 'skipped 0 0\n')
+# objects that are named, and words that no listing has
+BY_THREAD = FIRST.listing(D, 1)
+for only in ('1', '0,1', '7,0', '1,1,4294967295'):
+    command('gather --by-object --only %s < first.pieces' % only, by_object(BY_THREAD, [int(n) for n in only.split(',')]))
+    command('gather --by-object --only %s --shared --skip < first.pieces' % only, by_object(BY_THREAD, [int(n) for n in only.split(',')], True), 'skipped 0 0\n')
+for only in ('1,', 'x', '4294967296'):
+    usage('gather --by-object --only %s' % only, "'--only <LIST>' takes 1 to 1000000 object numbers, joined by commas")
+for words in ('--only 1', '--shared', '--only 1 --shared', '--objects --shared'):
+    usage('gather ' + words, "'gather' takes '--only <LIST>' and '--shared' with '--by-object'")
+for words in ('--by-object --objects', '--contradictions --by-object --only 1'):
+    usage('gather ' + words, "'gather' takes '--by-object' without '--objects' and '--contradictions'")
 command('--version', 'wreplay 0.1.0\n')
 
 keep('commands', '\n'.join(script) + '\n')

@@ -37,24 +37,24 @@ unparsed text r e h p is = elim (cases_lt (digits_value 10 text) (2 ^ 64)) [
   | inr ge ↦ ge
 ]
 
--- these threads, and those behind them
-abbrev pub behind : List ℕ → Option (List ℕ) → Option (List ℕ)
+-- these, and those behind them
+abbrev pub behind : {X : Type 0} → List X → Option (List X) → Option (List X)
 behind [] others = others
-behind (thread ∷ threads) others = in_front (Some thread) (behind threads others)
+behind (x ∷ xs) others = in_front (Some x) (behind xs others)
 
-pub behind_one_more : (threads : List ℕ) (thread : ℕ) (others : Option (List ℕ)) → behind (threads ++ thread ∷ []) others ≡ behind threads (in_front (Some thread) others)
-behind_one_more [] thread others = refl
-behind_one_more (t ∷ threads) thread others = ap (in_front (Some t)) (behind_one_more threads thread others)
+pub behind_one_more : {X : Type 0} (xs : List X) (x : X) (others : Option (List X)) → behind (xs ++ x ∷ []) others ≡ behind xs (in_front (Some x) others)
+behind_one_more [] x others = refl
+behind_one_more (y ∷ xs) x others = ap (in_front (Some y)) (behind_one_more xs x others)
 
-pub behind_none : (threads : List ℕ) → behind threads None ≡ None
+pub behind_none : {X : Type 0} (xs : List X) → behind xs None ≡ None
 behind_none [] = refl
-behind_none (t ∷ threads) = ap (in_front (Some t)) (behind_none threads)
+behind_none (x ∷ xs) = ap (in_front (Some x)) (behind_none xs)
 
-pub behind_nothing : (threads : List ℕ) → behind threads (Some []) ≡ Some threads
+pub behind_nothing : {X : Type 0} (xs : List X) → behind xs (Some []) ≡ Some xs
 behind_nothing [] = refl
-behind_nothing (t ∷ threads) = ap (in_front (Some t)) (behind_nothing threads)
+behind_nothing (x ∷ xs) = ap (in_front (Some x)) (behind_nothing xs)
 
-pub front_none : (others : Option (List ℕ)) → in_front None others ≡ None
+pub front_none : {X : Type 0} (others : Option (List X)) → in_front None others ≡ None
 front_none None = refl
 front_none (Some others) = refl
 

@@ -1,14 +1,16 @@
 -- What command lines ask for.
-use Rattle.std.specs.Prelude.{◌≡◌, ◌⊎◌, ◌<◌, ◌≤◌, ◌+◌, ◌^◌, ◌||◌, ◌&&◌, ℕ, Bool, true, false, List, [], Option, Some, None, codes, map, option_map, unwrap_or}
+use Rattle.std.specs.Prelude.{◌≡◌, ◌⊎◌, ◌<◌, ◌≤◌, ◌+◌, ◌^◌, ◌||◌, ◌&&◌, ℕ, Bool, true, false, List, [], ◌∷◌, Option, Some, None, codes, map, option_map, unwrap_or}
 use Rattle.std.specs.List.{list_all}
 use Rattle.std.specs.Str.{bytes_eq}
 use Rattle.clap.specs.Words.{Text, Row, all_of, first_of, subcommand_of, fault_of, IsAmong}
 use Rattle.clap.specs.declared.error.kind.ErrorKind.TheVariants as kind
 use Rattle.wasm_types.specs.declared.sizes.TheConstants.{MOST_STEPS}
-use Rattle.command_words.specs.Words.{number_up_to, order_in, pair_in, may_begin}
+use Rattle.command_words.specs.Words.{number_up_to, in_front, order_in, pair_in, may_begin}
 use Rattle.command_words.specs.Commands.{program}
 use Rattle.command_words.specs.declared.requests.Request.{Request}
 use Rattle.command_words.specs.declared.requests.Request.TheVariants.{Gather, Check, Record, Hunt, Replay, View, Trace}
+use Rattle.command_words.specs.declared.requests.GatherForm.{GatherForm}
+use Rattle.command_words.specs.declared.requests.GatherForm.TheVariants as listed
 use Rattle.command_words.specs.declared.requests.RecordOrder.{RecordOrder}
 use Rattle.command_words.specs.declared.requests.RecordOrder.TheVariants as order
 use Rattle.command_words.specs.declared.requests.RecordRequest.{RecordRequest}
@@ -29,7 +31,7 @@ abbrev pub number_of : ℕ → Option Text → Option ℕ
 number_of most None = None
 number_of most (Some text) = number_up_to most text
 
--- no list of threads is an empty one
+-- no list is an empty one
 abbrev pub order_of : Option Text → Option (List ℕ)
 order_of None = Some []
 order_of (Some text) = order_in text
@@ -159,18 +161,31 @@ pub record IsViewAsked (rows : List Row) (v : ViewRequest) : Type 0 where
   pub has_len : number_of 4294967295 (first_of (codes "len") rows) ≡ Some v.range.len
   pub has_names : v.names ≡ is_text (codes "true") (first_of (codes "names") rows)
 
+-- the ranges `FROM+LEN` that texts write
+abbrev pub ranges_of : List Text → Option (List (ℕ × ℕ))
+ranges_of [] = Some []
+ranges_of (text ∷ texts) = in_front (pair_in 43 text) (ranges_of texts)
+
 -- the values that a parser found ask for this trace
 pub record IsTraceAsked (rows : List Row) (t : TraceRequest) : Type 0 where
   pub has_replay : IsReplayAsked rows t.replay
   pub has_only : order_of (first_of (codes "only") rows) ≡ Some t.only.items
-  pub has_bytes : IsRangeAsked (first_of (codes "bytes") rows) t.bytes
+  pub has_bytes : ranges_of (texts_of (codes "bytes") rows) ≡ Some (map (λ r. (r.from, r.len)) t.bytes.items)
   pub has_from : IsCountAsked (first_of (codes "from") rows) t.from
   pub has_to : IsCountAsked (first_of (codes "to") rows) t.to
 
+-- the values that a parser found say that this is listed: by threads, or the objects that are chosen
+abbrev pub IsGatherAsked : List Row → GatherForm → Type 0
+IsGatherAsked rows (listed.ByThread objects contradictions) =
+    (has_flag (codes "by-object") rows ≡ false) × (first_of (codes "only") rows ≡ None) × (has_flag (codes "shared") rows ≡ false)
+    × (objects ≡ has_flag (codes "objects") rows) × (contradictions ≡ has_flag (codes "contradictions") rows)
+IsGatherAsked rows (listed.ByObject only shared) =
+    (has_flag (codes "by-object") rows ≡ true) × (has_flag (codes "objects") rows ≡ false) × (has_flag (codes "contradictions") rows ≡ false)
+    × (order_of (first_of (codes "only") rows) ≡ Some only.items) × (shared ≡ has_flag (codes "shared") rows)
+
 -- a command and its values ask for this
 abbrev pub IsAsked : Text → List Row → Request → Type 0
-IsAsked name rows (Gather skips objects contradictions) = (name ≡ codes "gather") × (skips ≡ is_text (codes "true") (first_of (codes "skip") rows))
-    × (objects ≡ is_text (codes "true") (first_of (codes "objects") rows)) × (contradictions ≡ is_text (codes "true") (first_of (codes "contradictions") rows))
+IsAsked name rows (Gather skips form) = (name ≡ codes "gather") × (skips ≡ has_flag (codes "skip") rows) × IsGatherAsked rows form
 IsAsked name rows (Check path) = (name ≡ codes "check") × (first_of (codes "MODULE") rows ≡ Some path.now)
 IsAsked name rows (Record r) = (name ≡ codes "record") × IsRecordAsked rows r
 IsAsked name rows (Hunt r) = (name ≡ codes "hunt") × IsHuntAsked rows r

@@ -27,8 +27,12 @@ repeated_rule name = record (new_rule name) { long = Some name; value_names = 1;
 abbrev pub with_why : App → App
 with_why a = with_rule a (flag_rule (codes "why"))
 
+-- what is listed by threads, and what by objects
+abbrev pub with_listings : App → App
+with_listings a = with_rule (with_rule (with_rule (with_rule (with_rule a (flag_rule (codes "objects"))) (flag_rule (codes "contradictions"))) (flag_rule (codes "by-object"))) (option_rule (codes "only"))) (flag_rule (codes "shared"))
+
 abbrev pub gather : App
-gather = with_why (with_rule (with_rule (with_rule (new_app (codes "gather")) (flag_rule (codes "skip"))) (flag_rule (codes "objects"))) (flag_rule (codes "contradictions")))
+gather = with_why (with_listings (with_rule (new_app (codes "gather")) (flag_rule (codes "skip"))))
 
 abbrev pub check : App
 check = with_why (with_rule (new_app (codes "check")) (file_rule (codes "MODULE")))
@@ -88,7 +92,7 @@ viewing = with_why (with_range (with_breaks (on_pieces (new_app (codes "view")))
 
 -- which events have a line
 abbrev pub with_events : App → App
-with_events a = with_rule (with_rule (with_rule (with_rule a (option_rule (codes "only"))) (option_rule (codes "bytes"))) (option_rule (codes "from"))) (option_rule (codes "to"))
+with_events a = with_rule (with_rule (with_rule (with_rule a (option_rule (codes "only"))) (repeated_rule (codes "bytes"))) (option_rule (codes "from"))) (option_rule (codes "to"))
 
 abbrev pub tracing : App
 tracing = with_why (with_events (on_pieces (new_app (codes "trace"))))

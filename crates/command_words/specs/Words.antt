@@ -13,8 +13,8 @@ has_digits_alone text = nat_lt 0 (length text) && list_all is_ascii_digit text
 abbrev pub number_up_to : ℕ → List ℕ → Option ℕ
 number_up_to most text = if has_digits_alone text && nat_le (digits_value 10 text) most then Some (digits_value 10 text) else None
 
-abbrev pub in_front : Option ℕ → Option (List ℕ) → Option (List ℕ)
-in_front (Some thread) (Some threads) = Some (thread ∷ threads)
+abbrev pub in_front : {X : Type 0} → Option X → Option (List X) → Option (List X)
+in_front (Some x) (Some xs) = Some (x ∷ xs)
 in_front _ _ = None
 
 -- the numbers of threads

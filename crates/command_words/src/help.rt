@@ -72,6 +72,20 @@ With --contradictions lines behind the counts say what no one run can have:
   double w1@0 0.0 1.2    place 0 of thread 0 and place 2 of thread 1 both claim
                          the write of object 1 that found version 0
 
+With --by-object the log is listed by its objects in place of its threads: for
+each which bytes it is, and by rising version who made it and who read it, as in
+
+  object 1: bytes 0..63
+  1@0 read by 0.0 1.0
+  1@1 written by 0.1
+  1@2 written by 1.1 unread read by 2.0
+
+A write is `unread` where its thread had neither read nor made the version that
+it wrote over, but for version 0, which no thread made: what another thread
+wrote there may be lost. A read-modify-write counts as a write alone, as the log
+does not tell it from a store. --only lists these objects alone, and --shared
+those alone that two threads or more touched, one of them by a write.
+
 A whole log has as many ends as the run has threads, and 0 in the other counts.";
 
 /// How `gather` refuses.
@@ -86,7 +100,8 @@ Refusals (exit status 1):
                            written
 
 Example:
-  wreplay gather < examples/pieces.txt";
+  wreplay gather < examples/pieces.txt
+  wreplay gather --by-object --shared < examples/lost.pieces";
 
 /// What `check` reads and writes.
 pub(crate) const CHECK_ABOUT: &str = "\
@@ -358,7 +373,8 @@ missing or clash are passed over.
 
 With `--to T.P` it stops behind that event. `--from T.P` leaves out the lines
 before that event, --only those of other threads, and --bytes those of events
-that touch none of the bytes; the replay is the same.";
+that touch none of the bytes (of any --bytes, where there are several); the
+replay is the same.";
 
 /// How `trace` refuses.
 pub(crate) const TRACE_REFUSALS: &str = "\

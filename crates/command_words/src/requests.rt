@@ -127,23 +127,30 @@ pub struct TraceRequest<'a> {
     pub replay: ReplayRequest<'a>,
     /// Events of these threads; of all where none is named.
     pub only: Vec<u32>,
-    /// Events that touch one of these bytes.
-    pub bytes: Option<ByteRange>,
+    /// Events that touch a byte of one of these ranges; all where there is none.
+    pub bytes: Vec<ByteRange>,
     /// From this event of a thread on, by its place.
     pub from: Option<ThreadCount>,
     /// Up to this one.
     pub to: Option<ThreadCount>,
 }
 
+/// What is listed of a log.
+#[derive(Drop)]
+pub enum GatherForm {
+    /// What each thread did, whether with the bytes that each object is, and whether with what contradicts itself.
+    ByThread { objects: bool, contradictions: bool },
+    /// The versions of objects: of these alone, where any is named, and perhaps of those alone that threads share.
+    ByObject { only: Vec<u32>, shared: bool },
+}
+
 /// What a command line asks for.
 #[derive(Drop)]
 pub enum Request<'a> {
-    /// The listing of piece lines, whether those that cannot be joined are passed over, whether it says which bytes each
-    /// object is, and whether it says what contradicts itself.
+    /// A listing of piece lines, and whether those that cannot be joined are passed over.
     Gather {
         skips: bool,
-        objects: bool,
-        contradictions: bool,
+        form: GatherForm,
     },
     /// The summary of the module in the file at this path.
     Check(&'a str),

@@ -269,8 +269,8 @@ static OF_TRACE: &[ArgumentRow] = &[
     },
     ArgumentRow {
         name: "bytes",
-        takes: Takes::Value("FROM+LEN"),
-        help: "Write lines of events alone that touch one of LEN bytes from FROM on",
+        takes: Takes::Values("FROM+LEN"),
+        help: "Write lines of events alone that touch these bytes; may be repeated",
     },
     ArgumentRow {
         name: "from",
@@ -301,6 +301,21 @@ static OF_GATHER: &[ArgumentRow] = &[
         name: "contradictions",
         takes: Takes::Nothing,
         help: "Say behind the counts what contradicts itself, a line each",
+    },
+    ArgumentRow {
+        name: "by-object",
+        takes: Takes::Nothing,
+        help: "List the versions of each object, with who made and who read each",
+    },
+    ArgumentRow {
+        name: "only",
+        takes: Takes::Value("LIST"),
+        help: "With --by-object: list these objects alone, as 0,3",
+    },
+    ArgumentRow {
+        name: "shared",
+        takes: Takes::Nothing,
+        help: "With --by-object: list those alone that threads share, one writing",
     },
     WHY,
 ];

@@ -3,10 +3,12 @@
 ghost use Rattle.std.specs.Prelude.{◌≡◌, ℕ, Bool, Option, codes, map, Some, None, IfOk, OnErr, IfSome, IfNone, option_map};
 ghost use Rattle.clap.specs.Words.{Row, rows_of, first_of};
 ghost use Rattle.clap.specs.Matches.{found_of};
-ghost use Rattle.command_words.specs.Asked.{IsAsked, AreSizesAsked, IsByThreadsAsked, IsFormAsked, IsOrderAsked, IsRecordAsked, IsHuntAsked, IsRangeOfRuns, IsJobsAsked, IsReplayAsked, IsTurnsAsked, IsViewAsked, IsTraceAsked, IsCountAsked, IsRangeAsked, IsBlockOf, order_of, is_text, number_of, pair_of_option, texts_of};
+ghost use Rattle.command_words.specs.Words.{pair_in};
+ghost use Rattle.command_words.specs.Asked.{IsAsked, AreSizesAsked, IsByThreadsAsked, IsFormAsked, IsOrderAsked, IsRecordAsked, IsHuntAsked, IsRangeOfRuns, IsJobsAsked, IsReplayAsked, IsTurnsAsked, IsViewAsked, IsTraceAsked, IsCountAsked, IsRangeAsked, IsGatherAsked, IsBlockOf, order_of, is_text, number_of, pair_of_option, ranges_of, texts_of};
 ghost use Rattle.command_words.specs.declared.requests.Request.{Request};
 ghost use Rattle.command_words.specs.declared.requests.RecordOrder.{RecordOrder};
 ghost use Rattle.command_words.specs.declared.requests.RecordRequest.{RecordRequest};
+ghost use Rattle.command_words.specs.declared.requests.GatherForm.{GatherForm};
 ghost use Rattle.command_words.specs.declared.requests.HuntForm.{HuntForm};
 ghost use Rattle.command_words.specs.declared.requests.HuntRequest.{HuntRequest};
 ghost use Rattle.command_words.specs.declared.requests.ReplayRequest.{ReplayRequest};
@@ -19,8 +21,8 @@ ghost use Rattle.command_words.specs.declared.wanted.Sizes.{Sizes};
 use crate::numbers::{number_up_to, order_in, pair_in, small_number_up_to};
 use crate::report_texts::may_begin_all;
 use crate::requests::{
-    ByteRange, HuntForm, HuntRequest, RecordOrder, RecordRequest, ReplayRequest, Request, RunRange,
-    ThreadCount, TraceRequest, ViewRequest,
+    ByteRange, GatherForm, HuntForm, HuntRequest, RecordOrder, RecordRequest, ReplayRequest,
+    Request, RunRange, ThreadCount, TraceRequest, ViewRequest,
 };
 use clap::ArgMatches;
 use std::alloc::Global;
@@ -91,6 +93,17 @@ const BAD_BYTES: &str = "error: '--bytes <FROM+LEN>' takes an address and a leng
 const BAD_FIRST_EVENT: &str = "error: '--from <T.P>' takes a thread and a place, as 1.0\n";
 
 const BAD_LAST_EVENT: &str = "error: '--to <T.P>' takes a thread and a place, as 1.0\n";
+
+/// What is said where objects are chosen, and no objects are listed.
+const BAD_CHOICE: &str =
+    "error: 'gather' takes '--only <LIST>' and '--shared' with '--by-object'\n";
+
+/// What is said where objects are listed, and more is wanted of the listing by threads.
+const BAD_BY_OBJECT: &str =
+    "error: 'gather' takes '--by-object' without '--objects' and '--contradictions'\n";
+
+const BAD_OBJECTS: &str =
+    "error: '--only <LIST>' takes 1 to 1000000 object numbers, joined by commas\n";
 
 const NO_COMMAND: &str = "error: there is no such command\n";
 
@@ -360,8 +373,8 @@ fn hunt_of<'a>(
     })
 }
 
-/// The thread numbers that an option lists, none where it is not there.
-fn thread_list(
+/// The numbers that an option lists, none where it is not there.
+fn number_list(
     alloc: Global,
     matches: &ArgMatches<'_>,
     id: &str,
@@ -391,7 +404,7 @@ fn replay_of<'a>(
     let Some(pieces) = value(matches, "PIECES") else {
         return Ok(Err(MISSING));
     };
-    let Some(order) = thread_list(alloc, matches, "order")? else {
+    let Some(order) = number_list(alloc, matches, "order")? else {
         return Ok(Err(BAD_ORDER));
     };
     Ok(Ok(ReplayRequest {
@@ -486,6 +499,40 @@ fn view_of<'a>(
     })
 }
 
+/// The range of bytes that a text writes.
+fn range_in(text: &str) -> Option<ByteRange>
+    ensures { option_map (λ r. (r.from, r.len)) result ≡ pair_in 43 text.now }
+{
+    let (from, len) = pair_in(text.as_bytes(), b'+')?;
+    Some(ByteRange { from, len })
+}
+
+/// The ranges of bytes that texts write.
+fn ranges_in(alloc: Global, texts: &[&str]) -> Result<Option<Vec<ByteRange>>, NoMemory>
+    ensures { IfOk result (λ ranges. option_map (λ rs. map (λ r. (r.from, r.len)) rs.items) ranges ≡ ranges_of (map (λ t. t.now) texts.now)) }
+{
+    let mut ranges = Vec::new(alloc);
+    for text in texts {
+        let Some(range) = range_in(text) else {
+            return Ok(None);
+        };
+        ranges.push(range)?;
+    }
+    Ok(Some(ranges))
+}
+
+/// The ranges of bytes that an option has, one for each time that it is there.
+fn byte_ranges(
+    alloc: Global,
+    matches: &ArgMatches<'_>,
+    id: &str,
+) -> Result<Option<Vec<ByteRange>>, NoMemory>
+    ensures { IfOk result (λ ranges. option_map (λ rs. map (λ r. (r.from, r.len)) rs.items) ranges ≡ ranges_of (texts_of id.now (rows_of (found_of matches.now)))) }
+{
+    let texts = values(alloc, matches, id)?;
+    ranges_in(alloc, texts.as_slice())
+}
+
 /// The trace that the values of `trace` ask for.
 fn trace_of<'a>(
     alloc: Global,
@@ -498,10 +545,10 @@ fn trace_of<'a>(
         Ok(replay) => replay,
         Err(wrong) => return Ok(Err(wrong)),
     };
-    let Some(only) = thread_list(alloc, matches, "only")? else {
+    let Some(only) = number_list(alloc, matches, "only")? else {
         return Ok(Err(BAD_ONLY));
     };
-    let Some(bytes) = byte_range(matches, "bytes") else {
+    let Some(bytes) = byte_ranges(alloc, matches, "bytes")? else {
         return Ok(Err(BAD_BYTES));
     };
     let Some(from) = thread_count(matches, "from") else {
@@ -519,6 +566,32 @@ fn trace_of<'a>(
     }))
 }
 
+/// What the values of `gather` say that is listed.
+fn form_of(alloc: Global, matches: &ArgMatches<'_>) -> Result<Wanted<GatherForm>, NoMemory>
+    ensures asked { IfOk result (λ wanted. IfOk wanted (IsGatherAsked (rows_of (found_of matches.now)))) }
+    ensures none { IfOk result (λ wanted. OnErr wanted ((f : GatherForm) → IsGatherAsked (rows_of (found_of matches.now)) f → ⊥)) }
+{
+    let objects = has_text(matches, "objects", "true");
+    let contradictions = has_text(matches, "contradictions", "true");
+    let shared = has_text(matches, "shared", "true");
+    if has_text(matches, "by-object", "true") {
+        if objects || contradictions {
+            return Ok(Err(BAD_BY_OBJECT));
+        }
+        return match number_list(alloc, matches, "only")? {
+            Some(only) => Ok(Ok(GatherForm::ByObject { only, shared })),
+            None => Ok(Err(BAD_OBJECTS)),
+        };
+    }
+    if shared || value(matches, "only").is_some() {
+        return Ok(Err(BAD_CHOICE));
+    }
+    Ok(Ok(GatherForm::ByThread {
+        objects,
+        contradictions,
+    }))
+}
+
 /// What a command of that name with these values asks for.
 pub(crate) fn request_of<'a>(
     alloc: Global,
@@ -529,11 +602,13 @@ pub(crate) fn request_of<'a>(
     ensures none { IfOk result (λ wanted. OnErr wanted ((r : Request) → IsAsked name.now (rows_of (found_of matches.now)) r → ⊥)) }
 {
     match name {
-        "gather" => Ok(Ok(Request::Gather {
-            skips: has_text(matches, "skip", "true"),
-            objects: has_text(matches, "objects", "true"),
-            contradictions: has_text(matches, "contradictions", "true"),
-        })),
+        "gather" => match form_of(alloc, matches)? {
+            Ok(form) => {
+                let skips = has_text(matches, "skip", "true");
+                Ok(Ok(Request::Gather { skips, form }))
+            }
+            Err(wrong) => Ok(Err(wrong)),
+        },
         "check" => match value(matches, "MODULE") {
             Some(path) => Ok(Ok(Request::Check(path))),
             None => Ok(Err(MISSING)),

@@ -28,7 +28,7 @@ use Rattle.explanations.specs.Places.{at_byte, at_line, at_instruction, at_event
 
 -- the files that a request names; what it gathers comes from standard input
 abbrev pub module_path : Request → List ℕ
-module_path (Gather skips objects contradictions) = codes "standard input"
+module_path (Gather skips form) = codes "standard input"
 module_path (Check path) = path.now
 module_path (Record r) = r.«module».now
 module_path (Hunt r) = r.«module».now
@@ -37,7 +37,7 @@ module_path (View v) = v.replay.«module».now
 module_path (Trace t) = t.replay.«module».now
 
 abbrev pub plan_path : Request → List ℕ
-plan_path (Gather skips objects contradictions) = codes "standard input"
+plan_path (Gather skips form) = codes "standard input"
 plan_path (Check path) = path.now
 plan_path (Record r) = r.plan.now
 plan_path (Hunt r) = r.plan.now

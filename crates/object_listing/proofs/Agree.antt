@@ -4,12 +4,11 @@ use Rattle.std.specs.Prelude.{◌==◌, nat_lt, map, codes, if◌then◌else◌}
 use Rattle.std.specs.List.{flat_map, filter, list_any}
 use Rattle.std.specs.Fmt.{decimal}
 use Rattle.replica.specs.Contradictions.{event_text}
-use Rattle.object_listing.specs.declared.choice.Choice.{Choice}
 use Rattle.object_listing.specs.declared.touch.ObjectTouch.{ObjectTouch}
 use Rattle.object_listing.specs.Rising.{rising, having}
-use Rattle.object_listing.specs.Touched.{object_of, version_of}
+use Rattle.object_listing.specs.Touched.{object_of, thread_of, event_of, version_of}
 use Rattle.object_listing.specs.Versions.{is_write, knew, write_text, reads_text, version_line}
-use Rattle.object_listing.specs.Chosen.{is_shared, is_named, versions_text, header_line, object_lines, lines}
+use Rattle.object_listing.specs.Chosen.{ObjectsAsked, is_shared, is_named, versions_text, header_line, object_lines, lines}
 use Rattle.object_listing.specs.Order.{AreSame}
 use Rattle.object_listing.proofs.Numbers.{rising_agree}
 
@@ -43,13 +42,13 @@ module _ {X : Type 0} where
 
 -- ---- the line of a version
 
-write_agree : (p q : ℕ → Bool) → ((n : ℕ) → p n ≡ q n) → (t : ObjectTouch) → write_text p t ≡ write_text q t
-write_agree p q same t = ap (λ (b : Bool). codes " written by " ++ event_text t.at ++ (if b then [] else codes " unread")) (same t.at.thread)
+write_agree : (version : ℕ) (p q : ℕ → Bool) → ((n : ℕ) → p n ≡ q n) → (t : ObjectTouch) → write_text version p t ≡ write_text version q t
+write_agree version p q same t = ap (λ (b : Bool). codes " written by " ++ event_text (event_of t) ++ (if version == 1 || b then [] else codes " unread")) (same (thread_of t))
 
 pub version_line_agree : (object version : ℕ) (p q : ℕ → Bool) → ((n : ℕ) → p n ≡ q n) → (ts : List ObjectTouch) → version_line object version p ts ≡ version_line object version q ts
 version_line_agree object version p q same ts =
     ap (λ (l : List ℕ). decimal object ++ codes "@" ++ decimal version ++ (if list_any is_write ts then l else if version == 0 then [] else codes " write unknown") ++ reads_text ts ++ codes "\n")
-    (flat_map_same (write_text p) (write_text q) (write_agree p q same) (filter is_write ts))
+    (flat_map_same (write_text version p) (write_text version q) (write_agree version p q same) (filter is_write ts))
 
 -- ---- the lines of an object
 
@@ -63,23 +62,23 @@ rising_same number ts us any =
 
 shared_alike : (ts us : List ObjectTouch) → Alike ts us → is_shared ts ≡ is_shared us
 shared_alike ts us h =
-    ap (λ (ns : List ℕ). nat_lt 1 (length ns) && list_any is_write ts) (rising_same (λ t. t.at.thread) ts us h.any)
-    ∙ ap (λ (b : Bool). nat_lt 1 (length (rising (map (λ t. t.at.thread) us))) && b) (h.any is_write)
+    ap (λ (ns : List ℕ). nat_lt 1 (length ns) && list_any is_write ts) (rising_same thread_of ts us h.any)
+    ∙ ap (λ (b : Bool). nat_lt 1 (length (rising (map thread_of us))) && b) (h.any is_write)
 
 versions_alike : (object : ℕ) (ts us : List ObjectTouch) → Alike ts us → versions_text object ts ≡ versions_text object us
 versions_alike object ts us h =
     let first : ℕ → List ℕ = λ (v : ℕ). version_line object v (knew ts v) (having version_of v ts) in
     let second : ℕ → List ℕ = λ (v : ℕ). version_line object v (knew us v) (having version_of v us) in
     flat_map_same first second
-    (λ (v : ℕ). version_line_agree object v (knew ts v) (knew us v) (λ thread. h.any (λ t. t.at.thread == thread && version_of t + 1 == v)) (having version_of v ts)
+    (λ (v : ℕ). version_line_agree object v (knew ts v) (knew us v) (λ thread. h.any (λ t. thread_of t == thread && version_of t + 1 == v)) (having version_of v ts)
     ∙ ap (λ (l : List ObjectTouch). version_line object v (knew us v) l) (h.at v))
     (rising (map version_of ts))
     ∙ ap (flat_map second) (rising_same version_of ts us h.any)
 
-object_alike : (choice : Choice) (text : ℕ → List ℕ) (object : ℕ) (ts us : List ObjectTouch) → Alike ts us → object_lines choice text object ts ≡ object_lines choice text object us
+object_alike : (choice : ObjectsAsked) (text : ℕ → List ℕ) (object : ℕ) (ts us : List ObjectTouch) → Alike ts us → object_lines choice text object ts ≡ object_lines choice text object us
 object_alike choice text object ts us h =
     let lines_by : Bool → List ℕ → List ℕ =
-    λ (b : Bool) (l : List ℕ). if is_named choice.only.items object && (not choice.shared || b) then header_line text object ++ l else [] in
+    λ (b : Bool) (l : List ℕ). if is_named choice.only object && (not choice.shared || b) then header_line text object ++ l else [] in
     ap (λ (b : Bool). lines_by b (versions_text object ts)) (shared_alike ts us h) ∙ ap (lines_by (is_shared us)) (versions_alike object ts us h)
 
 -- ---- the lines of all objects
@@ -92,7 +91,7 @@ alike_of ts us h object =
       at = λ (version : ℕ). filter_filter (λ t. version_of t == version) of ts ∙ h.at object version ∙ sym (filter_filter (λ t. version_of t == version) of us);
     }
 
-pub lines_same : (choice : Choice) (text : ℕ → List ℕ) (ts us : List ObjectTouch) → AreSame ts us → lines choice text ts ≡ lines choice text us
+pub lines_same : (choice : ObjectsAsked) (text : ℕ → List ℕ) (ts us : List ObjectTouch) → AreSame ts us → lines choice text ts ≡ lines choice text us
 lines_same choice text ts us h =
     let first : ℕ → List ℕ = λ (o : ℕ). object_lines choice text o (having object_of o ts) in
     let second : ℕ → List ℕ = λ (o : ℕ). object_lines choice text o (having object_of o us) in

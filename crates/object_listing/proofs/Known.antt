@@ -5,7 +5,7 @@ use Rattle.std.specs.List.{AllByRecursion, list_any}
 use Rattle.std.proofs.lemmas.Bool.{ne_eqb}
 use Rattle.std.proofs.lemmas.List.Folds.{list_any-append}
 use Rattle.object_listing.specs.declared.touch.ObjectTouch.{ObjectTouch}
-use Rattle.object_listing.specs.Touched.{version_of}
+use Rattle.object_listing.specs.Touched.{thread_of, version_of}
 use Rattle.object_listing.specs.Versions.{knew}
 use Rattle.object_listing.specs.Order.{Rises}
 use Rattle.object_listing.proofs.Groups.{all_implied}
@@ -35,8 +35,8 @@ and_false false = refl
 none_known : (v thread : ℕ) (ts : List ObjectTouch) → AllByRecursion (λ t. version_of t + 1 ≡ v → ⊥) ts → knew ts v thread ≡ false
 none_known v thread [] h = refl
 none_known v thread (t ∷ ts) h =
-    ap (λ (b : Bool). (t.at.thread == thread && b) || knew ts v thread) (ne_eqb (version_of t + 1) v h.0)
-    ∙ ap (λ (b : Bool). b || knew ts v thread) (and_false (t.at.thread == thread)) ∙ none_known v thread ts h.1
+    ap (λ (b : Bool). (thread_of t == thread && b) || knew ts v thread) (ne_eqb (version_of t + 1) v h.0)
+    ∙ ap (λ (b : Bool). b || knew ts v thread) (and_false (thread_of t == thread)) ∙ none_known v thread ts h.1
 
 or_false : (b : Bool) → (b || false) ≡ b
 or_false true = refl
@@ -50,7 +50,7 @@ all_rising v t ts is up =
 pub seen_knew : (touches before : List ObjectTouch) (t : ObjectTouch) (ts : List ObjectTouch) → Seen touches before (t ∷ ts) → (thread : ℕ) → knew before (version_of t) thread ≡ knew touches (version_of t) thread
 seen_knew touches before t ts h thread =
     let v = version_of t in
-    let test : ObjectTouch → Bool = λ (u : ObjectTouch). u.at.thread == thread && version_of u + 1 == v in
+    let test : ObjectTouch → Bool = λ (u : ObjectTouch). thread_of u == thread && version_of u + 1 == v in
     let least : h.low ≤ v = h.rest_above.0 in
     let first : knew h.done v thread ≡ false = none_known v thread h.done (all_implied version_of (λ u. version_of u + 1 < h.low) (λ u. version_of u + 1 ≡ v → ⊥) h.done (λ u (lt : version_of u + 1 < h.low) (e : version_of u + 1 ≡ v). omega arith) h.done_below) in
     let last : knew (t ∷ ts) v thread ≡ false = none_known v thread (t ∷ ts) (all_rising v t ts refl h.rises) in

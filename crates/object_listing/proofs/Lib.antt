@@ -1,4 +1,5 @@
 pub mod Numbers
+pub mod Members
 pub mod Groups
 pub mod Fronts
 pub mod Known
@@ -6,3 +7,5 @@ pub mod Agree
 pub mod Sorted
 pub mod Shared
 pub mod Steps
+pub mod Listed
+pub mod Put

@@ -63,13 +63,13 @@ two_numbers n ms = go (has_other n ms) refl ∙ sym (ap (λ (b : Bool). not b ||
         let second : member other.0 (rising (n ∷ ms)) ≡ true = member_rising other.0 (n ∷ ms) ∙ ap (λ (b : Bool). (n == other.0) || b) other.1 ∙ or_true (n == other.0) in
         two_of n other.0 (rising (n ∷ ms)) first second other.2 ∙ sym is
 
-pub shared_by : (ts : List ObjectTouch) (first : ObjectTouch) → slice_get ts 0 ≡ Some first → is_shared ts ≡ (list_any (λ t. not (t.at.thread == first.at.thread)) ts && list_any is_write ts)
+pub shared_by : (ts : List ObjectTouch) (first : ObjectTouch) → slice_get ts 0 ≡ Some first → is_shared ts ≡ (list_any (λ t. not (t.thread == first.thread)) ts && list_any is_write ts)
 shared_by [] first is = cc
 shared_by (t ∷ ts) first is =
     let head : t ≡ first = cc in
-    let n = t.at.thread in
-    ap (λ (b : Bool). b && list_any is_write (t ∷ ts)) (two_numbers n (map (λ u. u.at.thread) ts) ∙ any_map (λ m. not (m == n)) (λ u. u.at.thread) (t ∷ ts))
-    ∙ ap (λ (u : ObjectTouch). list_any (λ v. not (v.at.thread == u.at.thread)) (t ∷ ts) && list_any is_write (t ∷ ts)) head
+    let n = t.thread in
+    ap (λ (b : Bool). b && list_any is_write (t ∷ ts)) (two_numbers n (map (λ u. u.thread) ts) ∙ any_map (λ m. not (m == n)) (λ u. u.thread) (t ∷ ts))
+    ∙ ap (λ (u : ObjectTouch). list_any (λ v. not (v.thread == u.thread)) (t ∷ ts) && list_any is_write (t ∷ ts)) head
 
 pub shared_none : (ts : List ObjectTouch) → slice_get ts 0 ≡ None → is_shared ts ≡ false
 shared_none [] is = refl

@@ -72,7 +72,7 @@ same_tie a b v w = grind (arith, nat_tests)
 
 -- any touch of a version
 sample : ℕ → ℕ → ObjectTouch
-sample object version = record { object = object; found = version; is_write = false; at = record { thread = 0; place = 0 } }
+sample object version = record { object = object; found = version; is_write = false; thread = 0; place = 0 }
 
 pub sorted_same : (ts us : List ObjectTouch) → IsPermutation ts us → IsStableByKey key_of key_cmp ts us → AreSame ts us
 unfolding sample

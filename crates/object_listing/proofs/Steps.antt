@@ -2,13 +2,12 @@
 use Rattle.std.proofs.Common.{◌≡◌, ℕ, Bool, List, [], ◌∷◌, ◌++◌, take, drop, refl, sym, ap, subst, ◌∙◌, append_assoc}
 use Rattle.std.specs.Prelude.{◌==◌, Some, slice_get}
 use Rattle.std.specs.List.{prefix_len}
-use Rattle.object_listing.specs.declared.choice.Choice.{Choice}
 use Rattle.object_listing.specs.declared.touch.ObjectTouch.{ObjectTouch}
 use Rattle.object_listing.specs.Rising.{by_number}
 use Rattle.object_listing.specs.Touched.{object_of, version_of}
 use Rattle.object_listing.specs.Versions.{knew, version_line}
 use Rattle.object_listing.specs.Order.{Rises, IsOrdered}
-use Rattle.object_listing.specs.Chosen.{object_lines, lines}
+use Rattle.object_listing.specs.Chosen.{ObjectsAsked, object_lines, lines}
 use Rattle.object_listing.proofs.Agree.{version_line_agree}
 use Rattle.object_listing.proofs.Fronts.{IsFront, first_front, by_number_front}
 use Rattle.object_listing.proofs.Known.{Seen, seen_knew, seen_more}
@@ -62,7 +61,7 @@ group_rises (y ∷ ys) group others x n k next =
     let same : n ≡ object_of y = next.1 ∙ ap object_of head in
     front_rises (object_of y) (y ∷ ys) group others next.5 (front_of object_of y ys group others n k (objects_rise (y ∷ ys) next.5) same next.2 next.3 next.4)
 
-pub objects_step : (choice : Choice) (text : ℕ → List ℕ) (rest group others : List ObjectTouch) (x : ObjectTouch) (n k : ℕ) (old now all : List ℕ) → IsNext rest group others x n k
+pub objects_step : (choice : ObjectsAsked) (text : ℕ → List ℕ) (rest group others : List ObjectTouch) (x : ObjectTouch) (n k : ℕ) (old now all : List ℕ) → IsNext rest group others x n k
     → now ≡ old ++ object_lines choice text n group → old ++ lines choice text rest ≡ all → (now ++ lines choice text others ≡ all) × IsOrdered others
 objects_step choice text [] group others x n k old now all next put h = absurd (let some = next.0 in cc)
 objects_step choice text (y ∷ ys) group others x n k old now all next put h =

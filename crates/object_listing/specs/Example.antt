@@ -3,7 +3,7 @@ use Rattle.std.specs.Prelude.{ℕ, Bool, true, false, List, [], ◌∷◌}
 use Rattle.object_listing.specs.declared.touch.ObjectTouch.{ObjectTouch}
 
 abbrev touched : Bool → ℕ → ℕ → ℕ → ObjectTouch
-touched is_write found thread place = record { object = 3; found = found; is_write = is_write; at = record { thread = thread; place = place } }
+touched is_write found thread place = record { object = 3; found = found; is_write = is_write; thread = thread; place = place }
 
 abbrev pub example : List ObjectTouch
 example =

@@ -1,10 +1,10 @@
 -- The line of a version of an object: who made it, and who read it.
-use Rattle.std.specs.Prelude.{ℕ, ◌+◌, ◌==◌, ◌&&◌, not, Bool, if◌then◌else◌, List, [], ◌++◌, codes}
+use Rattle.std.specs.Prelude.{ℕ, ◌+◌, ◌==◌, ◌&&◌, ◌||◌, not, Bool, if◌then◌else◌, List, [], ◌++◌, codes}
 use Rattle.std.specs.List.{flat_map, filter, list_any}
 use Rattle.std.specs.Fmt.{decimal}
 use Rattle.replica.specs.Contradictions.{event_text}
 use Rattle.object_listing.specs.declared.touch.ObjectTouch.{ObjectTouch}
-use Rattle.object_listing.specs.Touched.{version_of}
+use Rattle.object_listing.specs.Touched.{thread_of, event_of, version_of}
 
 abbrev pub is_write : ObjectTouch → Bool
 is_write t = t.is_write
@@ -14,21 +14,21 @@ is_read t = not t.is_write
 
 -- a thread read or made the version before a version
 abbrev pub knew : List ObjectTouch → ℕ → ℕ → Bool
-knew touches version thread = list_any (λ t. t.at.thread == thread && version_of t + 1 == version) touches
+knew touches version thread = list_any (λ t. thread_of t == thread && version_of t + 1 == version) touches
 
--- who made a version, and behind it whether its thread did not know the version before
-abbrev pub write_text : (ℕ → Bool) → ObjectTouch → List ℕ
-write_text knew_before t = codes " written by " ++ event_text t.at ++ (if knew_before t.at.thread then [] else codes " unread")
+-- who made a version, and behind it whether its thread did not know the version before; version 0 no thread made
+abbrev pub write_text : ℕ → (ℕ → Bool) → ObjectTouch → List ℕ
+write_text version knew_before t = codes " written by " ++ event_text (event_of t) ++ (if version == 1 || knew_before (thread_of t) then [] else codes " unread")
 
 -- the writes that made a version; version 0 has none
 abbrev pub writes_text : ℕ → (ℕ → Bool) → List ObjectTouch → List ℕ
 writes_text version knew_before ts =
-    if list_any is_write ts then flat_map (write_text knew_before) (filter is_write ts)
+    if list_any is_write ts then flat_map (write_text version knew_before) (filter is_write ts)
     else if version == 0 then []
     else codes " write unknown"
 
 abbrev pub read_text : ObjectTouch → List ℕ
-read_text t = codes " " ++ event_text t.at
+read_text t = codes " " ++ event_text (event_of t)
 
 -- the reads of a version
 abbrev pub reads_text : List ObjectTouch → List ℕ

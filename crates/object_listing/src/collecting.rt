@@ -5,24 +5,26 @@ ghost use Rattle.std.specs.List.{flat_map};
 ghost use Rattle.replica.specs.Log.{items_at};
 ghost use Rattle.object_listing.specs.Touched.{touch_of, touches_of_item, known_touches};
 
+use crate::threads::ThreadNumber;
 use crate::touch::ObjectTouch;
 use join_laws::Flat;
-use replica::{EventAt, Log};
+use replica::Log;
 use rw_objects::{Entry, Found};
 use std::alloc::{AllocError, Global};
 use wasm_types::MOST_THREADS;
 
 impl ObjectTouch {
-    /// What a touch found, and where its event stands.
-    fn of(found: Found, at: EventAt) -> ObjectTouch
-        ensures { result ≡ touch_of at.thread at.place found }
+    /// What a touch found, by the event at a place of a thread.
+    fn of(found: Found, thread: ThreadNumber, place: u32) -> ObjectTouch
+        ensures { result ≡ touch_of thread place found }
     {
         match found {
             Found::Read { object, version } => ObjectTouch {
                 object,
                 found: version,
                 is_write: false,
-                at,
+                thread,
+                place,
             },
             Found::Write {
                 object,
@@ -32,32 +34,42 @@ impl ObjectTouch {
                 object,
                 found: version,
                 is_write: true,
-                at,
+                thread,
+                place,
             },
         }
     }
 }
 
-/// Adds the touches of an entry.
-fn add_entry(touches: &mut Vec<ObjectTouch>, at: EventAt, entry: &Entry) -> Result<(), AllocError>
-    ensures { OnOk result (touches.new.items ≡ touches.old.items ++ map (touch_of at.thread at.place) entry.now.found) }
+/// Adds the touches of the entry at a place of a thread.
+fn add_entry(
+    touches: &mut Vec<ObjectTouch>,
+    thread: ThreadNumber,
+    place: u32,
+    entry: &Entry,
+) -> Result<(), AllocError>
+    ensures { OnOk result (touches.new.items ≡ touches.old.items ++ map (touch_of thread place) entry.now.found) }
 {
     for found in entry.found.as_slice() {
-        touches.push(ObjectTouch::of(*found, at))?;
+        touches.push(ObjectTouch::of(*found, thread, place))?;
     }
     Ok(())
 }
 
 /// Adds the touches of a thread's entries, by rising place.
-fn add_thread(touches: &mut Vec<ObjectTouch>, log: &Log, thread: u32) -> Result<(), AllocError>
+fn add_thread(
+    touches: &mut Vec<ObjectTouch>,
+    log: &Log,
+    thread: ThreadNumber,
+) -> Result<(), AllocError>
     ensures { OnOk result (touches.new.items ≡ touches.old.items ++ flat_map (touches_of_item thread) (items_at log.now thread)) }
 {
-    let Some(items) = log.items(thread) else {
+    let Some(items) = log.items(thread.number()) else {
         return Ok(());
     };
     for (place, item) in items {
         if let Flat::Known(entry) = item {
-            add_entry(touches, EventAt { thread, place }, &entry)?;
+            add_entry(touches, thread, place, &entry)?;
         }
     }
     Ok(())
@@ -68,8 +80,8 @@ pub(crate) fn all_touches(alloc: Global, log: &Log) -> Result<Vec<ObjectTouch>, 
     ensures { IfOk result (λ found. found.items ≡ known_touches log.now) }
 {
     let mut found = Vec::new(alloc);
-    for thread in 0..MOST_THREADS as u32 {
-        add_thread(&mut found, log, thread)?;
+    for number in 0..MOST_THREADS as u32 {
+        add_thread(&mut found, log, ThreadNumber::new(number))?;
     }
     Ok(found)
 }

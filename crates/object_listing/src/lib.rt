@@ -6,14 +6,15 @@
 
 mod choice;
 mod collecting;
+mod header;
 mod laws;
 mod listing;
-mod objects;
 mod sorting;
 mod texts;
+mod threads;
 mod touch;
 mod versions;
 
 pub use choice::Choice;
 pub use laws::example_has_these_lines;
-pub use listing::object_listing;
+pub use listing::{listing_of, object_listing};

@@ -2,9 +2,10 @@
 
 ghost use Rattle.std.specs.Prelude.{◌≡◌, ◌≤◌, ◌^◌, ◌==◌, not};
 ghost use Rattle.std.specs.List.{list_any};
-ghost use Rattle.object_listing.specs.Touched.{version_of};
+ghost use Rattle.object_listing.specs.Touched.{event_of, version_of};
 ghost use Rattle.object_listing.specs.Versions.{is_write, is_read};
 
+use crate::threads::ThreadNumber;
 use replica::EventAt;
 
 /// A touch of an object by a known entry.
@@ -14,10 +15,21 @@ pub(crate) struct ObjectTouch {
     /// The version that it found.
     pub(crate) found: u64,
     pub(crate) is_write: bool,
-    pub(crate) at: EventAt,
+    pub(crate) thread: ThreadNumber,
+    pub(crate) place: u32,
 }
 
 impl ObjectTouch {
+    /// Where its event stands.
+    pub(crate) fn at(&self) -> EventAt
+        ensures { result ≡ event_of self.now }
+    {
+        EventAt {
+            thread: self.thread.number(),
+            place: self.place,
+        }
+    }
+
     /// The version that it read or made.
     pub(crate) fn version(&self) -> u128
         ensures version { result ≡ version_of self.now }
@@ -46,8 +58,8 @@ pub(crate) fn has_read(touches: &[ObjectTouch]) -> bool
 }
 
 /// Whether one of these touches is by another thread.
-pub(crate) fn has_other(touches: &[ObjectTouch], thread: u32) -> bool
-    ensures { result ≡ list_any (λ t. not (t.at.thread == thread)) touches.now }
+pub(crate) fn has_other(touches: &[ObjectTouch], thread: ThreadNumber) -> bool
+    ensures { result ≡ list_any (λ t. not (t.thread == thread)) touches.now }
 {
-    touches.iter().any(|touch| touch.at.thread != thread)
+    touches.iter().any(|touch| touch.thread != thread)
 }

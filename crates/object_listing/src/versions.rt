@@ -1,42 +1,37 @@
 //! The lines of an object's versions.
 
-ghost use Rattle.std.specs.Prelude.{◌≡◌, ◌≤◌, ◌++◌, ◌==◌, ℕ, length, if◌then◌else◌, [], codes, IfOk, OnOk};
+ghost use Rattle.std.specs.Prelude.{◌≡◌, ◌≤◌, ◌++◌, ◌==◌, ◌||◌, ℕ, length, if◌then◌else◌, [], codes, OnOk};
 ghost use Rattle.std.specs.List.{filter, flat_map, prefix_len};
-ghost use Rattle.std.specs.BTreeSet.{contains};
-ghost use Rattle.std.specs.Ordering.{nat_cmp};
 ghost use Rattle.std.specs.String.{string_bytes};
 ghost use Rattle.object_listing.specs.Versions.{is_write, is_read, knew, write_text, writes_text, read_text, reads_text, version_line};
 ghost use Rattle.object_listing.specs.Chosen.{versions_text};
 ghost use Rattle.object_listing.specs.Touched.{version_of};
+ghost use Rattle.object_listing.specs.Members.{has_thread};
 ghost use Rattle.object_listing.specs.Order.{Rises};
 
 use crate::texts::{put_event, put_number};
+use crate::threads::ThreadSet;
 use crate::touch::{ObjectTouch, has_read, has_write};
-use std::alloc::{AllocError, Global};
-use std::collections::BTreeSet;
+use std::alloc::AllocError;
 
 /// The threads that read or made the version before a version, by these touches.
-fn threads_before(
-    alloc: Global,
-    touches: &[ObjectTouch],
-    version: u128,
-) -> Result<BTreeSet<u32>, AllocError>
-    ensures { IfOk result (λ threads. (thread : ℕ) → contains nat_cmp threads thread ≡ knew touches.now version thread) }
+fn threads_before(touches: &[ObjectTouch], version: u128) -> ThreadSet
+    ensures { (thread : ℕ) → has_thread result thread ≡ knew touches.now version thread }
 {
-    let mut threads = BTreeSet::new(alloc);
+    let mut threads = ThreadSet::new();
     for touch in touches {
         if touch.version() + 1 == version {
-            threads.insert(touch.at.thread)?;
+            threads.insert(touch.thread);
         }
     }
-    Ok(threads)
+    threads
 }
 
-/// Puts behind a text that a thread did not know the version before, where it did not.
-fn put_unread(text: &mut String, knew_before: bool) -> Result<(), AllocError>
-    ensures { OnOk result (string_bytes text.new ≡ string_bytes text.old ++ (if knew_before then [] else codes " unread")) }
+/// Puts behind a text that who made a version did not know the version before, where it did not. Version 0 no thread made.
+fn put_unread(text: &mut String, version: u128, knew_before: bool) -> Result<(), AllocError>
+    ensures { OnOk result (string_bytes text.new ≡ string_bytes text.old ++ (if version == 1 || knew_before then [] else codes " unread")) }
 {
-    if knew_before {
+    if version == 1 || knew_before {
         return Ok(());
     }
     text.push_str(" unread")
@@ -45,28 +40,30 @@ fn put_unread(text: &mut String, knew_before: bool) -> Result<(), AllocError>
 /// Puts who made a version behind a text.
 fn put_write(
     text: &mut String,
-    threads: &BTreeSet<u32>,
+    version: u128,
+    threads: &ThreadSet,
     touch: &ObjectTouch,
 ) -> Result<(), AllocError>
-    ensures { OnOk result (string_bytes text.new ≡ string_bytes text.old ++ write_text (contains nat_cmp threads.now) touch.now) }
+    ensures { OnOk result (string_bytes text.new ≡ string_bytes text.old ++ write_text version (has_thread threads.now) touch.now) }
 {
     text.push_str(" written by ")?;
-    put_event(text, touch.at)?;
-    put_unread(text, threads.contains(&touch.at.thread))?;
+    put_event(text, touch.at())?;
+    put_unread(text, version, threads.contains(touch.thread))?;
     Ok(())
 }
 
 /// Puts each of the writes behind a text.
 fn put_each_write(
     text: &mut String,
-    threads: &BTreeSet<u32>,
+    version: u128,
+    threads: &ThreadSet,
     touches: &[ObjectTouch],
 ) -> Result<(), AllocError>
-    ensures { OnOk result (string_bytes text.new ≡ string_bytes text.old ++ flat_map (write_text (contains nat_cmp threads.now)) (filter is_write touches.now)) }
+    ensures { OnOk result (string_bytes text.new ≡ string_bytes text.old ++ flat_map (write_text version (has_thread threads.now)) (filter is_write touches.now)) }
 {
     for touch in touches {
         if touch.is_write {
-            put_write(text, threads, touch)?;
+            put_write(text, version, threads, touch)?;
         }
     }
     Ok(())
@@ -76,13 +73,13 @@ fn put_each_write(
 fn put_writes(
     text: &mut String,
     version: u128,
-    threads: &BTreeSet<u32>,
+    threads: &ThreadSet,
     touches: &[ObjectTouch],
 ) -> Result<(), AllocError>
-    ensures { OnOk result (string_bytes text.new ≡ string_bytes text.old ++ writes_text version (contains nat_cmp threads.now) touches.now) }
+    ensures { OnOk result (string_bytes text.new ≡ string_bytes text.old ++ writes_text version (has_thread threads.now) touches.now) }
 {
     if has_write(touches) {
-        put_each_write(text, threads, touches)
+        put_each_write(text, version, threads, touches)
     } else if version == 0 {
         Ok(())
     } else {
@@ -97,7 +94,7 @@ fn put_each_read(text: &mut String, touches: &[ObjectTouch]) -> Result<(), Alloc
     for touch in touches {
         if !touch.is_write {
             text.push_str(" ")?;
-            put_event(text, touch.at)?;
+            put_event(text, touch.at())?;
         }
     }
     Ok(())
@@ -119,10 +116,10 @@ fn put_version(
     text: &mut String,
     object: u32,
     version: u128,
-    threads: &BTreeSet<u32>,
+    threads: &ThreadSet,
     touches: &[ObjectTouch],
 ) -> Result<(), AllocError>
-    ensures { OnOk result (string_bytes text.new ≡ string_bytes text.old ++ version_line object version (contains nat_cmp threads.now) touches.now) }
+    ensures { OnOk result (string_bytes text.new ≡ string_bytes text.old ++ version_line object version (has_thread threads.now) touches.now) }
 {
     put_number(text, u128::from(object))?;
     text.push_str("@")?;
@@ -145,7 +142,6 @@ fn version_len(touches: &[ObjectTouch], version: u128) -> usize
 
 /// Puts the lines of an object's versions behind a text.
 pub(crate) fn put_versions(
-    alloc: Global,
     text: &mut String,
     object: u32,
     touches: &[ObjectTouch],
@@ -158,7 +154,7 @@ pub(crate) fn put_versions(
     while let Some(first) = rest.first() {
         let version = first.version();
         let (group, others) = rest.split_at(version_len(rest, version));
-        let threads = threads_before(alloc, before, version)?;
+        let threads = threads_before(before, version);
         put_version(text, object, version, &threads, group)?;
         before = group;
         rest = others;

@@ -43,7 +43,7 @@ module _ (files : List MemoryFile) where
     by_request said told (Some p) path h (request.Check other) k text done =
         let same : other.now ≡ path.now = ap text_of (sym k.1 ∙ h.1) in
         subst (λ (l : List ℕ). HasValidModule files l) same (valid other.now text done.0)
-    by_request said told (Some p) path h (request.Gather skips objects contradictions) k text done = absurd (another p.0 (codes "gather") h.0 k.0 refl)
+    by_request said told (Some p) path h (request.Gather skips form) k text done = absurd (another p.0 (codes "gather") h.0 k.0 refl)
     by_request said told (Some p) path h (request.Record r) k text done = absurd (another p.0 (codes "record") h.0 k.0 refl)
     by_request said told (Some p) path h (request.Hunt r) k text done = absurd (another p.0 (codes "hunt") h.0 k.0 refl)
     by_request said told (Some p) path h (request.Replay r by_threads) k text done = absurd (another p.0 (codes "replay") h.0 k.0 refl)

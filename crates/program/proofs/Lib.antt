@@ -1,3 +1,4 @@
+pub mod Listings
 pub mod Stops
 pub mod Told
 pub mod InMemory

@@ -1,10 +1,10 @@
 -- How a command stops.
 use Rattle.std.proofs.Common.{◌≡◌, ℕ, List, [], ◌++◌, Bool, true, false, Result, Ok, Err, OnOk, OnErr, IfErr, inl, inr, sym, subst, refl}
-use Rattle.wasm_types.specs.declared.key.RunKey.{RunKey}
 use Rattle.clap.specs.Words.{Text}
 use Rattle.command_words.specs.Asked.{Asks, IsRequested, asks_why}
 use Rattle.command_words.specs.declared.command.Asked.{Asked}
 use Rattle.command_words.specs.declared.command.Asked.TheVariants as asked
+use Rattle.command_words.specs.declared.requests.GatherForm.{GatherForm}
 use Rattle.command_words.specs.declared.requests.Request.{Request}
 use Rattle.command_words.specs.declared.requests.RecordRequest.{RecordRequest}
 use Rattle.command_words.specs.declared.requests.HuntRequest.{HuntRequest}
@@ -14,14 +14,9 @@ use Rattle.commands.specs.Hunts.{IsHuntAnswer}
 use Rattle.commands.specs.Replays.{IsReplayRefused}
 use Rattle.replica.specs.declared.skipping.Skipped.{Skipped}
 use Rattle.command_words.specs.declared.requests.Request.TheVariants as request
-use Rattle.log_pieces.specs.declared.fault.LineFault.{LineFault}
-use Rattle.replica.specs.Gathered.{IsBadLine, IsOtherRun, IsCutText}
-use Rattle.replica.specs.Lines.{IsDeviceFault}
-use Rattle.replica.specs.declared.fault.GatherFault.{GatherFault}
-use Rattle.replica.specs.declared.fault.GatherFault.TheVariants as gathering
 use Rattle.commands.specs.declared.fault.Fault.{Fault}
 use Rattle.commands.specs.declared.fault.Fault.TheVariants.{SinkFailed}
-use Rattle.program.specs.Answers.{IsListed, IsListedSkipping, IsShown, IsCut, IsSaid, IsDone, IsStopped, fault_of, form_of}
+use Rattle.program.specs.Answers.{IsGatheredText, IsNotGathered, IsTextStopped, IsShown, IsSaid, IsDone, IsStopped}
 
 -- what the words ask for, where that is a request
 pub as_requested : (words : List Text) (found : Asked) (r : Request) (why : Bool) → found ≡ asked.Request r why → IsRequested words found → Asks words r × (why ≡ asks_why words)
@@ -48,10 +43,22 @@ module _ (holds : List ℕ → List ℕ → Type 0) (fails brought : List ℕ �
       subst (λ (q : Request). IsShown took (IsDone holds fails brought ended broke counted said told q)) (sym is) (text, subst (IsDone holds fails brought ended broke counted said told asks) (sym same) done, shown)
   shown_done asked asks text items counted said told (Err fault) is same done shown = tt
 
-  -- so is a listing
-  pub gather_done : (asked : Request) (objects contradictions : Bool) (counted : Skipped → Type 0) (said told : List ℕ → Type 0) (listed : List ℕ) → asked ≡ request.Gather false objects contradictions → IsListed (form_of objects contradictions) brought ended listed → said []
-      → took listed → IsShown took (IsDone holds fails brought ended broke counted said told asked)
-  gather_done asked objects contradictions counted said told listed is done none shown = subst (λ (q : Request). IsShown took (IsDone holds fails brought ended broke counted said told q)) (sym is) (listed, (done, none), shown)
+  -- so is a listing, of which nothing is said but the numbers of lines that are passed over
+  pub gathered_done : (asked : Request) (skips : Bool) (form : GatherForm) (counted : Skipped → Type 0) (said told : List ℕ → Type 0) (unsaid : Type 0) {T : Type 0} (result : Result T Fault) → asked ≡ request.Gather skips form
+      → (unsaid → said []) → OnOk result (IsShown took (IsGatheredText brought ended counted unsaid skips form)) → OnOk result (IsShown took (IsDone holds fails brought ended broke counted said told asked))
+  gathered_done asked skips form counted said told unsaid (Ok x) is none done =
+      subst (λ (q : Request). IsShown took (IsDone holds fails brought ended broke counted said told q)) (sym is) (done.0, told_of skips done.1, done.2)
+    where
+      told_of : (b : Bool) → IsGatheredText brought ended counted unsaid b form done.0 → IsGatheredText brought ended counted (said []) b form done.0
+      told_of false h = (h.0, none h.1)
+      told_of true h = h
+  gathered_done asked skips form counted said told unsaid (Err fault) is none done = tt
+
+  pub gathered_stops : (asked : Request) (skips : Bool) (form : GatherForm) {T : Type 0} (result : Result T Fault) → asked ≡ request.Gather skips form
+      → IfErr result (IsTextStopped (IsNotGathered brought ended broke skips) (IsGatheredText brought ended (λ skipped. Unit {0}) (Unit {0}) skips form) took unwritten unwritable)
+      → IfErr result (IsStopped holds fails brought ended broke took unwritten unwritable asked)
+  gathered_stops asked skips form (Ok x) is stopped = tt
+  gathered_stops asked skips form (Err fault) is stopped = subst (λ (q : Request). IsStopped holds fails brought ended broke took unwritten unwritable q fault) (sym is) stopped
 
   -- a recording is done where its text was shown, and its line told
   pub record_done : (asked : Request) (r : RecordRequest) (answer : AnswerAt) (counted : Skipped → Type 0) (said told : List ℕ → Type 0) {T : Type 0} (result : Result T Fault) → asked ≡ request.Record r
@@ -77,51 +84,3 @@ module _ (holds : List ℕ → List ℕ → Type 0) (fails brought : List ℕ �
       → IsReplayRefused holds fails r by_threads fault → unwritten → IsStopped holds fails brought ended broke took unwritten unwritable asked fault
   replay_stops asked r by_threads fault is refused kept =
       subst (λ (q : Request). IsStopped holds fails brought ended broke took unwritten unwritable q fault) (sym is) (inl (refused, kept))
-
-  -- gathering stops at what the source brought, at its failure, or at the output's
-  module _ {T : Type 0} (objects contradictions : Bool) where
-    stops : (fault : GatherFault)
-        → ((n : ℕ) (reason : LineFault) → ◌≡◌ {A = Result T GatherFault} (Err fault) (Err (gathering.BadLine n reason)) → (text : List ℕ) × brought text × IsBadLine ended text n)
-        → ((n : ℕ) (own first : RunKey) → ◌≡◌ {A = Result T GatherFault} (Err fault) (Err (gathering.OtherRun n own first)) → (text : List ℕ) × brought text × IsOtherRun text n own first)
-        → (◌≡◌ {A = Result T GatherFault} (Err fault) (Err gathering.SourceFailed) → ((text : List ℕ) × brought text × IsCutText text) × broke)
-        → (◌≡◌ {A = Result T GatherFault} (Err fault) (Err gathering.SinkFailed) → IsCut took (IsListed (form_of objects contradictions) brought ended) × unwritable)
-        → ((◌≡◌ {A = Result T GatherFault} (Err fault) (Err gathering.SinkFailed) → ⊥) → unwritten)
-        → IsStopped holds fails brought ended broke took unwritten unwritable (request.Gather false objects contradictions) (fault_of fault)
-    stops (gathering.BadLine n reason) bad other source sink kept = inl (bad n reason refl, kept (λ e. absurd cc))
-    stops (gathering.OtherRun n own first) bad other source sink kept = inl (other n own first refl, kept (λ e. absurd cc))
-    stops gathering.NoMemory bad other source sink kept = inl (tt, kept (λ e. absurd cc))
-    stops gathering.SourceFailed bad other source sink kept = inl (source refl, kept (λ e. absurd cc))
-    stops gathering.SinkFailed bad other source sink kept = let s = sink refl in inr (refl, s.1, (s.0.0, s.0.1, s.0.2, (s.0.3, tt), s.0.4, s.0.5))
-
-    pub gather_stops : (asked : Request) (told : Fault) (fault : GatherFault) → asked ≡ request.Gather false objects contradictions → told ≡ fault_of fault
-        → ((n : ℕ) (reason : LineFault) → ◌≡◌ {A = Result T GatherFault} (Err fault) (Err (gathering.BadLine n reason)) → (text : List ℕ) × brought text × IsBadLine ended text n)
-        → ((n : ℕ) (own first : RunKey) → ◌≡◌ {A = Result T GatherFault} (Err fault) (Err (gathering.OtherRun n own first)) → (text : List ℕ) × brought text × IsOtherRun text n own first)
-        → (◌≡◌ {A = Result T GatherFault} (Err fault) (Err gathering.SourceFailed) → ((text : List ℕ) × brought text × IsCutText text) × broke)
-        → (◌≡◌ {A = Result T GatherFault} (Err fault) (Err gathering.SinkFailed) → IsCut took (IsListed (form_of objects contradictions) brought ended) × unwritable)
-        → ((◌≡◌ {A = Result T GatherFault} (Err fault) (Err gathering.SinkFailed) → ⊥) → unwritten)
-        → IsStopped holds fails brought ended broke took unwritten unwritable asked told
-    gather_stops asked told fault is tells bad other source sink kept =
-        subst (λ (r : Request). IsStopped holds fails brought ended broke took unwritten unwritable r told) (sym is)
-        (subst (IsStopped holds fails brought ended broke took unwritten unwritable (request.Gather false objects contradictions)) (sym tells) (stops fault bad other source sink kept))
-
-  -- gathering past bad lines stops at the source's failure, or at the output's
-  module _ {T : Type 0} (objects contradictions : Bool) where
-    skipping : (fault : GatherFault) → IsDeviceFault fault
-        → (◌≡◌ {A = Result T GatherFault} (Err fault) (Err gathering.SourceFailed) → broke)
-        → (◌≡◌ {A = Result T GatherFault} (Err fault) (Err gathering.SinkFailed) → IsCut took (IsListedSkipping (form_of objects contradictions) brought ended (λ skipped. Unit {0})) × unwritable)
-        → ((◌≡◌ {A = Result T GatherFault} (Err fault) (Err gathering.SinkFailed) → ⊥) → unwritten)
-        → IsStopped holds fails brought ended broke took unwritten unwritable (request.Gather true objects contradictions) (fault_of fault)
-    skipping (gathering.BadLine n reason) device source sink kept = absurd device
-    skipping (gathering.OtherRun n own first) device source sink kept = absurd device
-    skipping gathering.NoMemory device source sink kept = inl (tt, kept (λ e. absurd cc))
-    skipping gathering.SourceFailed device source sink kept = inl (source refl, kept (λ e. absurd cc))
-    skipping gathering.SinkFailed device source sink kept = let s = sink refl in inr (refl, s.1, s.0)
-
-    pub skipping_stops : (asked : Request) (told : Fault) (fault : GatherFault) → asked ≡ request.Gather true objects contradictions → told ≡ fault_of fault → IsDeviceFault fault
-        → (◌≡◌ {A = Result T GatherFault} (Err fault) (Err gathering.SourceFailed) → broke)
-        → (◌≡◌ {A = Result T GatherFault} (Err fault) (Err gathering.SinkFailed) → IsCut took (IsListedSkipping (form_of objects contradictions) brought ended (λ skipped. Unit {0})) × unwritable)
-        → ((◌≡◌ {A = Result T GatherFault} (Err fault) (Err gathering.SinkFailed) → ⊥) → unwritten)
-        → IsStopped holds fails brought ended broke took unwritten unwritable asked told
-    skipping_stops asked told fault is tells device source sink kept =
-        subst (λ (r : Request). IsStopped holds fails brought ended broke took unwritten unwritable r told) (sym is)
-        (subst (IsStopped holds fails brought ended broke took unwritten unwritable (request.Gather true objects contradictions)) (sym tells) (skipping fault device source sink kept))

@@ -12,8 +12,11 @@ use Rattle.replica.specs.declared.skipping.Skipped.{Skipped}
 use Rattle.replica.specs.declared.fault.GatherFault.{GatherFault}
 use Rattle.replica.specs.declared.fault.GatherFault.TheVariants as gathering
 use Rattle.command_words.specs.Asked.{Asks, AsksNothing, AsksForText, asks_why}
+use Rattle.command_words.specs.declared.requests.GatherForm.{GatherForm}
+use Rattle.command_words.specs.declared.requests.GatherForm.TheVariants as form
 use Rattle.command_words.specs.declared.requests.Request.{Request}
 use Rattle.command_words.specs.declared.requests.Request.TheVariants as request
+use Rattle.object_listing.specs.Chosen.{IsObjectListing}
 use Rattle.commands.specs.Texts.{fault_text}
 use Rattle.explanations.specs.Explained.{IsExplanation}
 use Rattle.commands.specs.Checks.{IsChecked, IsCheckRefused}
@@ -30,9 +33,14 @@ abbrev pub fault_of : GatherFault → Fault
 fault_of gathering.SinkFailed = SinkFailed
 fault_of fault = Gather fault
 
--- what a listing says
+-- what a listing by threads says
 abbrev pub form_of : Bool → Bool → ListingForm
 form_of objects contradictions = record { objects = objects; contradictions = contradictions }
+
+-- the text is the listing of the log of these pieces in that form, by threads or by objects
+abbrev pub IsInForm : GatherForm → List PieceValue → List ℕ → Type 0
+IsInForm (form.ByThread objects contradictions) = IsListing (form_of objects contradictions)
+IsInForm (form.ByObject only shared) = IsObjectListing (record { only = only.items; shared = shared })
 
 module _ {Sink : Type 0} (takes : List ℕ → Sink → Type 0) where
   -- a beginning of the text was taken
@@ -40,17 +48,17 @@ module _ {Sink : Type 0} (takes : List ℕ → Sink → Type 0) where
   WritesSome text sink = (part rest : List ℕ) × (text ≡ part ++ rest) × takes part sink
 
 -- the source brought lines of pieces, up to its end, and this is the listing of their log
-pub record IsListed (form : ListingForm) (brought : List ℕ → Type 0) (ended : Type 0) (listed : List ℕ) : Type 0 where
+pub record IsListed (is_listing_of : List PieceValue → List ℕ → Type 0) (brought : List ℕ → Type 0) (ended : Type 0) (listed : List ℕ) : Type 0 where
   pub text : List ℕ
   pub came : brought text
   pub end : ended
   pub pieces : List PieceValue
   pub lines : IsText text pieces
-  pub is_listing : IsListing form pieces listed
+  pub is_listing : is_listing_of pieces listed
 
 -- the source brought a text, up to its end, and this is the listing of the pieces that are kept of its lines; their
 -- numbers were told
-pub record IsListedSkipping (form : ListingForm) (brought : List ℕ → Type 0) (ended : Type 0) (counted : Skipped → Type 0) (listed : List ℕ) : Type 0 where
+pub record IsListedSkipping (is_listing_of : List PieceValue → List ℕ → Type 0) (brought : List ℕ → Type 0) (ended : Type 0) (counted : Skipped → Type 0) (listed : List ℕ) : Type 0 where
   pub text : List ℕ
   pub came : brought text
   pub end : ended
@@ -59,7 +67,7 @@ pub record IsListedSkipping (form : ListingForm) (brought : List ℕ → Type 0)
   pub skipped : Skipped
   pub kept : List PieceValue
   pub is_skipped : IsSkipped lines skipped kept
-  pub is_listing : IsListing form kept listed
+  pub is_listing : is_listing_of kept listed
   pub told : counted skipped
 
 -- why what the source brought is refused; `broke` says that the source failed
@@ -75,6 +83,19 @@ abbrev pub IsSkippingRefused : Type 0 → Fault → Type 0
 IsSkippingRefused broke (Gather gathering.NoMemory) = Unit {0}
 IsSkippingRefused broke (Gather gathering.SourceFailed) = broke
 IsSkippingRefused broke _ = ⊥
+
+-- What the source brought, and whether it ended.
+module _ (brought : List ℕ → Type 0) (ended : Type 0) where
+  -- the text of a listing of what came, or of the lines that can be joined; `counted` says that the numbers of lines
+  -- passed over were told, and `said` that nothing was
+  abbrev pub IsGatheredText : (Skipped → Type 0) → Type 0 → Bool → GatherForm → List ℕ → Type 0
+  IsGatheredText counted said false form text = IsListed (IsInForm form) brought ended text × said
+  IsGatheredText counted said true form text = IsListedSkipping (IsInForm form) brought ended counted text
+
+  -- when each fault is answered
+  abbrev pub IsNotGathered : Type 0 → Bool → Fault → Type 0
+  IsNotGathered broke false fault = IsGatherRefused brought ended broke fault
+  IsNotGathered broke true fault = IsSkippingRefused broke fault
 
 -- the line of a fault
 abbrev pub fault_line : Fault → List ℕ
@@ -116,13 +137,16 @@ module _ (took : List ℕ → Type 0) where
   abbrev pub IsCut : (List ℕ → Type 0) → Type 0
   IsCut is = (text part rest : List ℕ) × is text × (text ≡ part ++ rest) × took part
 
+-- writing such a text stops: it is refused, and nothing was written; or the output failed behind a beginning of one
+abbrev pub IsTextStopped : (Fault → Type 0) → (List ℕ → Type 0) → (List ℕ → Type 0) → Type 0 → Type 0 → Fault → Type 0
+IsTextStopped refused is took unwritten unwritable fault = (refused fault × unwritten) ⊎ ((fault ≡ SinkFailed) × unwritable × IsCut took is)
+
 -- What the files may hold and which may fail, what the source brought, and whether it ended or failed.
 module _ (holds : List ℕ → List ℕ → Type 0) (fails : List ℕ → Type 0) (brought : List ℕ → Type 0) (ended broke : Type 0) where
   -- the text of a command that is done; `counted` says that the numbers of lines passed over were told, `said` that a
   -- recording's line of the threads that stopped was, or nothing, and `told` that which run is caught was
   abbrev pub IsDone : (Skipped → Type 0) → (List ℕ → Type 0) → (List ℕ → Type 0) → Request → List ℕ → Type 0
-  IsDone counted said told (request.Gather false objects contradictions) text = IsListed (form_of objects contradictions) brought ended text × said []
-  IsDone counted said told (request.Gather true objects contradictions) text = IsListedSkipping (form_of objects contradictions) brought ended counted text
+  IsDone counted said told (request.Gather skips form) text = IsGatheredText brought ended counted (said []) skips form text
   IsDone counted said told (request.Check path) text = IsChecked (holds path.now) text × said []
   IsDone counted said told (request.Record r) text = (answer : AnswerAt) × IsRecordAnswer holds r answer × (text ≡ answer.text) × said answer.told
   IsDone counted said told (request.Hunt r) text = (answer : AnswerAt) × IsHuntAnswer holds r answer × (text ≡ answer.text) × told answer.told
@@ -132,8 +156,7 @@ module _ (holds : List ℕ → List ℕ → Type 0) (fails : List ℕ → Type 0
 
   -- when each fault is answered
   abbrev pub IsRefused : Request → Fault → Type 0
-  IsRefused (request.Gather false objects contradictions) fault = IsGatherRefused brought ended broke fault
-  IsRefused (request.Gather true objects contradictions) fault = IsSkippingRefused broke fault
+  IsRefused (request.Gather skips form) fault = IsNotGathered brought ended broke skips fault
   IsRefused (request.Check path) fault = IsCheckRefused (holds path.now) (fails path.now) fault
   IsRefused (request.Record r) fault = IsRecordRefused holds fails r fault
   IsRefused (request.Hunt r) fault = IsHuntRefused holds fails r fault
@@ -145,7 +168,7 @@ module _ (holds : List ℕ → List ℕ → Type 0) (fails : List ℕ → Type 0
   module _ (took : List ℕ → Type 0) (unwritten unwritable : Type 0) where
     -- a command stops: it is refused, and nothing was written; or the output failed
     abbrev pub IsStopped : Request → Fault → Type 0
-    IsStopped r fault = (IsRefused r fault × unwritten) ⊎ ((fault ≡ SinkFailed) × unwritable × IsCut took (IsDone (λ skipped. Unit {0}) (λ line. Unit {0}) (λ line. Unit {0}) r))
+    IsStopped r = IsTextStopped (IsRefused r) (IsDone (λ skipped. Unit {0}) (λ line. Unit {0}) (λ line. Unit {0}) r) took unwritten unwritable
 
     -- Whether numbers of lines were told, which texts were told from first to last, and whether no file and no input
     -- was read.

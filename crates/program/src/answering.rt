@@ -4,20 +4,17 @@ ghost use Rattle.std.specs.Prelude.{◌≡◌, ◌<◌, ◌-◌, ◌^◌, ◌⊎
 ghost use Rattle.std.specs.IoError.{error_kind};
 ghost use Rattle.commands.specs.Texts.{skipped_text};
 ghost use Rattle.commands.specs.declared.fault.Fault.TheVariants as faults;
-ghost use Rattle.replica.specs.declared.fault.GatherFault.TheVariants as gathering;
-ghost use Rattle.replica.specs.Lines.{IsDeviceFault};
-ghost use Rattle.program.specs.Answers.{WritesSome, IsShown, IsCut, IsSaid, IsListedSkipping, IsDone, IsStopped, IsAnswered, fault_line, fault_of, form_of, not_text_line, odd_line};
+ghost use Rattle.program.specs.Answers.{IsShown, IsSaid, IsDone, IsStopped, IsAnswered, fault_line, not_text_line, odd_line};
 
+use crate::gathering::list;
 use crate::refusing::{refuse, refuse_request};
+use crate::showing::{show, show_and_tell};
 use arrayvec::ArrayString;
-use byte_streams::{Failed, Sink, Source, write_all};
+use byte_streams::{Sink, Source, write_all};
 use command_words::{Asked, Request, requested};
-use commands::{
-    Fault, Files, RecordAnswer, check, hunt, record, replay, skipped_text, trace, view,
-};
+use commands::{Fault, Files, check, hunt, record, replay, trace, view};
 use itoa::Buffer;
 use log::Log;
-use replica::{GatherFault, ListingForm, Skipped, gather, gather_skipping};
 use std::alloc::Global;
 use std::convert::AsStr;
 use std::io::{self, ErrorKind};
@@ -29,73 +26,6 @@ use wasm_types::NoMemory;
 /// What is said where the command line is not text.
 const NOT_UTF_8: &str = "error: a word of the command line is not UTF-8\n";
 
-/// Writes a text to the output.
-fn show<W: Sink>(output: &mut W, text: &[u8]) -> Result<(), Fault>
-    requires { W.failed output.old < 2 ^ 64 - 1 }
-    ensures shown { OnOk result (W.takes output.old text.now output.new) }
-    ensures begun { OnErr result (WritesSome (W.takes output.old) text.now output.new) }
-    ensures none_failed { OnOk result (W.failed output.new ≡ W.failed output.old) }
-    ensures one_failed { OnErr result (W.failed output.new ≡ W.failed output.old + 1) }
-    ensures error { IfErr result (λ fault. fault ≡ faults.SinkFailed) }
-{
-    match write_all(output, text) {
-        Ok(()) => Ok(()),
-        Err(Failed) => Err(Fault::SinkFailed),
-    }
-}
-
-/// Writes what a recording answers to the output: a text, or lines that are made as they are written.
-fn show_recorded<W: Sink>(output: &mut W, answer: &mut RecordAnswer) -> Result<(), Fault>
-    requires { W.failed output.old < 2 ^ 64 - 1 }
-    ensures shown { OnOk result (W.takes output.old answer.old.text output.new) }
-    ensures begun { OnErr result (WritesSome (W.takes output.old) answer.old.text output.new) }
-    ensures told { answer.new.told ≡ answer.old.told }
-    ensures none_failed { OnOk result (W.failed output.new ≡ W.failed output.old) }
-    ensures one_failed { OnErr result (W.failed output.new ≡ W.failed output.old + 1) }
-    ensures error { IfErr result (λ fault. fault ≡ faults.SinkFailed) }
-{
-    match answer.write(output) {
-        Ok(()) => Ok(()),
-        Err(_) => Err(Fault::SinkFailed),
-    }
-}
-
-/// Writes what is told beside a text, where it is wanted. Where writing fails there is nobody to tell.
-fn tell<E: Sink>(errors: &mut E, wanted: bool, told: &[u8])
-    requires { E.failed errors.old < 2 ^ 64 - 1 }
-    ensures { IsSaid (λ text. (E.takes errors.old text errors.new) ⊎ (E.failed errors.new ≡ E.failed errors.old + 1)) wanted told.now }
-{
-    if wanted {
-        let _ = write_all(errors, told);
-    }
-}
-
-/// Shows what a recording or a hunt answers, and what is told beside it, where that is wanted.
-fn show_and_tell<W: Sink, E: Sink>(
-    output: &mut W,
-    errors: &mut E,
-    mut answer: RecordAnswer,
-    wanted: bool,
-) -> Result<(), Fault>
-    requires output { W.failed output.old < 2 ^ 64 - 1 }
-    requires errors { E.failed errors.old < 2 ^ 64 - 1 }
-    ensures shown { OnOk result (W.takes output.old answer.text output.new) }
-    ensures told { OnOk result (IsSaid (λ text. (E.takes errors.old text errors.new) ⊎ (E.failed errors.new ≡ E.failed errors.old + 1)) wanted answer.told) }
-    ensures begun { OnErr result (WritesSome (W.takes output.old) answer.text output.new) }
-    ensures none_failed { OnOk result (W.failed output.new ≡ W.failed output.old) }
-    ensures one_failed { OnErr result (W.failed output.new ≡ W.failed output.old + 1) }
-    ensures error { IfErr result (λ fault. fault ≡ faults.SinkFailed) }
-    ensures untold { OnErr result (errors.new ≡ errors.old) }
-{
-    match show_recorded(output, &mut answer) {
-        Ok(()) => {
-            tell(errors, wanted, answer.told());
-            Ok(())
-        }
-        Err(fault) => Err(fault),
-    }
-}
-
 /// Writes what is wrong with a command line, and answers the exit status of one that is not understood.
 fn complain<E: Sink>(errors: &mut E, text: &str) -> u8
     requires { E.failed errors.old < 2 ^ 64 - 1 }
@@ -104,65 +34,6 @@ fn complain<E: Sink>(errors: &mut E, text: &str) -> u8
 {
     let _ = write_all(errors, text.as_bytes());
     2
-}
-
-/// The program's fault where gathering is refused.
-fn fault_of(fault: GatherFault) -> Fault
-    ensures { result ≡ fault_of fault }
-{
-    match fault {
-        GatherFault::SinkFailed => Fault::SinkFailed,
-        other => Fault::Gather(other),
-    }
-}
-
-/// Writes the line that tells how many lines were passed over. Where writing fails there is nobody to tell.
-fn tell_skipped<E: Sink>(errors: &mut E, skipped: &Skipped)
-    requires { E.failed errors.old < 2 ^ 64 - 1 }
-    ensures { (E.takes errors.old (skipped_text skipped.now ++ 10 ∷ []) errors.new) ⊎ (E.failed errors.new ≡ E.failed errors.old + 1) }
-{
-    let mut line = skipped_text(skipped);
-    line.push_str("\n");
-    let _ = write_all(errors, line.as_str().as_bytes());
-}
-
-/// What a listing says.
-fn form_of(objects: bool, contradictions: bool) -> ListingForm
-    ensures { result ≡ form_of objects contradictions }
-{
-    ListingForm {
-        objects,
-        contradictions,
-    }
-}
-
-/// Gathers past lines that cannot be joined, and tells how many there were.
-fn gather_and_tell<R: Source, W: Sink, E: Sink>(
-    alloc: Global,
-    source: &mut R,
-    output: &mut W,
-    errors: &mut E,
-    form: ListingForm,
-) -> Result<(), GatherFault>
-    requires source { R.failed source.old < 2 ^ 64 - 1 }
-    requires output { W.failed output.old < 2 ^ 64 - 1 }
-    requires errors { E.failed errors.old < 2 ^ 64 - 1 }
-    ensures shown { OnOk result (IsShown (λ text. W.takes output.old text output.new) (IsListedSkipping form (λ text. R.brings source.old text source.new) (R.ended source.new) (λ skipped. (E.takes errors.old (skipped_text skipped ++ 10 ∷ []) errors.new) ⊎ (E.failed errors.new ≡ E.failed errors.old + 1)))) }
-    ensures source_failed { result ≡ Err gathering.SourceFailed → R.failed source.new ≡ R.failed source.old + 1 }
-    ensures sink_failed { result ≡ Err gathering.SinkFailed → IsCut (λ text. W.takes output.old text output.new) (IsListedSkipping form (λ text. R.brings source.old text source.new) (R.ended source.new) (λ skipped. Unit {0})) × (W.failed output.new ≡ W.failed output.old + 1) }
-    ensures source_worked { OnOk result (R.failed source.new ≡ R.failed source.old) }
-    ensures sink_worked { OnOk result (W.failed output.new ≡ W.failed output.old) }
-    ensures unwritten { OnErr result ((result ≡ Err gathering.SinkFailed → ⊥) → output.new ≡ output.old) }
-    ensures untold { OnErr result (errors.new ≡ errors.old) }
-    ensures errors { IfErr result IsDeviceFault }
-{
-    match gather_skipping(alloc, source, output, form) {
-        Ok(skipped) => {
-            tell_skipped(errors, &skipped);
-            Ok(())
-        }
-        Err(fault) => Err(fault),
-    }
 }
 
 /// Does what is asked for.
@@ -187,25 +58,7 @@ fn perform<L: Log, T: Threads + Wait + Sync, F: Files, R: Source, W: Sink, E: Si
     ensures output_worked { OnOk result (W.failed output.new ≡ W.failed output.old) }
 {
     match request {
-        Request::Gather {
-            skips: false,
-            objects,
-            contradictions,
-        } => match gather(alloc, source, output, form_of(*objects, *contradictions)) {
-            Ok(()) => Ok(()),
-            Err(fault) => Err(fault_of(fault)),
-        },
-        Request::Gather {
-            skips: true,
-            objects,
-            contradictions,
-        } => {
-            let form = form_of(*objects, *contradictions);
-            match gather_and_tell(alloc, source, output, errors, form) {
-                Ok(()) => Ok(()),
-                Err(fault) => Err(fault_of(fault)),
-            }
-        }
+        Request::Gather { skips, form } => { list(alloc, *skips, form, source, output, errors) }
         Request::Check(path) => match check(rt, alloc, files, path) {
             Ok(text) => show(output, &text),
             Err(fault) => Err(fault),

@@ -6,7 +6,9 @@
 #![tactic(auto)]
 
 mod answering;
+mod gathering;
 mod refusing;
+mod showing;
 
 pub use answering::{OddWord, refuse_words, run};
 

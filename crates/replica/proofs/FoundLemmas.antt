@@ -1,5 +1,5 @@
 -- What is found in one more line.
-use Rattle.std.proofs.Common.{◌≡◌, ◌≢◌, ℕ, ◌+◌, ◌-◌, ◌^◌, ◌≤◌, List, [], ◌∷◌, ◌++◌, length, refl, sym, ap, subst, ◌∙◌, arith, inl, inr}
+use Rattle.std.proofs.Common.{◌≡◌, ◌≢◌, ℕ, ◌+◌, ◌-◌, ◌^◌, ◌<◌, ◌≤◌, List, [], ◌∷◌, ◌++◌, length, refl, sym, ap, subst, ◌∙◌, arith, inl, inr}
 use Rattle.std.specs.Prelude.{Option, Some, None, min}
 use Rattle.std.proofs.Math.ListN.{length-append}
 use Rattle.wasm_types.specs.declared.key.RunKey.{RunKey}
@@ -203,3 +203,8 @@ skips_found form brings ended source skipped takes found h rising taken = record
   listed : (kept : List PieceValue) (found : Option Replica) → IsFound kept found → found_ordered found → IsListing form kept (found_listing form found)
   listed [] found is rising = ap (λ (o : Option Replica). found_listing form o) is
   listed (first ∷ pieces) found is rising = (log_of is.0, is.2, subst (λ (o : Option Replica). found_ordered o) is.1 rising, ap (λ (o : Option Replica). found_listing form o) is.1)
+
+-- some pieces that were gathered are found
+pub found_gathered_some : (pieces : List PieceValue) (replica : Replica) → 0 < length pieces → IsGathered pieces (log_of replica) → IsFound pieces (Some replica)
+found_gathered_some [] replica some h = absurd (omega (arith, some))
+found_gathered_some (first ∷ pieces) replica some h = (replica, refl, h)

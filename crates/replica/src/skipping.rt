@@ -28,21 +28,23 @@ pub struct Skipped {
     pub foreign: u64,
 }
 
-/// What was found in lines: a replica of the first piece line's run, and how many lines were passed over.
+/// What was kept of lines.
 #[derive(Drop)]
-struct Found {
-    replica: Option<Replica>,
-    skipped: Skipped,
+pub struct Kept {
+    /// A replica of the first piece line's run, or nothing where there is no piece line.
+    pub replica: Option<Replica>,
+    /// How many lines were passed over.
+    pub skipped: Skipped,
 }
 
-impl Found {
+impl Kept {
     ghost use Rattle.std.specs.Prelude.{◌≡◌, ◌++◌, ◌∷◌, []};
 
     /// Nothing, in no lines.
-    fn new() -> Found
+    fn new() -> Kept
         ensures { HasFound [] result.replica result.skipped }
     {
-        Found {
+        Kept {
             replica: None,
             skipped: Skipped { bad: 0, foreign: 0 },
         }
@@ -85,33 +87,37 @@ impl Found {
     }
 }
 
-/// Finds what the lines up to the source's end have.
-fn find<R: Source>(alloc: Global, source: &mut R) -> Result<Found, GatherFault>
+/// Collects as `collect` does, but passes over lines that are no piece lines, and piece lines of another run than the
+/// first one's, and counts them. A line that is longer than any piece line is passed over without being kept.
+pub fn collect_skipping<R: Source>(alloc: Global, source: &mut R) -> Result<Kept, GatherFault>
     requires { R.failed source.old < 2 ^ 64 - 1 }
-    ensures finds { IfOk result (λ found. Finds (R.brings source.old) (R.ended source.new) source.new found.replica found.skipped) }
+    // The source brought a text up to its end, and of its lines the pieces of the first piece line's run are in the
+    // replica's log, and the others are counted.
+    ensures finds { IfOk result (λ kept. Finds (R.brings source.old) (R.ended source.new) source.new kept.replica kept.skipped) }
+    // The source failed exactly where its count of failures grew.
     ensures source_failed { result ≡ Err faults.SourceFailed → R.failed source.new ≡ R.failed source.old + 1 }
     ensures none_failed { (result ≡ Err faults.SourceFailed → ⊥) → R.failed source.new ≡ R.failed source.old }
+    // No line is refused.
     ensures errors { IfErr result IsReadFault }
 {
     let mut chunk = Chunk::new(alloc)?;
     let mut line = Vec::new(alloc);
-    let mut found = Found::new();
+    let mut kept = Kept::new();
     loop {
         match next_whole(alloc, source, &mut chunk, &mut line) {
             Err(fault) => return Err(fault),
-            Ok(Judged::Line(judged)) => found.put(alloc, &judged)?,
+            Ok(Judged::Line(judged)) => kept.put(alloc, &judged)?,
             Ok(Judged::Last(judged)) => {
-                found.put(alloc, &judged)?;
-                return Ok(found);
+                kept.put(alloc, &judged)?;
+                return Ok(kept);
             }
-            Ok(Judged::End) => return Ok(found),
-            Ok(Judged::TooLong) => return Ok(found),
+            Ok(Judged::End) => return Ok(kept),
+            Ok(Judged::TooLong) => return Ok(kept),
         }
     }
 }
 
-/// Gathers as `gather` does, but passes over lines that are no piece lines, and piece lines of another run than the
-/// first one's, and counts them. A line that is longer than any piece line is passed over without being kept.
+/// Gathers as `gather` does, but passes over the lines that `collect_skipping` passes over, and counts them.
 pub fn gather_skipping<R: Source, W: Sink>(
     alloc: Global,
     source: &mut R,
@@ -134,9 +140,9 @@ pub fn gather_skipping<R: Source, W: Sink>(
     // No line is refused.
     ensures errors { IfErr result IsDeviceFault }
 {
-    match find(alloc, source) {
-        Ok(found) => match write_found(alloc, sink, form, &found.replica) {
-            Ok(()) => Ok(found.skipped),
+    match collect_skipping(alloc, source) {
+        Ok(kept) => match write_found(alloc, sink, form, &kept.replica) {
+            Ok(()) => Ok(kept.skipped),
             Err(fault) => Err(fault),
         },
         Err(fault) => Err(fault),

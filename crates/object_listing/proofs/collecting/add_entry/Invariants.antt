@@ -4,4 +4,4 @@ use Rattle.object_listing.specs.Touched.{touch_of}
 use Rattle.object_listing.proofs.collecting.add_entry.Given as goal
 
 abbrev pub invariant-loop-found : goal.invariant-loop-found
-invariant-loop-found l = l.touches.items ++ map (touch_of l.at.thread l.at.place) (drop l.found-index l.found-items) ≡ l.initial.touches.items ++ map (touch_of l.at.thread l.at.place) l.found-items
+invariant-loop-found l = l.touches.items ++ map (touch_of l.thread l.place) (drop l.found-index l.found-items) ≡ l.initial.touches.items ++ map (touch_of l.thread l.place) l.found-items

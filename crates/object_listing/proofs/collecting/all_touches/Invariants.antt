@@ -5,5 +5,5 @@ use Rattle.replica.specs.Log.{items_at}
 use Rattle.object_listing.specs.Touched.{touches_of_item, known_touches}
 use Rattle.object_listing.proofs.collecting.all_touches.Given as goal
 
-abbrev pub invariant-loop-thread : goal.invariant-loop-thread
-invariant-loop-thread l = l.found.items ++ flat_map (λ t. flat_map (touches_of_item t) (items_at l.log t)) (range_with_len l.thread (16 - l.thread)) ≡ known_touches l.log
+abbrev pub invariant-loop-number : goal.invariant-loop-number
+invariant-loop-number l = l.found.items ++ flat_map (λ t. flat_map (touches_of_item t) (items_at l.log t)) (range_with_len l.number (16 - l.number)) ≡ known_touches l.log

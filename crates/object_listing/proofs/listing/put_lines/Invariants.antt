@@ -8,7 +8,7 @@ use Rattle.object_listing.proofs.listing.put_lines.Given as goal
 
 abbrev pub invariant-loop-first : goal.invariant-loop-first
 invariant-loop-first l = record {
-  lines : string_bytes l.text ++ lines l.choice (object_text l.block) l.rest ≡ string_bytes l.initial.text ++ lines l.choice (object_text l.block) l.touches;
+  lines : string_bytes l.text ++ lines l.chosen (object_text l.block) l.rest ≡ string_bytes l.initial.text ++ lines l.chosen (object_text l.block) l.touches;
   order : IsOrdered l.rest;
 }
 

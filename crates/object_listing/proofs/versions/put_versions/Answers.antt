@@ -1,6 +1,5 @@
 use Rattle.std.proofs.Common.{◌++◌, refl}
-use Rattle.std.specs.BTreeSet.{contains}
-use Rattle.std.specs.Ordering.{nat_cmp}
+use Rattle.object_listing.specs.Members.{has_thread}
 use Rattle.std.specs.String.{string_bytes}
 use Rattle.object_listing.specs.Chosen.{versions_text}
 use Rattle.object_listing.proofs.Known.{seen_none}
@@ -13,7 +12,7 @@ loop-first-init c = record { lines = refl; seen = seen_none c.args.touches.now c
 pub loop-first-preserved : goal.loop-first-preserved
 loop-first-preserved c =
     let step = versions_step c.args.object c.args.touches.now c.loop-first.before.now c.loop-first.rest.now c.split_at.result.0.now c.split_at.result.1.now c.in-Some.first.now c.version-version.result c.version_len.result
-    (contains nat_cmp c.in_ok-threads.threads) (string_bytes c.loop-first.text) (string_bytes c.put_version.new.text) (string_bytes c.args.text.now ++ versions_text c.args.object c.args.touches.now)
+    (has_thread c.threads_before-threads.result) (string_bytes c.loop-first.text) (string_bytes c.put_version.new.text) (string_bytes c.args.text.now ++ versions_text c.args.object c.args.touches.now)
     c.in-Some.ensures.value c.version-version.ensures.version c.version_len.ensures.len c.split_at.ensures.front c.split_at.ensures.back
-    c.in_ok-threads.ensures c.in_ok-put_version.ensures c.loop-first.invariant.seen c.loop-first.invariant.lines in
+    c.threads_before-threads.ensures c.in_ok-put_version.ensures c.loop-first.invariant.seen c.loop-first.invariant.lines in
     record { lines = step.0; seen = step.1 }

@@ -1,33 +1,25 @@
-use Rattle.std.proofs.Common.{◌≡◌, ◌⊎◌, ◌+◌, ◌++◌, ℕ, List, [], ◌∷◌, inl, rules, refl, subst}
+use Rattle.std.proofs.Common.{◌≡◌, ◌⊎◌, ◌+◌, ◌++◌, ℕ, List, [], ◌∷◌, inl, rules, refl, subst, sym}
 use Rattle.commands.specs.Texts.{skipped_text}
-use Rattle.replica.specs.Gathered.{IsListing}
-use Rattle.replica.specs.declared.form.ListingForm.{ListingForm}
 use Rattle.program.specs.Answers.{IsSaid}
-use Rattle.program.proofs.Stops.{none_said, shown_done, gather_done, shown_stops, record_done, hunt_done, gather_stops, skipping_stops, replay_stops}
+use Rattle.program.proofs.Stops.{none_said, shown_done, gathered_done, shown_stops, record_done, hunt_done, gathered_stops, replay_stops}
 use Rattle.program.proofs.answering.perform.Goals as goal
 
-pub returns-in-Err-clause-stopped : goal.returns-in-Err-clause-stopped
-returns-in-Err-clause-stopped g c =
-    skipping_stops _ _ _ _ _ _ _ _ c.in-Gather-true-default-default.objects c.in-Gather-true-default-default.contradictions c.args.request.now c.fault_of.result c.in-Err.fault (cc (c.in-Gather-true-default-default.is)) c.fault_of.ensures
-    c.in-Err.ensures.errors c.in-Err.ensures.source_failed
-    (λ e. let s = c.in-Err.ensures.sink_failed e in
-    let d = s.0.3 in
-    ((s.0.0, s.0.1, s.0.2, record { text = d.text; came = d.came; end = d.end; lines = d.lines; judged = d.judged; skipped = d.skipped; kept = d.kept; is_skipped = d.is_skipped; is_listing = subst (λ (f : ListingForm). IsListing f d.kept s.0.0) c.form_of-form.ensures d.is_listing; told = d.told }, s.0.4, s.0.5), s.1))
-    c.in-Err.ensures.unwritten
+pub returns-in-Gather-clause-stopped : goal.returns-in-Gather-clause-stopped
+returns-in-Gather-clause-stopped g c =
+    gathered_stops _ _ _ _ _ _ _ _ c.args.request.now c.in-Gather.skips c.in-Gather.form c.list.result (cc (c.in-Gather.is)) c.list.ensures.stopped
 
-pub returns-in-Err-gather-clause-stopped : goal.returns-in-Err-gather-clause-stopped
-returns-in-Err-gather-clause-stopped g c =
-    gather_stops _ _ _ _ _ _ _ _ c.in-Gather-false-default-default.objects c.in-Gather-false-default-default.contradictions c.args.request.now c.fault_of-in-Err-gather.result c.in-Err-gather.fault (cc (c.in-Gather-false-default-default.is)) c.fault_of-in-Err-gather.ensures
-    (λ n reason e. c.in-Err-gather.ensures.bad_line n reason e)
-    (λ n e. c.in-Err-gather.ensures.other_run n e)
-    (λ e. let s = c.in-Err-gather.ensures.source_failed e in s)
-    (λ e. let s = c.in-Err-gather.ensures.sink_failed e in
-    ((s.0.listed, s.0.taken.0, s.0.taken.1, record { text = s.0.text; came = s.0.came; end = s.0.end; pieces = s.0.pieces; lines = s.0.lines; is_listing = subst (λ (f : ListingForm). IsListing f s.0.pieces s.0.listed) c.form_of.ensures s.0.is_listing }, s.0.taken.2, s.0.taken.3), s.1))
-    c.in-Err-gather.ensures.unwritten
+pub returns-in-Gather-clause-done : goal.returns-in-Gather-clause-done
+returns-in-Gather-clause-done g c =
+    let took : List ℕ → Type 0 = λ text. g.W.Sink.takes c.args.output.now text c.list.new.output in
+    let brought : List ℕ → Type 0 = λ text. g.R.Source.brings c.args.source.now text c.list.new.source in
+    let tells : List ℕ → Type 0 = λ text. g.E.Sink.takes c.args.errors.now text c.list.new.errors ⊎ (g.E.Sink.failed c.list.new.errors ≡ g.E.Sink.failed c.args.errors.now + 1) in
+    let none = λ (same : c.list.new.errors ≡ c.args.errors.now). none_said tells c.args.why (inl (subst (λ e. g.E.Sink.takes c.args.errors.now [] e) (sym same) (g.met.E.Sink.takes_nothing c.args.errors.now))) in
+    gathered_done _ (λ path. Unit {0}) brought (g.R.Source.ended c.list.new.source) (Unit {0}) took (Unit {0}) (Unit {0}) c.args.request.now c.in-Gather.skips c.in-Gather.form (λ skipped. tells (skipped_text skipped ++ 10 ∷ [])) (IsSaid tells c.args.why) tells
+    (c.list.new.errors ≡ c.args.errors.now) c.list.result (cc (c.in-Gather.is)) none c.list.ensures.done
 
-pub returns-in-Ok-check-clause-stopped : goal.returns-in-Ok-check-clause-stopped
-returns-in-Ok-check-clause-stopped g c =
-    shown_stops _ _ _ _ _ _ _ _ c.args.request.now _ c.deref.result.now c.in-Ok-check.text.items c.show.result c.in-Check.is c.deref.ensures.value (c.in-Ok-check.ensures.checked, tt) c.show.ensures.error c.show.ensures.one_failed c.show.ensures.begun
+pub returns-in-Ok-clause-stopped : goal.returns-in-Ok-clause-stopped
+returns-in-Ok-clause-stopped g c =
+    shown_stops _ _ _ _ _ _ _ _ c.args.request.now _ c.deref.result.now c.in-Ok.text.items c.show.result c.in-Check.is c.deref.ensures.value (c.in-Ok.ensures.checked, tt) c.show.ensures.error c.show.ensures.one_failed c.show.ensures.begun
 
 pub returns-in-Ok-record-clause-done : goal.returns-in-Ok-record-clause-done
 returns-in-Ok-record-clause-done g c =
@@ -43,12 +35,12 @@ returns-in-Ok-hunt-clause-done g c =
     hunt_done _ (λ path. Unit {0}) _ _ (Unit {0}) took (Unit {0}) (Unit {0}) c.args.request.now _ c.in-Ok-hunt.answer (λ skipped. tells (skipped_text skipped ++ 10 ∷ [])) (IsSaid tells c.args.why) tells c.show_and_tell-in-Ok-hunt.result c.in-Hunt.is c.in-Ok-hunt.ensures.hunted c.show_and_tell-in-Ok-hunt.ensures.shown
     c.show_and_tell-in-Ok-hunt.ensures.told
 
-pub returns-in-Ok-check-clause-done : goal.returns-in-Ok-check-clause-done
-returns-in-Ok-check-clause-done g c =
+pub returns-in-Ok-clause-done : goal.returns-in-Ok-clause-done
+returns-in-Ok-clause-done g c =
     let took : List ℕ → Type 0 = λ text. g.W.Sink.takes c.args.output.now text c.show.new.output in
     let tells : List ℕ → Type 0 = λ text. g.E.Sink.takes c.args.errors.now text c.args.errors.now ⊎ (g.E.Sink.failed c.args.errors.now ≡ g.E.Sink.failed c.args.errors.now + 1) in
     let none = none_said tells c.args.why (inl (g.met.E.Sink.takes_nothing c.args.errors.now)) in
-    shown_done _ (λ path. Unit {0}) _ _ (Unit {0}) took (Unit {0}) (Unit {0}) c.args.request.now _ c.deref.result.now c.in-Ok-check.text.items (λ skipped. tells (skipped_text skipped ++ 10 ∷ [])) (IsSaid tells c.args.why) tells c.show.result c.in-Check.is c.deref.ensures.value (c.in-Ok-check.ensures.checked, none) c.show.ensures.shown
+    shown_done _ (λ path. Unit {0}) _ _ (Unit {0}) took (Unit {0}) (Unit {0}) c.args.request.now _ c.deref.result.now c.in-Ok.text.items (λ skipped. tells (skipped_text skipped ++ 10 ∷ [])) (IsSaid tells c.args.why) tells c.show.result c.in-Check.is c.deref.ensures.value (c.in-Ok.ensures.checked, none) c.show.ensures.shown
 
 pub returns-in-Ok-replay-clause-done : goal.returns-in-Ok-replay-clause-done
 returns-in-Ok-replay-clause-done g c =
@@ -63,16 +55,6 @@ returns-in-Ok-view-clause-done g c =
     let tells : List ℕ → Type 0 = λ text. g.E.Sink.takes c.args.errors.now text c.args.errors.now ⊎ (g.E.Sink.failed c.args.errors.now ≡ g.E.Sink.failed c.args.errors.now + 1) in
     let none = none_said tells c.args.why (inl (g.met.E.Sink.takes_nothing c.args.errors.now)) in
     shown_done _ (λ path. Unit {0}) _ _ (Unit {0}) took (Unit {0}) (Unit {0}) c.args.request.now _ c.as_bytes-in-Ok-view.result.now _ (λ skipped. tells (skipped_text skipped ++ 10 ∷ [])) (IsSaid tells c.args.why) tells c.show-in-Ok-view.result c.in-View.is (search rules) (c.in-Ok-view.ensures.viewed, none) c.show-in-Ok-view.ensures.shown
-
-pub returns-in-Ok-gather-clause-done : goal.returns-in-Ok-gather-clause-done
-returns-in-Ok-gather-clause-done g c =
-    let took : List ℕ → Type 0 = λ text. g.W.Sink.takes c.args.output.now text c.gather.new.sink in
-    let brought : List ℕ → Type 0 = λ text. g.R.Source.brings c.args.source.now text c.gather.new.source in
-    let tells : List ℕ → Type 0 = λ text. g.E.Sink.takes c.args.errors.now text c.args.errors.now ⊎ (g.E.Sink.failed c.args.errors.now ≡ g.E.Sink.failed c.args.errors.now + 1) in
-    let none = none_said tells c.args.why (inl (g.met.E.Sink.takes_nothing c.args.errors.now)) in
-    let s = c.in-Ok-gather.ensures.listed in
-    gather_done _ (λ path. Unit {0}) brought (g.R.Source.ended c.gather.new.source) (Unit {0}) took (Unit {0}) (Unit {0}) c.args.request.now c.in-Gather-false-default-default.objects c.in-Gather-false-default-default.contradictions (λ skipped. tells (skipped_text skipped ++ 10 ∷ [])) (IsSaid tells c.args.why) tells s.listed (cc (c.in-Gather-false-default-default.is))
-    (record { text = s.text; came = s.came; end = s.end; pieces = s.pieces; lines = s.lines; is_listing = subst (λ (f : ListingForm). IsListing f s.pieces s.listed) c.form_of.ensures s.is_listing }) none s.taken
 
 pub returns-in-Ok-record-clause-stopped : goal.returns-in-Ok-record-clause-stopped
 returns-in-Ok-record-clause-stopped g c =

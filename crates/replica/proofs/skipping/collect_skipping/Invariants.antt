@@ -1,11 +1,11 @@
 use Rattle.std.proofs.Common.{◌≡◌}
 use Rattle.replica.specs.Lines.{pending}
 use Rattle.replica.proofs.JudgedLemmas.{FoundSoFar}
-use Rattle.replica.proofs.skipping.find.Given as goal
+use Rattle.replica.proofs.skipping.collect_skipping.Given as goal
 
 abbrev pub invariant-loop-fault : goal.invariant-loop-fault
 invariant-loop-fault g l = record {
-  so_far : FoundSoFar (g.R.Source.brings l.fn.source) l.source l.chunk l.found.replica l.found.skipped;
+  so_far : FoundSoFar (g.R.Source.brings l.fn.source) l.source l.chunk l.kept.replica l.kept.skipped;
   same : g.R.Source.failed l.source ≡ g.R.Source.failed l.fn.source;
 }
 

@@ -1,6 +1,6 @@
 use Rattle.std.proofs.Common.{refl, inl, inr}
 use Rattle.replica.proofs.FoundLemmas.{put_first, put_kept, put_foreign}
-use Rattle.replica.proofs.skipping.Found.join.Goals as goal
+use Rattle.replica.proofs.skipping.Kept.join.Goals as goal
 
 pub returns-in-Ok : goal.returns-in-Ok
 returns-in-Ok c lines h =

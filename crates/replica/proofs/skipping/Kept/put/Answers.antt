@@ -6,7 +6,7 @@ use Rattle.log_pieces.specs.Piece.{PieceValue}
 use Rattle.replica.specs.declared.skipping.Skipped.{Skipped}
 use Rattle.replica.specs.Judged.{HasFound}
 use Rattle.replica.proofs.FoundLemmas.{put_bad}
-use Rattle.replica.proofs.skipping.Found.put.Goals as goal
+use Rattle.replica.proofs.skipping.Kept.put.Goals as goal
 
 pub returns-in-Err : goal.returns-in-Err
 returns-in-Err c lines h =

@@ -1,0 +1,196 @@
+//! Listings of the piece lines that a source brings.
+
+ghost use Rattle.std.specs.Prelude.{◌≡◌, ◌<◌, ◌-◌, ◌^◌, ◌⊎◌, ◌++◌, ◌+◌, [], ◌∷◌, OnOk, OnErr, IfOk, IfErr};
+ghost use Rattle.std.specs.String.{string_bytes};
+ghost use Rattle.commands.specs.Texts.{skipped_text};
+ghost use Rattle.replica.specs.Gathered.{IsListing};
+ghost use Rattle.object_listing.specs.Chosen.{IsObjectListing, asked_of};
+ghost use Rattle.program.specs.Answers.{IsShown, IsListed, IsListedSkipping, IsGatheredText, IsGatherRefused, IsSkippingRefused, IsNotGathered, IsTextStopped, fault_of, form_of};
+
+use crate::showing::show;
+use byte_streams::{Sink, Source, write_all};
+use command_words::GatherForm;
+use commands::{Fault, skipped_text};
+use object_listing::{Choice, listing_of};
+use replica::{
+    GatherFault, ListingForm, Skipped, collect, collect_skipping, gather, gather_skipping,
+};
+use std::alloc::Global;
+use wasm_types::NoMemory;
+
+/// The program's fault where gathering is refused.
+fn fault_of(fault: GatherFault) -> Fault
+    ensures { result ≡ fault_of fault }
+{
+    match fault {
+        GatherFault::SinkFailed => Fault::SinkFailed,
+        other => Fault::Gather(other),
+    }
+}
+
+/// Writes the line that tells how many lines were passed over. Where writing fails there is nobody to tell.
+fn tell_skipped<E: Sink>(errors: &mut E, skipped: &Skipped)
+    requires { E.failed errors.old < 2 ^ 64 - 1 }
+    ensures { (E.takes errors.old (skipped_text skipped.now ++ 10 ∷ []) errors.new) ⊎ (E.failed errors.new ≡ E.failed errors.old + 1) }
+{
+    let mut line = skipped_text(skipped);
+    line.push_str("\n");
+    let _ = write_all(errors, line.as_str().as_bytes());
+}
+
+/// What a listing by threads says.
+fn form_of(objects: bool, contradictions: bool) -> ListingForm
+    ensures { result ≡ form_of objects contradictions }
+{
+    ListingForm {
+        objects,
+        contradictions,
+    }
+}
+
+/// Lists what the source brings, by threads.
+fn list_threads<R: Source, W: Sink>(
+    alloc: Global,
+    source: &mut R,
+    output: &mut W,
+    form: ListingForm,
+) -> Result<(), Fault>
+    requires source { R.failed source.old < 2 ^ 64 - 1 }
+    requires output { W.failed output.old < 2 ^ 64 - 1 }
+    ensures done { OnOk result (IsShown (λ text. W.takes output.old text output.new) (IsListed (IsListing form) (λ text. R.brings source.old text source.new) (R.ended source.new))) }
+    ensures stopped { IfErr result (IsTextStopped (IsGatherRefused (λ text. R.brings source.old text source.new) (R.ended source.new) (R.failed source.new ≡ R.failed source.old + 1)) (IsListed (IsListing form) (λ text. R.brings source.old text source.new) (R.ended source.new)) (λ text. W.takes output.old text output.new) (output.new ≡ output.old) (W.failed output.new ≡ W.failed output.old + 1)) }
+    ensures source_worked { OnOk result (R.failed source.new ≡ R.failed source.old) }
+    ensures output_worked { OnOk result (W.failed output.new ≡ W.failed output.old) }
+{
+    match gather(alloc, source, output, form) {
+        Ok(()) => Ok(()),
+        Err(fault) => Err(fault_of(fault)),
+    }
+}
+
+/// The same of the lines that can be joined; the numbers of the others are told.
+fn list_threads_skipping<R: Source, W: Sink, E: Sink>(
+    alloc: Global,
+    source: &mut R,
+    output: &mut W,
+    errors: &mut E,
+    form: ListingForm,
+) -> Result<(), Fault>
+    requires source { R.failed source.old < 2 ^ 64 - 1 }
+    requires output { W.failed output.old < 2 ^ 64 - 1 }
+    requires errors { E.failed errors.old < 2 ^ 64 - 1 }
+    ensures done { OnOk result (IsShown (λ text. W.takes output.old text output.new) (IsListedSkipping (IsListing form) (λ text. R.brings source.old text source.new) (R.ended source.new) (λ skipped. (E.takes errors.old (skipped_text skipped ++ 10 ∷ []) errors.new) ⊎ (E.failed errors.new ≡ E.failed errors.old + 1)))) }
+    ensures stopped { IfErr result (IsTextStopped (IsSkippingRefused (R.failed source.new ≡ R.failed source.old + 1)) (IsListedSkipping (IsListing form) (λ text. R.brings source.old text source.new) (R.ended source.new) (λ skipped. Unit {0})) (λ text. W.takes output.old text output.new) (output.new ≡ output.old) (W.failed output.new ≡ W.failed output.old + 1)) }
+    ensures untold { OnErr result (errors.new ≡ errors.old) }
+    ensures source_worked { OnOk result (R.failed source.new ≡ R.failed source.old) }
+    ensures output_worked { OnOk result (W.failed output.new ≡ W.failed output.old) }
+{
+    match gather_skipping(alloc, source, output, form) {
+        Ok(skipped) => {
+            tell_skipped(errors, &skipped);
+            Ok(())
+        }
+        Err(fault) => Err(fault_of(fault)),
+    }
+}
+
+/// Lists what the source brings, by objects.
+fn list_objects<R: Source, W: Sink>(
+    alloc: Global,
+    source: &mut R,
+    output: &mut W,
+    choice: Choice<'_>,
+) -> Result<(), Fault>
+    requires source { R.failed source.old < 2 ^ 64 - 1 }
+    requires output { W.failed output.old < 2 ^ 64 - 1 }
+    ensures done { OnOk result (IsShown (λ text. W.takes output.old text output.new) (IsListed (IsObjectListing (asked_of choice.entry)) (λ text. R.brings source.old text source.new) (R.ended source.new))) }
+    ensures stopped { IfErr result (IsTextStopped (IsGatherRefused (λ text. R.brings source.old text source.new) (R.ended source.new) (R.failed source.new ≡ R.failed source.old + 1)) (IsListed (IsObjectListing (asked_of choice.entry)) (λ text. R.brings source.old text source.new) (R.ended source.new)) (λ text. W.takes output.old text output.new) (output.new ≡ output.old) (W.failed output.new ≡ W.failed output.old + 1)) }
+    ensures source_worked { OnOk result (R.failed source.new ≡ R.failed source.old) }
+    ensures output_worked { OnOk result (W.failed output.new ≡ W.failed output.old) }
+{
+    let replica = match collect(alloc, source) {
+        Ok(replica) => replica,
+        Err(fault) => return Err(Fault::Gather(fault)),
+    };
+    match listing_of(alloc, &replica, choice) {
+        Ok(text) => show(output, text.as_bytes()),
+        Err(NoMemory) => Err(Fault::Gather(GatherFault::NoMemory)),
+    }
+}
+
+/// The same of the lines that can be joined; the numbers of the others are told.
+fn list_objects_skipping<R: Source, W: Sink, E: Sink>(
+    alloc: Global,
+    source: &mut R,
+    output: &mut W,
+    errors: &mut E,
+    choice: Choice<'_>,
+) -> Result<(), Fault>
+    requires source { R.failed source.old < 2 ^ 64 - 1 }
+    requires output { W.failed output.old < 2 ^ 64 - 1 }
+    requires errors { E.failed errors.old < 2 ^ 64 - 1 }
+    ensures done { OnOk result (IsShown (λ text. W.takes output.old text output.new) (IsListedSkipping (IsObjectListing (asked_of choice.entry)) (λ text. R.brings source.old text source.new) (R.ended source.new) (λ skipped. (E.takes errors.old (skipped_text skipped ++ 10 ∷ []) errors.new) ⊎ (E.failed errors.new ≡ E.failed errors.old + 1)))) }
+    ensures stopped { IfErr result (IsTextStopped (IsSkippingRefused (R.failed source.new ≡ R.failed source.old + 1)) (IsListedSkipping (IsObjectListing (asked_of choice.entry)) (λ text. R.brings source.old text source.new) (R.ended source.new) (λ skipped. Unit {0})) (λ text. W.takes output.old text output.new) (output.new ≡ output.old) (W.failed output.new ≡ W.failed output.old + 1)) }
+    ensures untold { OnErr result (errors.new ≡ errors.old) }
+    ensures source_worked { OnOk result (R.failed source.new ≡ R.failed source.old) }
+    ensures output_worked { OnOk result (W.failed output.new ≡ W.failed output.old) }
+{
+    let kept = match collect_skipping(alloc, source) {
+        Ok(kept) => kept,
+        Err(fault) => return Err(Fault::Gather(fault)),
+    };
+    match listing_of(alloc, &kept.replica, choice) {
+        Ok(text) => match show(output, text.as_bytes()) {
+            Ok(()) => {
+                tell_skipped(errors, &kept.skipped);
+                Ok(())
+            }
+            Err(fault) => Err(fault),
+        },
+        Err(NoMemory) => Err(Fault::Gather(GatherFault::NoMemory)),
+    }
+}
+
+/// Lists what the source brings in that form, past lines that cannot be joined where it skips them.
+pub(crate) fn list<R: Source, W: Sink, E: Sink>(
+    alloc: Global,
+    skips: bool,
+    form: &GatherForm,
+    source: &mut R,
+    output: &mut W,
+    errors: &mut E,
+) -> Result<(), Fault>
+    requires source { R.failed source.old < 2 ^ 64 - 1 }
+    requires output { W.failed output.old < 2 ^ 64 - 1 }
+    requires errors { E.failed errors.old < 2 ^ 64 - 1 }
+    ensures done { OnOk result (IsShown (λ text. W.takes output.old text output.new) (IsGatheredText (λ text. R.brings source.old text source.new) (R.ended source.new) (λ skipped. (E.takes errors.old (skipped_text skipped ++ 10 ∷ []) errors.new) ⊎ (E.failed errors.new ≡ E.failed errors.old + 1)) (errors.new ≡ errors.old) skips form.now)) }
+    ensures stopped { IfErr result (IsTextStopped (IsNotGathered (λ text. R.brings source.old text source.new) (R.ended source.new) (R.failed source.new ≡ R.failed source.old + 1) skips) (IsGatheredText (λ text. R.brings source.old text source.new) (R.ended source.new) (λ skipped. Unit {0}) (Unit {0}) skips form.now) (λ text. W.takes output.old text output.new) (output.new ≡ output.old) (W.failed output.new ≡ W.failed output.old + 1)) }
+    ensures untold { OnErr result (errors.new ≡ errors.old) }
+    ensures source_worked { OnOk result (R.failed source.new ≡ R.failed source.old) }
+    ensures output_worked { OnOk result (W.failed output.new ≡ W.failed output.old) }
+{
+    match form {
+        GatherForm::ByThread {
+            objects,
+            contradictions,
+        } => {
+            let form = form_of(*objects, *contradictions);
+            if skips {
+                list_threads_skipping(alloc, source, output, errors, form)
+            } else {
+                list_threads(alloc, source, output, form)
+            }
+        }
+        GatherForm::ByObject { only, shared } => {
+            let choice = Choice {
+                only: only.as_slice(),
+                shared: *shared,
+            };
+            if skips {
+                list_objects_skipping(alloc, source, output, errors, choice)
+            } else {
+                list_objects(alloc, source, output, choice)
+            }
+        }
+    }
+}
