@@ -63,9 +63,10 @@ def recorded(name, module_file, module, plan_file, plan, schedule, block=64, ste
     command('replay %s %s.pieces --threads' % (files, name), world.report())
     entries = {(t.n, p): e for t in world.threads for p, e in enumerate(t.entries)}
     ends = {t.n: (t.steps, len(t.entries), world.outcome(t)) for t in world.threads}
-    for order in orders:
+    for n, order in enumerate(orders):
         turns = [int(n) for n in order.split(',')] if order else []
-        command('trace %s %s.pieces%s' % (files, name, ' --order ' + order if order else ''), trace(World(module, plan, block), entries, ends, turns))
+        words = (' --order ' + order if order else '') + (' --offsets' if n % 2 else '')
+        command('trace %s %s.pieces%s' % (files, name, words), trace(World(module, plan, block), entries, ends, turns, offsets=n % 2 == 1))
     return world
 
 # ---- modules and plans
@@ -306,7 +307,7 @@ command('replay counter.wasm counter.plan whole.pieces', FIRST.report())
 
 # ---- views of a replay that stops
 
-def viewed(pieces, entries, ends, order='', place=None, step=None, write=None, start=None, length=None):
+def viewed(pieces, entries, ends, order='', place=None, step=None, write=None, start=None, length=None, notes=()):
     line = 'view counter.wasm counter.plan %s.pieces' % pieces
     if order: line += ' --order ' + order
     if place: line += ' --place %d.%d' % place
@@ -314,8 +315,9 @@ def viewed(pieces, entries, ends, order='', place=None, step=None, write=None, s
     if write: line += ' --write %d+%d' % write
     if start is not None: line += ' --from %d' % start
     if length is not None: line += ' --len %d' % length
+    for note in notes: line += ' --' + note
     stopped, world = stop(World(COUNTER, TWO), entries, ends, [int(n) for n in order.split(',')] if order else [], place, step, write)
-    command(line, view(stopped, world, start or 0, 64 if length is None else length))
+    command(line, view(stopped, world, start or 0, 64 if length is None else length, 'names' in notes, 'offsets' in notes))
 ENTRIES = {(n, p): e for n, t in enumerate(FIRST.threads) for p, e in enumerate(t.entries)}
 ENDS = {t.n: (t.steps, len(t.entries), FIRST.outcome(t)) for t in FIRST.threads}
 HOLE = {at: e for at, e in ENTRIES.items() if at != (1, 1)}
@@ -327,6 +329,8 @@ for order in ORDERS + ('1,1,1,1,7,0,0',):
     for write in ((0, 4), (3, 1), (63, 2), (64, 64), (0, 0), (0, 4294967295)): viewed('whole', ENTRIES, ENDS, order, write=write, length=16)
     viewed('whole', ENTRIES, ENDS, order, place=(1, 1), step=(1, 3), write=(0, 1), start=0, length=0)
     viewed('whole', ENTRIES, ENDS, order, place=(1, 1), step=(0, 5), start=65520, length=16)
+    for notes in (('names',), ('offsets',), ('names', 'offsets')):
+        for n in (0, 4): viewed('whole', ENTRIES, ENDS, order, place=(1, 1), step=(0, n), length=0, notes=notes)
 viewed('whole', ENTRIES, ENDS, place=(7, 1), start=60, length=70)
 viewed('hole', HOLE, ENDS, step=(1, 6), start=1, length=17)
 refused('view counter.wasm counter.plan whole.pieces --from 65530 --len 64', '61 OutOfView')
@@ -340,15 +344,16 @@ refused('view bad.wasm bad.plan absent.pieces', '1 Refused 33')
 
 # ---- traces
 
-def traced(pieces, entries, ends, order='', only='', held=(), since=None, to=None):
+def traced(pieces, entries, ends, order='', only='', held=(), since=None, to=None, offsets=False):
     line = 'trace counter.wasm counter.plan %s.pieces' % pieces
     if order: line += ' --order ' + order
     if only: line += ' --only ' + only
     for range_ in held: line += ' --bytes %d+%d' % range_
     if since: line += ' --from %d.%d' % since
     if to: line += ' --to %d.%d' % to
+    if offsets: line += ' --offsets'
     numbers = lambda list: [int(n) for n in list.split(',')] if list else []
-    command(line, trace(World(COUNTER, TWO), entries, ends, numbers(order), numbers(only), held, since, to))
+    command(line, trace(World(COUNTER, TWO), entries, ends, numbers(order), numbers(only), held, since, to, offsets))
 traced('hole', HOLE, ENDS)
 for order in ORDERS + ('1,1,1,1,7,0,0',):
     for only in ('0', '1', '7,1', '0,1,1', '7'): traced('whole', ENTRIES, ENDS, order, only)
@@ -359,7 +364,8 @@ for order in ORDERS + ('1,1,1,1,7,0,0',):
         for n in (0, 1, 2, 4294967295):
             traced('whole', ENTRIES, ENDS, order, since=(thread, n))
             traced('whole', ENTRIES, ENDS, order, to=(thread, n))
-    traced('whole', ENTRIES, ENDS, order, '1', [(0, 1)], (0, 0), (1, 0))
+    for offsets in (False, True): traced('whole', ENTRIES, ENDS, order, '1', [(0, 1)], (0, 0), (1, 0), offsets)
+    traced('whole', ENTRIES, ENDS, order, offsets=True)
 refused('trace readers.wasm readers.plan whole.pieces', '51 OtherRun')
 refused('trace counter.wasm counter.plan otherrun.pieces', '41 OtherRun 2')
 refused('trace large.wasm counter.plan large.pieces', '58 OldProfile')

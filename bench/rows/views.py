@@ -38,9 +38,17 @@ def stop(world, entries, ends, order, place=None, step=None, write=None):
     done = all((t.steps, len(t.entries), world.outcome(t)) == ends.get(t.n) for t in world.threads)
     return ('finished' if done else 'stuck'), world
 
-def view(stopped, world, start, length):
+def standing(world, t, offsets):
+    f = world.m.funcs.index(t.f)
+    return '%d+%d' % (f, t.pc) + (' 0x%x' % world.m.offsets[f][t.pc] if offsets else '')
+
+def thread_line(world, t, names, offsets):
+    note = ' at ' + standing(world, t, offsets) if (names or offsets) and t.out is None else ''
+    return 'thread %d steps %d places %d %s%s\n' % (t.n, t.steps, len(t.entries), world.outcome(t), note)
+
+def view(stopped, world, start, length, names=False, offsets=False):
     out = stopped + '\n'
-    for t in world.threads: out += 'thread %d steps %d places %d %s\n' % (t.n, t.steps, len(t.entries), world.outcome(t))
+    for t in world.threads: out += thread_line(world, t, names, offsets)
     for b in world.blocks(start, length) if length else []:
         out += 'object %d version %d reads %d\n' % (1 + 2 * b, world.version.get(1 + 2 * b, 0), world.reads.get(1 + 2 * b, 0))
     for a in range(start, start + length, 16):
@@ -53,8 +61,6 @@ def number(n): return str(n) if n < 65536 else hex(n)
 
 def found_at(world, addr, size):
     return int.from_bytes(world.mem[addr:addr + size], 'little') if addr + size <= world.length else None
-
-def standing(world, t): return '%d+%d' % (world.m.funcs.index(t.f), t.pc)
 
 def action(world, n, kind):
     """The word, address and size of a thread's next event, a number that it is told with, and whether it writes."""
@@ -72,10 +78,10 @@ def action(world, n, kind):
     if 'store' in name: return 'store', args[-2], SIZE[name], None, True
     return 'load', args[-1], SIZE[name], None, False
 
-def event_line(before, after, n, kind):
+def event_line(before, after, n, kind, offsets):
     t, u = before.threads[n], after.threads[n]
     word, addr, size, told, writes = action(before, n, kind)
-    line = '%d.%d %s %s' % (n, len(t.entries), standing(before, t), word)
+    line = '%d.%d %s %s' % (n, len(t.entries), standing(before, t, offsets), word)
     if size is not None or word in ('size', 'grow'):
         old, new = (found_at(w, addr, size) if size is not None else w.length // 65536 for w in (before, after))
         if size is not None: line += ' %d i%d' % (addr, 8 * size)
@@ -91,7 +97,7 @@ def touches(before, n, kind, start, length):
     word, addr, size, _, _ = action(before, n, kind)
     return addr is not None and max(addr, start) < min(addr + (size or 4), start + length)
 
-def trace(world, entries, ends, order, only=(), held=(), since=None, to=None):
+def trace(world, entries, ends, order, only=(), held=(), since=None, to=None, offsets=False):
     """A line for each event on the way to where a replay stops, and the view of that world."""
     text, turns, quiet, stopped = '', list(order), 0, None
     while stopped is None:
@@ -106,11 +112,9 @@ def trace(world, entries, ends, order, only=(), held=(), since=None, to=None):
         if not made: continue
         passed = since is None or since[0] < len(world.threads) and len(world.threads[since[0]].entries) > since[1]
         if passed and (not only or n in only) and (not held or any(touches(before, n, made[0][0], *range_) for range_ in held)):
-            text += event_line(before, world, n, made[0][0])
+            text += event_line(before, world, n, made[0][0], offsets)
         if to and n == to[0] and len(world.threads[n].entries) == to[1] + 1: stopped = 'stopped place'
     done = all((t.steps, len(t.entries), world.outcome(t)) == ends.get(t.n) for t in world.threads)
     text += (stopped or ('finished' if done else 'stuck')) + '\n'
-    for t in world.threads:
-        note = '' if t.out is not None else ' at ' + standing(world, t)
-        text += 'thread %d steps %d places %d %s%s\n' % (t.n, t.steps, len(t.entries), world.outcome(t), note)
+    for t in world.threads: text += thread_line(world, t, True, offsets)
     return text

@@ -1,7 +1,8 @@
 -- The offset of each instruction of a module: that of its first byte in the module's bytes, counted from 0.
 -- WebAssembly Core 1.0, binary format: the code section is a vector of bodies, each a size and a content of that size.
 -- A content is a vector of groups of locals, and then instructions, one behind the other.
--- A text that ends at an offset `end` begins at `end - length text`. What a reader leaves of it ends at that offset too.
+-- A text that ends at an offset `end` begins at `end - length text`. What a reader leaves of it ends at that offset
+-- too.
 -- A module of which a part is damaged has offsets nonetheless: what stands before the damage counts.
 use Rattle.std.specs.Prelude.{ℕ, ◌-◌, false, List, [], ◌∷◌, length, drop, Option, Some, None, Ok, Err, option_and_then, ◌==◌, if◌then◌else◌}
 use Rattle.std.specs.List.{slice_get}

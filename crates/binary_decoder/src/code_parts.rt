@@ -1,6 +1,6 @@
 //! The parts of a code section, and where they stand.
 
-ghost use Rattle.std.specs.Prelude.{◌≡◌, ◌+◌, ◌<◌, ◌≤◌, ◌++◌, ◌^◌, false, length, IfSome, OnOk, option_map};
+ghost use Rattle.std.specs.Prelude.{◌≡◌, ◌≤◌, ◌++◌, false, length, IfSome, OnOk, option_map};
 ghost use Rattle.binary_decoder.specs.Moves.{Moves};
 ghost use Rattle.binary_decoder.specs.Passed.{IsOfBytes};
 ghost use Rattle.binary_decoder.specs.Reader.{group_at};
@@ -40,8 +40,7 @@ impl Spelled for LocalGroup {
 /// The content of a module's first code section before the first damage.
 pub(crate) fn code_section(bytes: &[u8]) -> Option<Placed<'_>>
     ensures found { option_map (λ code. (code.content.rest.now, code.end)) result ≡ code_of bytes.now }
-    ensures fits { IfSome result (λ code. length code.content.rest.now ≤ code.end) }
-    ensures within { IfSome result (λ code. code.end ≤ length bytes.now) }
+    ensures within { IfSome result (λ code. length code.content.rest.now ≤ code.end) }
 {
     let mut left = sections(bytes);
     let most = left.rest().len();
@@ -77,12 +76,11 @@ fn next_offset(
     end: usize,
     labels: &mut Vec<u32>,
     cursor: &mut Cursor,
-) -> Result<u32, DecodeFault>
-    requires within { length cursor.now.rest.now ≤ end }
-    requires narrow { end < 2 ^ 32 }
+) -> Result<usize, DecodeFault>
+    requires { length cursor.now.rest.now ≤ end }
     ensures { Moves result cursor.new.rest.now (offset_at end cursor.old.rest.now) }
 {
-    let offset = (end - cursor.rest().len()) as u32;
+    let offset = end - cursor.rest().len();
     labels.clear();
     instruction(alloc, cursor, labels)?;
     Ok(offset)
@@ -93,12 +91,10 @@ fn push_instructions(
     alloc: Global,
     end: usize,
     cursor: &mut Cursor,
-    offsets: &mut Vec<u32>,
+    offsets: &mut Vec<usize>,
 ) -> Result<(), NoMemory>
-    requires within { length cursor.now.rest.now ≤ end }
-    requires narrow { end < 2 ^ 32 }
-    ensures items { OnOk result (offsets.new.items ≡ offsets.old.items ++ whole_items (offset_at end) (length cursor.old.rest.now) cursor.old.rest.now) }
-    ensures fits { OnOk result (length offsets.new.items ≤ length offsets.old.items + length cursor.old.rest.now) }
+    requires { length cursor.now.rest.now ≤ end }
+    ensures { OnOk result (offsets.new.items ≡ offsets.old.items ++ whole_items (offset_at end) (length cursor.old.rest.now) cursor.old.rest.now) }
 {
     let mut labels = Vec::new(alloc);
     let most = cursor.rest().len();
@@ -119,12 +115,10 @@ pub(crate) fn push_content(
     alloc: Global,
     end: usize,
     content: &Cursor,
-    offsets: &mut Vec<u32>,
+    offsets: &mut Vec<usize>,
 ) -> Result<(), NoMemory>
-    requires within { length content.now.rest.now ≤ end }
-    requires narrow { end < 2 ^ 32 }
-    ensures items { OnOk result (offsets.new.items ≡ offsets.old.items ++ offsets_behind end (locals_of content.now.rest.now)) }
-    ensures fits { OnOk result (length offsets.new.items ≤ length offsets.old.items + length content.now.rest.now) }
+    requires { length content.now.rest.now ≤ end }
+    ensures { OnOk result (offsets.new.items ≡ offsets.old.items ++ offsets_behind end (locals_of content.now.rest.now)) }
 {
     let mut behind = *content;
     match vector::<LocalGroup>(alloc, &mut behind) {

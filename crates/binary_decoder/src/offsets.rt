@@ -1,6 +1,6 @@
 //! The offsets of instructions.
 
-ghost use Rattle.std.specs.Prelude.{◌≡◌, ℕ, ◌+◌, ◌<◌, ◌≤◌, ◌++◌, ◌∷◌, [], ◌^◌, length, IfOk, OnOk};
+ghost use Rattle.std.specs.Prelude.{◌≡◌, ℕ, ◌≤◌, ◌++◌, ◌∷◌, [], length, IfOk, OnOk};
 ghost use Rattle.binary_decoder.specs.Names.{whole_items};
 ghost use Rattle.binary_decoder.specs.Offsets.{instruction_offset, body_offsets_at, locals_of, offsets_behind};
 ghost use Rattle.binary_decoder.specs.Kept.{offset_of, Holds};
@@ -10,20 +10,19 @@ use crate::cursor::Cursor;
 use std::alloc::Global;
 use wasm_types::NoMemory;
 
-/// The offsets of a module's instructions: four bytes for each instruction and each body, and what growth left free.
+/// The offsets of a module's instructions: eight bytes for each instruction and each body, and what growth left free.
 #[derive(Drop)]
 pub struct InstructionOffsets {
     /// The offset of each instruction, body by body.
-    offsets: Vec<u32>,
+    offsets: Vec<usize>,
     /// How many instructions stand before each body, and how many there are.
-    starts: Vec<u32>,
+    starts: Vec<usize>,
 }
 
 impl InstructionOffsets {
     /// The offset of each instruction of a module: that of its first byte in these bytes, counted from 0. Where bytes
     /// are damaged, those of the instructions that stand before the damage, in each body. Time is linear in the bytes.
     pub fn of(alloc: Global, bytes: &[u8]) -> Result<InstructionOffsets, NoMemory>
-        requires { length bytes.now < 2 ^ 32 }
         ensures { IfOk result (λ kept. (function instruction : ℕ) → offset_of kept function instruction ≡ instruction_offset bytes.now function instruction) }
     {
         let mut kept = InstructionOffsets::empty(alloc)?;
@@ -40,13 +39,13 @@ impl InstructionOffsets {
 
     /// The offset of an instruction of a function, if there is such an instruction. Both are counted from 0, functions
     /// as the module's bodies are: no function is imported in this profile. Time is constant.
-    pub fn offset(&self, function: u32, instruction: usize) -> Option<u32>
+    pub fn offset(&self, function: u32, instruction: u32) -> Option<usize>
         ensures { result ≡ offset_of self.now function instruction }
     {
         let start = *self.starts.get(function as usize)?;
         let end = *self.starts.get(function as usize + 1)?;
-        let index = (start as usize).checked_add(instruction)?;
-        if index < end as usize {
+        let index = start.checked_add(instruction as usize)?;
+        if index < end {
             self.offsets.get(index).copied()
         } else {
             None
@@ -67,15 +66,12 @@ impl InstructionOffsets {
 
     /// Puts a body behind the others. Its content ends at the offset `end`.
     fn push_body(&mut self, alloc: Global, end: usize, content: &Cursor) -> Result<(), NoMemory>
-        requires within { length self.old.offsets.items + length content.now.rest.now ≤ end }
-        requires narrow { end < 2 ^ 32 }
+        requires { length content.now.rest.now ≤ end }
         ensures offsets { OnOk result (self.new.offsets.items ≡ self.old.offsets.items ++ offsets_behind end (locals_of content.now.rest.now)) }
         ensures starts { OnOk result (self.new.starts.items ≡ self.old.starts.items ++ length self.new.offsets.items ∷ []) }
-        ensures fits { OnOk result (length self.new.offsets.items ≤ length self.old.offsets.items + length content.now.rest.now) }
     {
         push_content(alloc, end, content, &mut self.offsets)?;
-        let start = self.offsets.len() as u32;
-        self.starts.push(start)?;
+        self.starts.push(self.offsets.len())?;
         Ok(())
     }
 
@@ -89,7 +85,6 @@ impl InstructionOffsets {
     ) -> Result<(), NoMemory>
         requires empty { Holds self.old [] }
         requires within { length cursor.now.rest.now ≤ end }
-        requires narrow { end < 2 ^ 32 }
         ensures { OnOk result (Holds self.new (whole_items (body_offsets_at end) count cursor.old.rest.now)) }
     {
         for _ in 0..count {

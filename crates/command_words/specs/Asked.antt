@@ -19,7 +19,7 @@ use Rattle.command_words.specs.declared.requests.HuntForm.TheVariants as form
 use Rattle.command_words.specs.declared.requests.HuntRequest.{HuntRequest}
 use Rattle.command_words.specs.declared.requests.ReplayRequest.{ReplayRequest}
 use Rattle.command_words.specs.declared.requests.ThreadCount.{ThreadCount}
-use Rattle.command_words.specs.declared.requests.ByteRange.{ByteRange}
+use Rattle.wasm_types.specs.declared.range.ByteRange.{ByteRange}
 use Rattle.command_words.specs.declared.requests.ViewRequest.{ViewRequest}
 use Rattle.command_words.specs.declared.requests.TraceRequest.{TraceRequest}
 use Rattle.command_words.specs.declared.wanted.Sizes.{Sizes}
@@ -159,7 +159,8 @@ pub record IsViewAsked (rows : List Row) (v : ViewRequest) : Type 0 where
   pub has_write : IsRangeAsked (first_of (codes "write") rows) v.write
   pub has_from : number_of 4294967295 (first_of (codes "from") rows) ≡ Some v.range.from
   pub has_len : number_of 4294967295 (first_of (codes "len") rows) ≡ Some v.range.len
-  pub has_names : v.names ≡ is_text (codes "true") (first_of (codes "names") rows)
+  pub has_names : v.names ≡ has_flag (codes "names") rows
+  pub has_offsets : v.offsets ≡ has_flag (codes "offsets") rows
 
 -- the ranges `FROM+LEN` that texts write
 abbrev pub ranges_of : List Text → Option (List (ℕ × ℕ))
@@ -173,6 +174,7 @@ pub record IsTraceAsked (rows : List Row) (t : TraceRequest) : Type 0 where
   pub has_bytes : ranges_of (texts_of (codes "bytes") rows) ≡ Some (map (λ r. (r.from, r.len)) t.bytes.items)
   pub has_from : IsCountAsked (first_of (codes "from") rows) t.from
   pub has_to : IsCountAsked (first_of (codes "to") rows) t.to
+  pub has_offsets : t.offsets ≡ has_flag (codes "offsets") rows
 
 -- the values that a parser found say that this is listed: by threads, or the objects that are chosen
 abbrev pub IsGatherAsked : List Row → GatherForm → Type 0

@@ -83,19 +83,27 @@ replaying = with_why (with_rule (on_pieces (new_app (codes "replay"))) (flag_rul
 abbrev pub with_breaks : App → App
 with_breaks a = with_rule (with_rule (with_rule a (option_rule (codes "place"))) (option_rule (codes "step"))) (option_rule (codes "write"))
 
--- which bytes are shown, and whether functions are
+-- which bytes are shown
 abbrev pub with_range : App → App
-with_range a = with_rule (with_rule (with_rule a (default_rule (codes "from") (codes "0"))) (default_rule (codes "len") (codes "64"))) (flag_rule (codes "names"))
+with_range a = with_rule (with_rule a (default_rule (codes "from") (codes "0"))) (default_rule (codes "len") (codes "64"))
+
+-- whether instructions have their offsets beside them
+abbrev pub with_offsets : App → App
+with_offsets a = with_rule a (flag_rule (codes "offsets"))
+
+-- whether functions are shown, and the offsets of instructions
+abbrev pub with_names : App → App
+with_names a = with_offsets (with_rule a (flag_rule (codes "names")))
 
 abbrev pub viewing : App
-viewing = with_why (with_range (with_breaks (on_pieces (new_app (codes "view")))))
+viewing = with_why (with_names (with_range (with_breaks (on_pieces (new_app (codes "view"))))))
 
 -- which events have a line
 abbrev pub with_events : App → App
 with_events a = with_rule (with_rule (with_rule (with_rule a (option_rule (codes "only"))) (repeated_rule (codes "bytes"))) (option_rule (codes "from"))) (option_rule (codes "to"))
 
 abbrev pub tracing : App
-tracing = with_why (with_events (on_pieces (new_app (codes "trace"))))
+tracing = with_why (with_offsets (with_events (on_pieces (new_app (codes "trace")))))
 
 -- the program before its commands, one of which is required
 abbrev pub above : App

@@ -321,7 +321,12 @@ With --names the line of a thread ends with where it stands: the function by its
 name in the module's name section, or by its number, `+`, and the instruction,
 numbered from 0; then its callers, as in
 
-  thread 0 steps 5 places 1 running at bump+5 from main+3";
+  thread 0 steps 5 places 1 running at bump+5 from main+3
+
+With --offsets, which needs no --names, the offset of each instruction in the
+bytes of the module stands behind its number, as engines print it: `bump+5
+0x4b`. Tools that know the lines of C count from the beginning of the code
+section; examples/lines.py puts what llvm-symbolizer finds behind each offset.";
 
 /// How `view` refuses.
 pub(crate) const VIEW_REFUSALS: &str = "\
@@ -353,7 +358,9 @@ access:
 
 T.P         the thread, and the place of the event in that thread
 FUNCTION+N  the function by its name in the module's name section, or by its
-            number, and the instruction in it, numbered from 0
+            number, and the instruction in it, numbered from 0; with --offsets
+            its offset in the bytes of the module, as `bump+5 0x4b`: `wreplay
+            view --help` says how lines of C are found by it
 WORD        what was done: load, store, add, sub, and, or, xor, xchg, cmpxchg
             or wait
 ADDRESS     where

@@ -2,7 +2,7 @@
 
 ghost use Rattle.std.specs.Prelude.{◌+◌, ◌<◌, ◌^◌};
 
-use wasm_types::Block;
+use wasm_types::{Block, ByteRange};
 
 /// How the threads of a recording go on.
 #[derive(Clone, Copy)]
@@ -98,13 +98,6 @@ pub struct ThreadCount {
     pub count: u32,
 }
 
-/// So many bytes of the memory, from an address on.
-#[derive(Clone, Copy, Debug, PartialEq, Eq)]
-pub struct ByteRange {
-    pub from: u32,
-    pub len: u32,
-}
-
 /// A view of a replay: where it stops, and which bytes are shown.
 #[derive(Drop)]
 pub struct ViewRequest<'a> {
@@ -119,6 +112,8 @@ pub struct ViewRequest<'a> {
     pub range: ByteRange,
     /// Whether the view says in which functions each thread stands.
     pub names: bool,
+    /// Whether it says that with the offsets of instructions.
+    pub offsets: bool,
 }
 
 /// A trace of a replay: which of its events have a line.
@@ -133,6 +128,8 @@ pub struct TraceRequest<'a> {
     pub from: Option<ThreadCount>,
     /// Up to this one.
     pub to: Option<ThreadCount>,
+    /// Whether instructions have their offsets beside them.
+    pub offsets: bool,
 }
 
 /// What is listed of a log.

@@ -253,6 +253,11 @@ static OF_VIEW: &[ArgumentRow] = &[
         takes: Takes::Nothing,
         help: "Say in which functions each thread stands",
     },
+    ArgumentRow {
+        name: "offsets",
+        takes: Takes::Nothing,
+        help: "Say it with the offset of each instruction in the module",
+    },
     WHY,
 ];
 
@@ -281,6 +286,11 @@ static OF_TRACE: &[ArgumentRow] = &[
         name: "to",
         takes: Takes::Value("T.P"),
         help: "Stop behind the event at place P of thread T",
+    },
+    ArgumentRow {
+        name: "offsets",
+        takes: Takes::Nothing,
+        help: "Write the offset of each instruction in the module beside it",
     },
     WHY,
 ];

@@ -13,7 +13,7 @@ ghost use Rattle.command_words.specs.declared.requests.HuntForm.{HuntForm};
 ghost use Rattle.command_words.specs.declared.requests.HuntRequest.{HuntRequest};
 ghost use Rattle.command_words.specs.declared.requests.ReplayRequest.{ReplayRequest};
 ghost use Rattle.command_words.specs.declared.requests.ThreadCount.{ThreadCount};
-ghost use Rattle.command_words.specs.declared.requests.ByteRange.{ByteRange};
+ghost use Rattle.wasm_types.specs.declared.range.ByteRange.{ByteRange};
 ghost use Rattle.command_words.specs.declared.requests.ViewRequest.{ViewRequest};
 ghost use Rattle.command_words.specs.declared.requests.TraceRequest.{TraceRequest};
 ghost use Rattle.command_words.specs.declared.wanted.Sizes.{Sizes};
@@ -21,12 +21,12 @@ ghost use Rattle.command_words.specs.declared.wanted.Sizes.{Sizes};
 use crate::numbers::{number_up_to, order_in, pair_in, small_number_up_to};
 use crate::report_texts::may_begin_all;
 use crate::requests::{
-    ByteRange, GatherForm, HuntForm, HuntRequest, RecordOrder, RecordRequest, ReplayRequest,
-    Request, RunRange, ThreadCount, TraceRequest, ViewRequest,
+    GatherForm, HuntForm, HuntRequest, RecordOrder, RecordRequest, ReplayRequest, Request,
+    RunRange, ThreadCount, TraceRequest, ViewRequest,
 };
 use clap::ArgMatches;
 use std::alloc::Global;
-use wasm_types::{Block, MOST_STEPS, NoMemory};
+use wasm_types::{Block, ByteRange, MOST_STEPS, NoMemory};
 
 /// What is said where a value is missing, which clap does not let pass.
 const MISSING: &str = "error: a value is missing\n";
@@ -496,6 +496,7 @@ fn view_of<'a>(
         write,
         range,
         names: has_text(matches, "names", "true"),
+        offsets: has_text(matches, "offsets", "true"),
     })
 }
 
@@ -563,6 +564,7 @@ fn trace_of<'a>(
         bytes,
         from,
         to,
+        offsets: has_text(matches, "offsets", "true"),
     }))
 }
 

@@ -10,7 +10,7 @@ use Rattle.debug_views.specs.Break.{Break}
 use Rattle.debug_views.specs.Writes.{IsWriteOfRange}
 use Rattle.debug_views.specs.Views.{IsNotViewed}
 use Rattle.debug_views.specs.declared.viewing.WasmViewFault.{WasmViewFault}
-use Rattle.command_words.specs.declared.requests.ByteRange.{ByteRange}
+use Rattle.wasm_types.specs.declared.range.ByteRange.{ByteRange}
 use Rattle.command_words.specs.declared.requests.ViewRequest.{ViewRequest}
 use Rattle.commands.specs.Views.{AreBreaks, AreWrites, IsViewFault, place_break, step_break}
 

@@ -1,5 +1,5 @@
 -- What `trace` answers, by what its three files may hold.
-use Rattle.std.specs.Prelude.{◌⊎◌, ℕ, ◌+◌, ◌-◌, ◌^◌, List, [], ◌∷◌, Option, Some, None, min, option_map, map}
+use Rattle.std.specs.Prelude.{◌⊎◌, ℕ, ◌+◌, ◌-◌, ◌^◌, List, [], ◌∷◌, Option, Some, None, min, option_map}
 use Rattle.wasm_types.specs.declared.modules.Module.{Module}
 use Rattle.thread_plan.specs.Plans.{PlanValue}
 use Rattle.replica.specs.declared.log.Log.{Log}
@@ -9,8 +9,6 @@ use Rattle.wasm_replay.specs.Replays.{IsOfRun}
 use Rattle.debug_views.specs.Trace.{TraceAsked}
 use Rattle.debug_views.specs.Traces.{IsTraceOfLog, IsNotTraced}
 use Rattle.debug_views.specs.declared.tracing.TraceFault.TheVariants as tracing
-use Rattle.debug_views.specs.declared.trace_choice.AddressRange.{AddressRange}
-use Rattle.command_words.specs.declared.requests.ByteRange.{ByteRange}
 use Rattle.command_words.specs.declared.requests.ThreadCount.{ThreadCount}
 use Rattle.command_words.specs.declared.requests.TraceRequest.{TraceRequest}
 use Rattle.commands.specs.Replays.{IsReplayInput, IsInputRefused}
@@ -22,15 +20,12 @@ abbrev pub last_break : Option ThreadCount → List Break
 last_break None = []
 last_break (Some c) = break.Place c.thread (min (c.count + 1) (2 ^ 32 - 1)) ∷ []
 
-abbrev pub range_of : ByteRange → AddressRange
-range_of r = record { from = r.from; len = r.len }
-
 -- what is asked of the replay of a module's log
 abbrev pub asked_by : Module → TraceRequest → TraceAsked
 asked_by m r = record {
-  source = m.source;
+  places = record { source = m.source; offsets = r.offsets };
   only = r.only.items;
-  bytes = map range_of r.bytes.items;
+  bytes = r.bytes.items;
   since = option_map (λ c. record { thread = c.thread; place = c.count }) r.from;
 }
 
@@ -43,7 +38,7 @@ module _ (m : Module) (plan : PlanValue) (log : Log) (r : TraceRequest) where
 
   abbrev pub IsTraceRefusal : Fault → Type 0
   IsTraceRefusal (Replay refused) = IsNotTraced m plan log r.replay.order.items (last_break r.to) (tracing.Replay refused)
-  IsTraceRefusal NoMemory = Unit {0}
+  IsTraceRefusal NoMemory = IsNotTraced m plan log r.replay.order.items (last_break r.to) tracing.NoMemory
   IsTraceRefusal _ = ⊥
 
 module _ (holds : List ℕ → List ℕ → Type 0) where

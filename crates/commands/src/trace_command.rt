@@ -1,9 +1,9 @@
 //! Traces of the logs in files.
 
-ghost use Rattle.std.specs.Prelude.{◌≡◌, map, IfOk, IfErr, string_bytes};
+ghost use Rattle.std.specs.Prelude.{◌≡◌, IfOk, IfErr, string_bytes};
 ghost use Rattle.replica.specs.Log.{log_of};
 ghost use Rattle.thread_plan.specs.Plans.{IsPlanOf};
-ghost use Rattle.commands.specs.Traces.{last_break, range_of, asked_by, IsTraceText, IsTraceRefusal, IsTracedText, IsTraceRefused};
+ghost use Rattle.commands.specs.Traces.{last_break, asked_by, IsTraceText, IsTraceRefusal, IsTracedText, IsTraceRefused};
 ghost use Rattle.debug_views.specs.Traces.{asked_of};
 ghost use Rattle.wasm_types.specs.declared.modules.Module.{Module};
 
@@ -11,12 +11,11 @@ use crate::fault::Fault;
 use crate::files::Files;
 use crate::gathered::{ReplayInput, read_replay_input};
 use arrayvec::ArrayVec;
-use command_words::{ByteRange, ThreadCount, TraceRequest};
-use debug_views::{AddressRange, Break, TraceChoice, TraceFault, trace_log};
+use command_words::{ThreadCount, TraceRequest};
+use debug_views::{Break, TraceChoice, TraceFault, trace_log};
 use log::Log;
 use replica::EventAt;
 use std::alloc::Global;
-use wasm_types::NoMemory;
 
 /// The break behind the last event that has a line.
 fn last_break(to: Option<ThreadCount>) -> ArrayVec<Break, 1>
@@ -32,27 +31,13 @@ fn last_break(to: Option<ThreadCount>) -> ArrayVec<Break, 1>
     breaks
 }
 
-/// The ranges that some ranges of bytes are.
-fn ranges_of(alloc: Global, ranges: &[ByteRange]) -> Result<Vec<AddressRange>, NoMemory>
-    ensures { IfOk result (λ found. found.items ≡ map range_of ranges.now) }
+/// Which events have a line, and what is in it.
+fn choice_of<'a>(request: &'a TraceRequest<'_>) -> TraceChoice<'a>
+    ensures { (m : Module) → asked_of m result ≡ asked_by m request.now }
 {
-    let mut found = Vec::new(alloc);
-    for range in ranges {
-        found.push(AddressRange {
-            from: range.from,
-            len: range.len,
-        })?;
-    }
-    Ok(found)
-}
-
-/// Which events have a line.
-fn choice_of<'a>(alloc: Global, request: &'a TraceRequest<'_>) -> Result<TraceChoice<'a>, NoMemory>
-    ensures { IfOk result (λ choice. (m : Module) → asked_of m choice ≡ asked_by m request.now) }
-{
-    Ok(TraceChoice {
+    TraceChoice {
         only: &request.only,
-        bytes: ranges_of(alloc, &request.bytes)?,
+        bytes: &request.bytes,
         since: match request.from {
             Some(first) => Some(EventAt {
                 thread: first.thread,
@@ -60,7 +45,8 @@ fn choice_of<'a>(alloc: Global, request: &'a TraceRequest<'_>) -> Result<TraceCh
             }),
             None => None,
         },
-    })
+        offsets: request.offsets,
+    }
 }
 
 /// The trace of a log.
@@ -73,9 +59,6 @@ fn trace_input(
     ensures traced { IfOk result (λ text. IsTraceText input.now.program.valid input.now.program.plan (log_of input.now.replica) request.now (string_bytes text)) }
     ensures refused { IfErr result (IsTraceRefusal input.now.program.valid input.now.program.plan (log_of input.now.replica) request.now) }
 {
-    let Ok(choice) = choice_of(alloc, request) else {
-        return Err(Fault::NoMemory);
-    };
     let breaks = last_break(request.to);
     match trace_log(
         alloc,
@@ -84,7 +67,7 @@ fn trace_input(
         input.replica.log(),
         &request.replay.order,
         &breaks,
-        choice,
+        choice_of(request),
     ) {
         Ok(text) => Ok(text),
         Err(TraceFault::Replay(refused)) => Err(Fault::Replay(refused)),

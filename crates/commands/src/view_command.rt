@@ -1,17 +1,17 @@
 //! Views of the logs in files.
 
-ghost use Rattle.std.specs.Prelude.{IfOk, IfErr, string_bytes};
+ghost use Rattle.std.specs.Prelude.{◌≡◌, IfOk, IfErr, string_bytes};
 ghost use Rattle.replica.specs.Log.{log_of, key_of};
 ghost use Rattle.thread_plan.specs.Plans.{IsPlanOf};
 ghost use Rattle.wasm_types.specs.Memories.{block_power};
-ghost use Rattle.commands.specs.Views.{AreBreaks, IsViewText, IsViewRefusal, IsViewedText, IsViewRefused};
+ghost use Rattle.commands.specs.Views.{AreBreaks, notes_by, IsViewText, IsViewRefusal, IsViewedText, IsViewRefused};
 
 use crate::fault::Fault;
 use crate::files::Files;
 use crate::gathered::{ReplayInput, read_replay_input};
 use arrayvec::ArrayVec;
 use command_words::ViewRequest;
-use debug_views::{Break, WasmViewFault, view_log, write_break};
+use debug_views::{Break, Notes, ViewChoice, WasmViewFault, view_log, write_break};
 use log::Log;
 use std::alloc::Global;
 use wasm_record::memory_limits;
@@ -40,6 +40,17 @@ fn breaks_of(request: &ViewRequest<'_>, block: Block) -> ArrayVec<Break, 3>
     breaks
 }
 
+/// What is said of where threads stand: offsets stand beside names.
+fn notes_by(names: bool, offsets: bool) -> Notes
+    ensures { result ≡ notes_by names offsets }
+{
+    match (names, offsets) {
+        (_, true) => Notes::Offsets,
+        (true, false) => Notes::Names,
+        (false, false) => Notes::Nothing,
+    }
+}
+
 /// The view of a log where its replay stops.
 fn view_input(
     alloc: Global,
@@ -53,18 +64,18 @@ fn view_input(
     let log = input.replica.log();
     let block = memory_limits(input.program.valid.module(), log.key().profile).block;
     let breaks = breaks_of(request, block);
-    let order = &request.replay.order;
-    let range = request.range;
+    let choice = ViewChoice {
+        notes: notes_by(request.names, request.offsets),
+        range: request.range,
+    };
     match view_log(
         alloc,
         &input.program.valid,
         &input.program.plan,
         log,
-        order,
+        &request.replay.order,
         &breaks,
-        request.names,
-        range.from,
-        range.len,
+        choice,
     ) {
         Ok(text) => Ok(text),
         Err(WasmViewFault::Replay(refused)) => Err(Fault::Replay(refused)),

@@ -1,5 +1,5 @@
 -- Where the replay of a gathered log stops, of the log and the opening world that it was handed.
-use Rattle.std.proofs.Common.{◌≡◌, ℕ, ◌+◌, ◌<◌, ◌≤◌, Bool, List, length, refl, ap, ◌∙◌, subst}
+use Rattle.std.proofs.Common.{◌≡◌, ℕ, ◌+◌, ◌<◌, ◌≤◌, List, length, refl, ap, ◌∙◌, subst}
 use Rattle.std.proofs.lemmas.Option.{slice_get_within}
 use Rattle.block_objects.specs.SharedMemory.{shared_memory}
 use Rattle.wasm_world.specs.ThreadCode.{thread_code}
@@ -22,6 +22,7 @@ use Rattle.debug_views.specs.declared.fault.ViewFault.TheVariants as showing
 use Rattle.wasm_replay.specs.Replays.{Opens, IsOfRun, IsOpenerOf, world_or_empty, opened_world, gathered_log}
 use Rattle.wasm_replay.specs.declared.opener.Opener.{Opener}
 use Rattle.debug_views.specs.declared.viewing.WasmViewFault.TheVariants.{View}
+use Rattle.debug_views.specs.declared.notes.Notes.{Notes}
 use Rattle.debug_views.specs.Standing.{notes_if}
 use Rattle.debug_views.specs.Views.{Stops, StopsToShow, IsViewOfLog, IsNotViewed}
 
@@ -55,15 +56,15 @@ module _ (m : Module) (plan : PlanValue) (log handed : GatheredLog) (order : Lis
       (subst (λ (l : GatheredLog). ShowsRecorded shared_memory thread_code (gathered_log l) (opened_world o.valid.now o.plan.now o.profile) shown_at) same_log h))
 
   -- the view of the world at which it stopped
-  pub view_of : (names : Bool) (shown_at : WasmWorld) (s : Stopped) (power from len : ℕ) (text : List ℕ) → StopsAt shared_memory thread_code (gathered_log handed) opened order breaks v s → handed ≡ log → ((w : WasmWorld) → Opens m plan log w → opened ≡ w)
-      → shown_at ≡ v → power ≡ block_power (key_of log).profile → IsShown s breaks → IsView shared_memory thread_code shown_at power s breaks (notes_if names m.source shown_at.threads) from len text
-      → from + len ≤ length (memory_bytes shared_memory shown_at) → ((w : WasmWorld) → Opens m plan log w → ShowsRecorded shared_memory thread_code (gathered_log log) w v) → IsViewOfLog m plan log order breaks names from len text
-  view_of names shown_at s power from len text h same_log same_world same_end same_power is_shown view within recorded = record {
+  pub view_of : (notes : Notes) (shown_at : WasmWorld) (s : Stopped) (power from len : ℕ) (text : List ℕ) → StopsAt shared_memory thread_code (gathered_log handed) opened order breaks v s → handed ≡ log → ((w : WasmWorld) → Opens m plan log w → opened ≡ w)
+      → shown_at ≡ v → power ≡ block_power (key_of log).profile → IsShown s breaks → IsView shared_memory thread_code shown_at power s breaks (notes_if notes m.source shown_at.threads) from len text
+      → from + len ≤ length (memory_bytes shared_memory shown_at) → ((w : WasmWorld) → Opens m plan log w → ShowsRecorded shared_memory thread_code (gathered_log log) w v) → IsViewOfLog m plan log order breaks notes from len text
+  view_of notes shown_at s power from len text h same_log same_world same_end same_power is_shown view within recorded = record {
     world = v;
     stopped = s;
     stops = shown_of s h same_log same_world is_shown;
-    view = subst (λ (x : WasmWorld). IsView shared_memory thread_code x (block_power (key_of log).profile) s breaks (notes_if names m.source x.threads) from len text) same_end
-        (subst (λ (p : ℕ). IsView shared_memory thread_code shown_at p s breaks (notes_if names m.source shown_at.threads) from len text) same_power view);
+    view = subst (λ (x : WasmWorld). IsView shared_memory thread_code x (block_power (key_of log).profile) s breaks (notes_if notes m.source x.threads) from len text) same_end
+        (subst (λ (p : ℕ). IsView shared_memory thread_code shown_at p s breaks (notes_if notes m.source shown_at.threads) from len text) same_power view);
     within = subst (λ (x : WasmWorld). from + len ≤ length (memory_bytes shared_memory x)) same_end within;
     recorded = recorded;
   }

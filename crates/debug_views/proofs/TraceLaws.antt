@@ -1,12 +1,11 @@
--- The trace of a replay, of the log, the opening world and the names that it was handed.
+-- The trace of a replay, of the log, the opening world and the choice that it was handed.
 use Rattle.std.proofs.Common.{◌≡◌, ℕ, ◌≤◌, Bool, true, false, cond, List, [], ◌++◌, length, Option, Some, None, slice_get, refl, sym, ap, ◌∙◌, subst}
 use Rattle.std.specs.Prelude.{◌&&◌}
 use Rattle.std.proofs.lemmas.Option.{slice_get_past}
-use Rattle.binary_decoder.specs.Names.{function_name}
 use Rattle.wasm_types.specs.declared.modules.Module.{Module}
+use Rattle.wasm_types.specs.declared.range.ByteRange.{ByteRange}
 use Rattle.wasm_types.specs.Memories.{block_power}
 use Rattle.block_objects.specs.SharedMemory.{shared_memory}
-use Rattle.integer_machine.specs.declared.standing.CodePlace.{CodePlace}
 use Rattle.replay_laws.specs.Ordered.{ordered_world}
 use Rattle.replay_gate.specs.Shows.{ShowsRecorded}
 use Rattle.replay_breaks.specs.declared.breaks.Break.{Break}
@@ -23,28 +22,21 @@ use Rattle.replica.specs.declared.log.Log.{Log as GatheredLog}
 use Rattle.replica.specs.Log.{key_of}
 use Rattle.wasm_replay.specs.Replays.{Opens, IsOpenerOf, world_or_empty, opened_world, gathered_log}
 use Rattle.wasm_replay.specs.declared.opener.Opener.{Opener}
-use Rattle.debug_views.specs.declared.trace_choice.AddressRange.{AddressRange}
 use Rattle.debug_views.specs.declared.trace_choice.TraceChoice.{TraceChoice}
 use Rattle.debug_views.specs.declared.trace_seen.Seen.{Seen}
-use Rattle.debug_views.specs.Standing.{notes_if}
+use Rattle.debug_views.specs.Standing.{PlaceForm, notes_of}
 use Rattle.debug_views.specs.Text.{IsShown, IsView}
 use Rattle.debug_views.specs.Trace.{TraceAsked, action_of, asked_with, is_of_ranges, is_of_threads, is_since, line_of, measured, outcome_in, seen_by, seen_if, seen_of, standing_text, trace_note}
 use Rattle.debug_views.specs.TraceLines.{event_line}
 use Rattle.debug_views.specs.Traces.{AreLines, IsTraceOfLog, asked_of}
 use Rattle.debug_views.proofs.Stopping.{shown_of}
 
--- ---- the same names
-
-pub standing_same : (f g : ℕ → Option (List ℕ)) → ((n : ℕ) → f n ≡ g n) → (o : Option CodePlace) → standing_text f o ≡ standing_text g o
-standing_same f g same None = refl
-standing_same f g same (Some p) = ap (λ (n : Option (List ℕ)). standing_text (λ (k : ℕ). n) (Some p)) (same p.function)
-
 -- ---- what is seen, where it is asked for
 
 -- the line of what is seen and asked for
 abbrev pub line_if : TraceAsked → ℕ → Option Seen → WasmWorld → List ℕ
 line_if asked t None v = []
-line_if asked t (Some s) v = cond (is_since asked.since v) (event_line t s.place (standing_text (function_name asked.source) s.standing) s.action s.found (measured s.action v) (outcome_in v t)) []
+line_if asked t (Some s) v = cond (is_since asked.since v) (event_line t s.place (standing_text asked.places s.standing) s.action s.found (measured s.action v) (outcome_in v t)) []
 
 by_parts : (a b c : Bool) (line : List ℕ) (f : Option Seen → List ℕ) (s : Seen) → f None ≡ [] → f (Some s) ≡ cond c line [] → cond (a && (b && c)) line [] ≡ f (cond (a && b) (Some s) None)
 by_parts false b c line f s none some = sym none
@@ -54,33 +46,33 @@ by_parts true true c line f s none some = sym some
 pub line_by : (asked : TraceAsked) (t : ℕ) (o : Option Seen) (v : WasmWorld) → line_of asked t o v ≡ line_if asked t (seen_if asked.only asked.bytes t o) v
 line_by asked t None v = refl
 line_by asked t (Some s) v =
-    by_parts (is_of_threads asked.only t) (is_of_ranges asked.bytes s.action) (is_since asked.since v) (event_line t s.place (standing_text (function_name asked.source) s.standing) s.action s.found (measured s.action v) (outcome_in v t))
+    by_parts (is_of_threads asked.only t) (is_of_ranges asked.bytes s.action) (is_since asked.since v) (event_line t s.place (standing_text asked.places s.standing) s.action s.found (measured s.action v) (outcome_in v t))
     (λ o. line_if asked t o v) s refl refl
 
 -- of a thread that is not asked for nothing is seen, nor of an action that is not
-pub seen_not : (only : List ℕ) (bytes : List AddressRange) (t : ℕ) (o : Option Seen) → is_of_threads only t ≡ false → seen_if only bytes t o ≡ None
+pub seen_not : (only : List ℕ) (bytes : List ByteRange) (t : ℕ) (o : Option Seen) → is_of_threads only t ≡ false → seen_if only bytes t o ≡ None
 seen_not only bytes t None unasked = refl
 seen_not only bytes t (Some s) unasked = ap (λ b. cond (b && is_of_ranges bytes s.action) (Some s) None) unasked
 
-pub seen_past : (only : List ℕ) (bytes : List AddressRange) (w : WasmWorld) (t : ℕ) → length w.threads ≤ t → seen_if only bytes t (seen_of w t) ≡ None
+pub seen_past : (only : List ℕ) (bytes : List ByteRange) (w : WasmWorld) (t : ℕ) → length w.threads ≤ t → seen_if only bytes t (seen_of w t) ≡ None
 seen_past only bytes w t past = ap (λ o. seen_if only bytes t (seen_by w o (action_of w t))) (slice_get_past w.threads t past)
 
 both : (a b : Bool) (s : Seen) → a ≡ true → b ≡ true → Some s ≡ cond (a && b) (Some s) None
 both a b s p q = sym (ap (λ x. cond (x && b) (Some s) None) p ∙ ap (λ x. cond x (Some s) None) q)
 
-asked_by : (only : List ℕ) (bytes : List AddressRange) (w : WasmWorld) (t : ℕ) (action : Action) (o : Option (ThreadAt CodeThread)) → is_of_threads only t ≡ true → is_of_ranges bytes action ≡ true → seen_by w o (Some action) ≡ seen_if only bytes t (seen_by w o (Some action))
+asked_by : (only : List ℕ) (bytes : List ByteRange) (w : WasmWorld) (t : ℕ) (action : Action) (o : Option (ThreadAt CodeThread)) → is_of_threads only t ≡ true → is_of_ranges bytes action ≡ true → seen_by w o (Some action) ≡ seen_if only bytes t (seen_by w o (Some action))
 asked_by only bytes w t action None of_thread of_range = refl
 asked_by only bytes w t action (Some th) of_thread of_range = both (is_of_threads only t) (is_of_ranges bytes action) _ of_thread of_range
 
-pub seen_asked : (only : List ℕ) (bytes : List AddressRange) (w : WasmWorld) (t : ℕ) (action : Action) → is_of_threads only t ≡ true → is_of_ranges bytes action ≡ true → Some action ≡ action_of w t
+pub seen_asked : (only : List ℕ) (bytes : List ByteRange) (w : WasmWorld) (t : ℕ) (action : Action) → is_of_threads only t ≡ true → is_of_ranges bytes action ≡ true → Some action ≡ action_of w t
     → seen_by w (slice_get w.threads t) (Some action) ≡ seen_if only bytes t (seen_of w t)
 seen_asked only bytes w t action of_thread of_range is =
     asked_by only bytes w t action (slice_get w.threads t) of_thread of_range ∙ ap (λ o. seen_if only bytes t (seen_by w (slice_get w.threads t) o)) is
 
 -- ---- the same question
 
-pub asked_same : (m : Module) (source : List ℕ) (a b : TraceChoice) → source ≡ m.source → a ≡ b → asked_with source a ≡ asked_of m b
-asked_same m source a b same_source same_choice = ap (λ (l : List ℕ). asked_with l a) same_source ∙ ap (asked_with m.source) same_choice
+pub asked_same : (m : Module) (places : PlaceForm) (a b : TraceChoice) → places ≡ record { source = m.source; offsets = b.offsets } → a ≡ b → asked_with places a ≡ asked_of m b
+asked_same m places a b same_places same_choice = ap (λ (p : PlaceForm). asked_with p a) same_places ∙ ap (asked_with (record { source = m.source; offsets = b.offsets })) same_choice
 
 -- ---- the lines
 
@@ -119,7 +111,7 @@ module _ (m : Module) (plan : PlanValue) (log handed : GatheredLog) (order : Lis
 
   -- the lines, and the view of the world at which it stopped
   pub trace_of : (shown_at : WasmWorld) (s : Stopped) (power : ℕ) (lines view text : List ℕ) → StopsAt shared_memory thread_code (gathered_log handed) opened order breaks v s → handed ≡ log → ((w : WasmWorld) → Opens m plan log w → opened ≡ w)
-      → shown_at ≡ v → power ≡ block_power (key_of log).profile → IsShown s breaks → IsView shared_memory thread_code shown_at power s breaks (notes_if true m.source shown_at.threads) 0 0 view
+      → shown_at ≡ v → power ≡ block_power (key_of log).profile → IsShown s breaks → IsView shared_memory thread_code shown_at power s breaks (notes_of asked.places shown_at.threads) 0 0 view
       → ((w : WasmWorld) → Opens m plan log w → AreLines m plan log order breaks asked w v lines) → text ≡ lines ++ view → IsTraceOfLog m plan log order breaks asked text
   trace_of shown_at s power lines view text h same_log same_world same_end same_power is_shown is_view are_lines is = record {
     world = v;
@@ -128,7 +120,7 @@ module _ (m : Module) (plan : PlanValue) (log handed : GatheredLog) (order : Lis
     lines = lines;
     are_lines = are_lines;
     view = view;
-    is_view = subst (λ (x : WasmWorld). IsView shared_memory thread_code x (block_power (key_of log).profile) s breaks (notes_if true m.source x.threads) 0 0 view) same_end
-        (subst (λ (p : ℕ). IsView shared_memory thread_code shown_at p s breaks (notes_if true m.source shown_at.threads) 0 0 view) same_power is_view);
+    is_view = subst (λ (x : WasmWorld). IsView shared_memory thread_code x (block_power (key_of log).profile) s breaks (notes_of asked.places x.threads) 0 0 view) same_end
+        (subst (λ (p : ℕ). IsView shared_memory thread_code shown_at p s breaks (notes_of asked.places shown_at.threads) 0 0 view) same_power is_view);
     is = is;
   }

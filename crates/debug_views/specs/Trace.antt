@@ -10,6 +10,7 @@ use Rattle.wasm_types.specs.declared.outcome.Outcome.TheVariants.{Running}
 use Rattle.wasm_types.specs.declared.operation.Action.{Action}
 use Rattle.wasm_types.specs.declared.operation.Action.TheVariants as act
 use Rattle.wasm_types.specs.declared.operation.Op.{Op}
+use Rattle.wasm_types.specs.declared.range.ByteRange.{ByteRange}
 use Rattle.wasm_types.specs.Accesses.{access_width, load_access}
 use Rattle.block_objects.specs.Access.{number_at}
 use Rattle.block_objects.specs.Objects.{value_pages}
@@ -25,11 +26,9 @@ use Rattle.integer_machine.specs.Standing.{standing}
 use Rattle.replay_laws.specs.Turns.{pick_of}
 use Rattle.wasm_world.specs.Opening.{WasmWorld}
 use Rattle.wasm_world.specs.ThreadCode.{thread_code, ThreadAt as CodeThread}
-use Rattle.debug_views.specs.Standing.{title}
+use Rattle.debug_views.specs.Standing.{PlaceForm, place_text}
 use Rattle.debug_views.specs.TraceLines.{event_line}
 use Rattle.debug_views.specs.Values.{memory_bytes}
-use Rattle.debug_views.specs.declared.trace_choice.AddressRange.{AddressRange}
-use Rattle.binary_decoder.specs.Names.{function_name}
 use Rattle.debug_views.specs.declared.trace_choice.TraceChoice.{TraceChoice}
 use Rattle.debug_views.specs.declared.trace_seen.Seen.{Seen}
 use Rattle.replica.specs.declared.diverging.EventAt.{EventAt}
@@ -132,15 +131,15 @@ abbrev pub bytes_of_action : Action → Option (ℕ × ℕ)
 bytes_of_action action = bytes_by (accessed action) (waiters_at action)
 
 -- a range has one of so many bytes from an address on
-abbrev pub do_meet : AddressRange → ℕ × ℕ → Bool
+abbrev pub do_meet : ByteRange → ℕ × ℕ → Bool
 do_meet r b = nat_lt (max r.from b.0) (min (r.from + r.len) (b.0 + b.1))
 
-abbrev pub is_met : List AddressRange → Option (ℕ × ℕ) → Bool
+abbrev pub is_met : List ByteRange → Option (ℕ × ℕ) → Bool
 is_met ranges None = false
 is_met ranges (Some b) = list_any (λ r. do_meet r b) ranges
 
 -- on a byte of one of the ranges; any action, where none is named
-abbrev pub is_of_ranges : List AddressRange → Action → Bool
+abbrev pub is_of_ranges : List ByteRange → Action → Bool
 is_of_ranges ranges action = length ranges == 0 || is_met ranges (bytes_of_action action)
 
 abbrev pub has_passed : Option ℕ → ℕ → Bool
@@ -152,31 +151,31 @@ abbrev pub is_since : Option EventAt → WasmWorld → Bool
 is_since None v = true
 is_since (Some e) v = has_passed (option_map (λ (th : ThreadAt CodeThread). th.places) (slice_get v.threads e.thread)) e.place
 
--- what a trace is asked for: the names in a module's bytes, and events of these threads, on a byte of one of these
--- ranges, from this one on
+-- what a trace is asked for: places written so, and events of these threads, on a byte of one of these ranges, from
+-- this one on
 pub record TraceAsked : Type 0 where
-  pub source : List ℕ
+  pub places : PlaceForm
   pub only : List ℕ
-  pub bytes : List AddressRange
+  pub bytes : List ByteRange
   pub since : Option EventAt
 
-abbrev pub asked_with : List ℕ → TraceChoice → TraceAsked
-asked_with source choice = record { source = source; only = choice.only.now; bytes = choice.bytes.items; since = choice.since }
+abbrev pub asked_with : PlaceForm → TraceChoice → TraceAsked
+asked_with places choice = record { places = places; only = choice.only.now; bytes = choice.bytes.now; since = choice.since }
 
-abbrev pub is_chosen : List ℕ → List AddressRange → Option EventAt → ℕ → Action → WasmWorld → Bool
+abbrev pub is_chosen : List ℕ → List ByteRange → Option EventAt → ℕ → Action → WasmWorld → Bool
 is_chosen only bytes since t action v = is_of_threads only t && (is_of_ranges bytes action && is_since since v)
 
 -- what is seen of thread t, where its thread and its action are asked for
-abbrev pub seen_if : List ℕ → List AddressRange → ℕ → Option Seen → Option Seen
+abbrev pub seen_if : List ℕ → List ByteRange → ℕ → Option Seen → Option Seen
 seen_if only bytes t None = None
 seen_if only bytes t (Some s) = cond (is_of_threads only t && is_of_ranges bytes s.action) (Some s) None
 
 -- ---- lines
 
--- the function by its name, and the number of the instruction that comes next in it
-abbrev pub standing_text : (ℕ → Option (List ℕ)) → Option CodePlace → List ℕ
-standing_text names None = []
-standing_text names (Some p) = title (names p.function) p.function ++ (codes "+" ++ (decimal p.instruction ++ 32 ∷ []))
+-- where it stands in the code, if it does
+abbrev pub standing_text : PlaceForm → Option CodePlace → List ℕ
+standing_text form None = []
+standing_text form (Some p) = place_text form p ++ 32 ∷ []
 
 -- how a thread stands in a world
 abbrev pub outcome_in : WasmWorld → ℕ → Outcome
@@ -186,7 +185,7 @@ abbrev pub line_of : TraceAsked → ℕ → Option Seen → WasmWorld → List �
 line_of asked t None v = []
 line_of asked t (Some s) v =
     cond (is_chosen asked.only asked.bytes asked.since t s.action v)
-    (event_line t s.place (standing_text (function_name asked.source) s.standing) s.action s.found (measured s.action v) (outcome_in v t)) []
+    (event_line t s.place (standing_text asked.places s.standing) s.action s.found (measured s.action v) (outcome_in v t)) []
 
 -- the line of an event of thread t that leads from world w to world v
 abbrev pub trace_note : TraceAsked → WasmWorld → ℕ → WasmWorld → List ℕ

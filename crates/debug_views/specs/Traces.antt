@@ -1,6 +1,6 @@
 -- Traces of gathered logs: a line for each event of the ordered replay from the opening world of a module and a plan
 -- that is asked for, and the view of the world at which it stops.
-use Rattle.std.specs.Prelude.{◌≡◌, ℕ, ◌≤◌, true, List, ◌++◌}
+use Rattle.std.specs.Prelude.{◌≡◌, ℕ, ◌≤◌, List, ◌++◌}
 use Rattle.wasm_types.specs.declared.modules.Module.{Module}
 use Rattle.wasm_types.specs.Memories.{block_power}
 use Rattle.block_objects.specs.SharedMemory.{shared_memory}
@@ -18,14 +18,14 @@ use Rattle.wasm_replay.specs.Replays.{Opens, IsOfRun, gathered_log}
 use Rattle.debug_views.specs.declared.trace_choice.TraceChoice.{TraceChoice}
 use Rattle.debug_views.specs.declared.tracing.TraceFault.{TraceFault}
 use Rattle.debug_views.specs.declared.tracing.TraceFault.TheVariants.{Replay, NoMemory}
-use Rattle.debug_views.specs.Standing.{notes_if}
+use Rattle.debug_views.specs.Standing.{notes_of}
 use Rattle.debug_views.specs.Text.{IsView}
 use Rattle.debug_views.specs.Trace.{TraceAsked, asked_with, trace_note}
 use Rattle.debug_views.specs.Views.{StopsToShow, IsNotReplayed}
 
--- by the names in the module's bytes, and of the events that are chosen
+-- places by the module's bytes, and the events that are chosen
 abbrev pub asked_of : Module → TraceChoice → TraceAsked
-asked_of m choice = asked_with m.source choice
+asked_of m choice = asked_with (record { source = m.source; offsets = choice.offsets }) choice
 
 module _ (m : Module) (plan : PlanValue) (log : GatheredLog) (order : List ℕ) (breaks : List Break) where
   -- the lines of the events of the turns that lead from world w to world v; each world on the way is right by each run
@@ -44,7 +44,7 @@ module _ (m : Module) (plan : PlanValue) (log : GatheredLog) (order : List ℕ) 
     pub lines : List ℕ
     pub are_lines : (w : WasmWorld) → Opens m plan log w → AreLines asked w world lines
     pub view : List ℕ
-    pub is_view : IsView shared_memory thread_code world (block_power (key_of log).profile) stopped breaks (notes_if true m.source world.threads) 0 0 view
+    pub is_view : IsView shared_memory thread_code world (block_power (key_of log).profile) stopped breaks (notes_of asked.places world.threads) 0 0 view
     pub is : text ≡ lines ++ view
 
   -- the log is of another run, its replay comes to a fault, or memory is wanting

@@ -1,6 +1,6 @@
 -- Views of gathered logs: where the replay from the opening world of a module and a plan stops, and what is shown
 -- there.
-use Rattle.std.specs.Prelude.{◌≡◌, ◌⊎◌, ℕ, ◌+◌, ◌<◌, ◌≤◌, Bool, List, length}
+use Rattle.std.specs.Prelude.{◌≡◌, ◌⊎◌, ℕ, ◌+◌, ◌<◌, ◌≤◌, List, length}
 use Rattle.wasm_types.specs.declared.modules.Module.{Module}
 use Rattle.block_objects.specs.SharedMemory.{shared_memory}
 use Rattle.wasm_world.specs.Plans.{PlanValue}
@@ -22,6 +22,7 @@ use Rattle.debug_views.specs.declared.fault.ViewFault.TheVariants as showing
 use Rattle.wasm_replay.specs.Replays.{Opens, IsOfRun, IsOfNoRun, gathered_log}
 use Rattle.wasm_replay.specs.declared.replaying.WasmReplayFault.{WasmReplayFault}
 use Rattle.wasm_replay.specs.declared.replaying.WasmReplayFault.TheVariants as refusal
+use Rattle.debug_views.specs.declared.notes.Notes.{Notes}
 use Rattle.debug_views.specs.Standing.{notes_if}
 use Rattle.debug_views.specs.declared.viewing.WasmViewFault.{WasmViewFault}
 use Rattle.debug_views.specs.declared.viewing.WasmViewFault.TheVariants.{Replay, View}
@@ -36,13 +37,13 @@ module _ (m : Module) (plan : PlanValue) (log : GatheredLog) (order : List ℕ) 
     pub stops : Stops v s
     pub shown : IsShown s breaks
 
-  -- the view of the world at which the replay stops, which has the range, with where its threads stand if names are
-  -- asked for; on a log below that of a run, that world is right by the run
-  pub record IsViewOfLog (names : Bool) (from len : ℕ) (text : List ℕ) : Type 0 where
+  -- the view of the world at which the replay stops, which has the range, with what is said of where its threads
+  -- stand; on a log below that of a run, that world is right by the run
+  pub record IsViewOfLog (notes : Notes) (from len : ℕ) (text : List ℕ) : Type 0 where
     pub world : WasmWorld
     pub stopped : Stopped
     pub stops : StopsToShow world stopped
-    pub view : IsView shared_memory thread_code world (block_power (key_of log).profile) stopped breaks (notes_if names m.source world.threads) from len text
+    pub view : IsView shared_memory thread_code world (block_power (key_of log).profile) stopped breaks (notes_if notes m.source world.threads) from len text
     pub within : from + len ≤ length (memory_bytes shared_memory world)
     pub recorded : (w : WasmWorld) → Opens m plan log w → ShowsRecorded shared_memory thread_code (gathered_log log) w world
 

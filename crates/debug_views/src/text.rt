@@ -18,7 +18,7 @@ use replay_breaks::{Break, Stopped};
 use rw_objects::{Count, Machine, ObjectSpace, Versions};
 use std::alloc::Global;
 use std::fmt::Write;
-use wasm_types::{Block, NoMemory};
+use wasm_types::{Block, ByteRange, NoMemory};
 
 /// The bytes of a row.
 const ROW: usize = 16;
@@ -26,8 +26,8 @@ const ROW: usize = 16;
 /// The view of a world at which a replay stopped so: `stopped place`, `stopped step`, `stopped write`, `finished` or
 /// `stuck`; `thread T steps S places P OUTCOME` for each thread, by number; `object O version V reads R` for each block
 /// that holds a byte of the range, by number; and the range in rows of 16 bytes from its start, the last one perhaps
-/// shorter: the address in eight lower-case hexadecimal digits, and the bytes in two each. The range is that from an
-/// address on of so many bytes; blocks are of this size. Where the replay stopped at a break, it is one of the list.
+/// shorter: the address in eight lower-case hexadecimal digits, and the bytes in two each. Blocks are of this size. Where
+/// the replay stopped at a break, it is one of the list.
 /// Behind a thread's line stands the note of its number, if there is one.
 pub fn view<M: Machine<S>, S: MemorySpace>(
     alloc: Global,
@@ -36,20 +36,19 @@ pub fn view<M: Machine<S>, S: MemorySpace>(
     stopped: Stopped,
     breaks: &[Break],
     notes: &[String],
-    from: u32,
-    len: u32,
+    range: ByteRange,
 ) -> Result<String, ViewFault>
     requires { IsShown stopped breaks.now }
-    ensures view { IfOk result (λ text. IsView S.meaning M.code (world_of world.now) block stopped breaks.now (map string_bytes notes.now) from len (string_bytes text)) }
-    ensures within { IfOk result (λ text. from + len ≤ length (memory_bytes S.meaning (world_of world.now))) }
-    ensures fault { IfErr result (IsFault (memory_bytes S.meaning (world_of world.now)) from len) }
+    ensures view { IfOk result (λ text. IsView S.meaning M.code (world_of world.now) block stopped breaks.now (map string_bytes notes.now) range.from range.len (string_bytes text)) }
+    ensures within { IfOk result (λ text. range.from + range.len ≤ length (memory_bytes S.meaning (world_of world.now))) }
+    ensures fault { IfErr result (IsFault (memory_bytes S.meaning (world_of world.now)) range.from range.len) }
 {
-    let bytes = bytes(alloc, world, from, len)?;
-    let blocks = blocks_of_range(block, from, len);
+    let bytes = bytes(alloc, world, range.from, range.len)?;
+    let blocks = blocks_of_range(block, range.from, range.len);
     let mut text = first_line(alloc, stopped, breaks)?;
     write_threads(&mut text, world, notes)?;
     write_objects(&mut text, world.versions(), blocks)?;
-    write_rows(&mut text, from, bytes.as_slice())?;
+    write_rows(&mut text, range.from, bytes.as_slice())?;
     Ok(text)
 }
 

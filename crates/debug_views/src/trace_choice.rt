@@ -8,37 +8,30 @@ use crate::trace_seen::accessed;
 use event_core::World;
 use integer_machine::ThreadState;
 use replica::EventAt;
-use wasm_types::{Action, MOST_THREADS};
+use wasm_types::{Action, ByteRange, MOST_THREADS};
 use wasm_world::SharedSpace;
 
-/// The bytes from an address on, so many.
-#[derive(Clone, Copy, Debug, PartialEq, Eq)]
-pub struct AddressRange {
-    pub from: u32,
-    pub len: u32,
+/// Whether a byte is of both ranges.
+fn do_meet(range: &ByteRange, other: ByteRange) -> bool
+    ensures { result ≡ do_meet range.now (other.from, other.len) }
+{
+    let from = range.from.max(other.from);
+    let end = u64::from(range.from) + u64::from(range.len);
+    let other_end = u64::from(other.from) + u64::from(other.len);
+    u64::from(from) < end.min(other_end)
 }
 
-impl AddressRange {
-    /// Whether a byte is of both ranges.
-    fn meets(self, other: AddressRange) -> bool
-        ensures { result ≡ do_meet self (other.from, other.len) }
-    {
-        let from = self.from.max(other.from);
-        let end = u64::from(self.from) + u64::from(self.len);
-        let other_end = u64::from(other.from) + u64::from(other.len);
-        u64::from(from) < end.min(other_end)
-    }
-}
-
-/// Which events have a line.
-#[derive(Debug, Drop)]
+/// Which events have a line, and what is in it.
+#[derive(Clone, Copy, Debug)]
 pub struct TraceChoice<'a> {
     /// Those of these threads; of all where none is named.
     pub only: &'a [u32],
     /// Those that concern a byte of one of these ranges; any where none is named.
-    pub bytes: Vec<AddressRange>,
+    pub bytes: &'a [ByteRange],
     /// From this one on.
     pub since: Option<EventAt>,
+    /// Whether instructions have their offsets in the module's bytes beside them.
+    pub offsets: bool,
 }
 
 /// Whether an event is of one of these threads.
@@ -72,30 +65,30 @@ fn waiters_at(action: &Action) -> Option<u32>
 }
 
 /// The address that an action concerns, and how many bytes there.
-fn bytes_of(action: &Action) -> Option<AddressRange>
+fn bytes_of(action: &Action) -> Option<ByteRange>
     ensures { option_map (λ r. (r.from, r.len)) result ≡ bytes_of_action action.now }
 {
     match accessed(action) {
         Some((access, from)) => {
             let len = access.width().bytes();
-            Some(AddressRange { from, len })
+            Some(ByteRange { from, len })
         }
         None => match waiters_at(action) {
-            Some(from) => Some(AddressRange { from, len: 4 }),
+            Some(from) => Some(ByteRange { from, len: 4 }),
             None => None,
         },
     }
 }
 
 /// Whether one of these ranges has one of these bytes.
-fn is_met(ranges: &[AddressRange], bytes: AddressRange) -> bool
+fn is_met(ranges: &[ByteRange], bytes: ByteRange) -> bool
     ensures { result ≡ is_met ranges.now (Some (bytes.from, bytes.len)) }
 {
-    ranges.iter().any(|range| range.meets(bytes))
+    ranges.iter().any(|range| do_meet(range, bytes))
 }
 
 /// Whether an action concerns a byte of one of these ranges, or none is named.
-fn is_of_ranges(ranges: &[AddressRange], action: &Action) -> bool
+fn is_of_ranges(ranges: &[ByteRange], action: &Action) -> bool
     ensures { result ≡ is_of_ranges ranges.now action.now }
 {
     if ranges.is_empty() {
@@ -123,9 +116,9 @@ fn is_since(since: Option<EventAt>, world: &World<ThreadState<'_>, SharedSpace>)
 impl<'a> TraceChoice<'a> {
     /// Whether an event that does this may have a line.
     pub(crate) fn has_action(&self, action: &Action) -> bool
-        ensures { result ≡ is_of_ranges self.now.bytes.items action.now }
+        ensures { result ≡ is_of_ranges self.now.bytes.now action.now }
     {
-        is_of_ranges(self.bytes.as_slice(), action)
+        is_of_ranges(self.bytes, action)
     }
 
     /// Whether an event that leads to a world may have a line.

@@ -1,24 +1,30 @@
 //! The trace of a replay.
 
 ghost use Rattle.std.specs.Prelude.{◌≡◌, ◌++◌, false, OnOk, IfOk, IfErr, string_bytes};
+ghost use Rattle.block_objects.specs.SharedMemory.{shared_memory};
 ghost use Rattle.event_core.specs.World.{world_of};
 ghost use Rattle.wasm_world.specs.Plans.{IsPlanOf};
+ghost use Rattle.wasm_world.specs.ThreadCode.{thread_code};
 ghost use Rattle.wasm_replay.specs.Replays.{HasWorld, IsOfRun};
+ghost use Rattle.debug_views.specs.Standing.{notes_of};
+ghost use Rattle.debug_views.specs.Text.{IsShown, IsView};
 ghost use Rattle.debug_views.specs.Traces.{asked_of, IsTraceOfLog, IsNotTraced};
 
+use crate::notes::notes_of;
+use crate::places::PlaceWriter;
 use crate::replays::{opened, refused_at};
+use crate::text::view;
 use crate::trace_choice::TraceChoice;
 use crate::trace_watch::Tracer;
-use crate::viewing::show;
-use binary_decoder::FunctionNames;
-use integer_machine::memory_limits;
+use event_core::World;
+use integer_machine::{ThreadState, memory_limits};
 use replay_breaks::{Break, Stopped, run_watched};
 use replica::Log;
 use std::alloc::Global;
 use thiserror::Error;
 use wasm_replay::Unreplayed;
-use wasm_types::NoMemory;
-use wasm_world::{Plan, Valid};
+use wasm_types::{Block, ByteRange, NoMemory};
+use wasm_world::{Plan, SharedSpace, Valid};
 
 /// Why a log is not traced.
 #[derive(Clone, Copy, Debug, PartialEq, Eq, Error)]
@@ -40,10 +46,30 @@ fn with_view(tracer: Tracer<'_>, view: &str) -> Result<String, NoMemory>
     Ok(text)
 }
 
+/// The view of a world at which a replay stopped, without bytes of its memory.
+fn view_at(
+    alloc: Global,
+    world: &World<ThreadState<'_>, SharedSpace>,
+    block: Block,
+    stopped: Stopped,
+    breaks: &[Break],
+    places: &PlaceWriter<'_>,
+) -> Result<String, NoMemory>
+    requires { IsShown stopped breaks.now }
+    ensures { IfOk result (λ text. IsView shared_memory thread_code (world_of world.now) block stopped breaks.now (notes_of places.now (world_of world.now).threads) 0 0 (string_bytes text)) }
+{
+    let notes = notes_of(alloc, places, world)?;
+    let none = ByteRange { from: 0, len: 0 };
+    match view(alloc, world, block, stopped, breaks, notes.as_slice(), none) {
+        Ok(text) => Ok(text),
+        Err(_) => Err(NoMemory),
+    }
+}
+
 /// Replays a log that was gathered, in this order, up to the first break that holds, or until no thread goes on, and
 /// writes a line for each event on the way that is asked for, and behind them the view of the world at which it stops,
-/// with where its threads stand. Functions have the names in the module's bytes. On a log below that of a run of the
-/// module and plan, each line is told by recorded values alone.
+/// with where its threads stand, by the module's bytes. On a log below that of a run of the module and plan, each line
+/// is told by recorded values alone.
 pub fn trace_log(
     alloc: Global,
     valid: &Valid,
@@ -65,27 +91,17 @@ pub fn trace_log(
         Err(refused) => return Err(TraceFault::Replay(refused)),
     };
     let source = valid.module().source.as_slice();
-    let Ok(names) = FunctionNames::new(alloc, source) else {
+    let Ok(places) = PlaceWriter::new(alloc, source, choice.offsets) else {
         return Err(TraceFault::NoMemory);
     };
-    let mut tracer = Tracer::new(alloc, &names, source, choice);
+    let mut tracer = Tracer::new(alloc, &places, choice);
     let stopped = run_watched(alloc, &mut replay, order, breaks, &mut tracer);
     if let Stopped::Fault(fault) = stopped {
         let refused = refused_at(alloc, log, fault, replay.world());
         return Err(TraceFault::Replay(refused));
     }
     let block = memory_limits(valid.module(), log.key().profile).block;
-    let Ok(view) = show(
-        alloc,
-        valid,
-        replay.world(),
-        block,
-        stopped,
-        breaks,
-        true,
-        0,
-        0,
-    ) else {
+    let Ok(view) = view_at(alloc, replay.world(), block, stopped, breaks, &places) else {
         return Err(TraceFault::NoMemory);
     };
     match with_view(tracer, &view) {

@@ -12,7 +12,7 @@ ghost use Rattle.debug_views.specs.Standing.{notes_if};
 ghost use Rattle.debug_views.specs.Views.{IsViewOfLog, IsNotViewed};
 
 use crate::fault::ViewFault;
-use crate::notes::notes_if;
+use crate::notes::{Notes, notes_if};
 use crate::replays::{opened, refused_at};
 use crate::text::view;
 use crate::values::is_in_view;
@@ -23,7 +23,7 @@ use replica::Log;
 use std::alloc::Global;
 use thiserror::Error;
 use wasm_replay::Unreplayed;
-use wasm_types::Block;
+use wasm_types::{Block, ByteRange};
 use wasm_world::{Plan, SharedSpace, Valid};
 
 /// Why a log is not viewed.
@@ -37,28 +37,35 @@ pub enum WasmViewFault {
     View(ViewFault),
 }
 
-/// Shows a world at which a replay stopped, with where its threads stand if names are asked for. A range that passes
-/// the memory is refused before memory is wanted for names.
-pub(crate) fn show(
+/// What is shown of a world.
+#[derive(Clone, Copy, Debug, PartialEq, Eq)]
+pub struct ViewChoice {
+    /// What is said of where its threads stand.
+    pub notes: Notes,
+    /// The bytes of its memory.
+    pub range: ByteRange,
+}
+
+/// Shows a world at which a replay stopped. A range that passes the memory is refused before memory is wanted for notes.
+fn show(
     alloc: Global,
     valid: &Valid,
     world: &World<ThreadState<'_>, SharedSpace>,
     block: Block,
     stopped: Stopped,
     breaks: &[Break],
-    names: bool,
-    from: u32,
-    len: u32,
+    choice: ViewChoice,
 ) -> Result<String, ViewFault>
     requires { IsShown stopped breaks.now }
-    ensures view { IfOk result (λ text. IsView shared_memory thread_code (world_of world.now) block stopped breaks.now (notes_if names valid.now.source (world_of world.now).threads) from len (string_bytes text)) }
-    ensures within { IfOk result (λ text. from + len ≤ length (memory_bytes shared_memory (world_of world.now))) }
-    ensures fault { IfErr result (IsFault (memory_bytes shared_memory (world_of world.now)) from len) }
+    ensures view { IfOk result (λ text. IsView shared_memory thread_code (world_of world.now) block stopped breaks.now (notes_if choice.notes valid.now.source (world_of world.now).threads) choice.range.from choice.range.len (string_bytes text)) }
+    ensures within { IfOk result (λ text. choice.range.from + choice.range.len ≤ length (memory_bytes shared_memory (world_of world.now))) }
+    ensures fault { IfErr result (IsFault (memory_bytes shared_memory (world_of world.now)) choice.range.from choice.range.len) }
 {
-    if !is_in_view(world, from, len) {
+    let range = choice.range;
+    if !is_in_view(world, range.from, range.len) {
         return Err(ViewFault::OutOfView);
     }
-    let Ok(notes) = notes_if(alloc, names, valid, world) else {
+    let Ok(notes) = notes_if(alloc, choice.notes, valid, world) else {
         return Err(ViewFault::NoMemory);
     };
     view(
@@ -68,16 +75,14 @@ pub(crate) fn show(
         stopped,
         breaks,
         notes.as_slice(),
-        from,
-        len,
+        range,
     )
 }
 
 /// Replays a log that was gathered, in this order, up to the first break that holds, or until no thread goes on, and
-/// shows the world at which it stops. The bytes shown are those from an address on, so many. On a log below that of a
-/// run of the module and plan, the values and threads of that world are recorded ones alone. Where names are asked for,
-/// behind the line of each thread stands where it is, by the names in the module's bytes. That the range passes that
-/// world's memory is said before any want of memory for its view.
+/// shows the world at which it stops. On a log below that of a run of the module and plan, the values and threads of
+/// that world are recorded ones alone. Where it is asked for, behind the line of each thread stands where it is, by the
+/// module's bytes. That the range passes that world's memory is said before any want of memory for its view.
 pub fn view_log(
     alloc: Global,
     valid: &Valid,
@@ -85,16 +90,14 @@ pub fn view_log(
     log: &Log,
     order: &[u32],
     breaks: &[Break],
-    names: bool,
-    from: u32,
-    len: u32,
+    choice: ViewChoice,
 ) -> Result<String, WasmViewFault>
     requires { IsPlanOf valid.now plan.now }
     ensures of_run { OnOk result (IsOfRun valid.now plan.now log.now) }
     // There is a world from which the runs of the log begin; of it speak the clauses below.
     ensures has_world { HasWorld valid.now plan.now log.now }
-    ensures shown { IfOk result (λ text. IsViewOfLog valid.now plan.now log.now order.now breaks.now names from len (string_bytes text)) }
-    ensures refused { IfErr result (IsNotViewed valid.now plan.now log.now order.now breaks.now from len) }
+    ensures shown { IfOk result (λ text. IsViewOfLog valid.now plan.now log.now order.now breaks.now choice.notes choice.range.from choice.range.len (string_bytes text)) }
+    ensures refused { IfErr result (IsNotViewed valid.now plan.now log.now order.now breaks.now choice.range.from choice.range.len) }
 {
     let mut replay = match opened(alloc, valid, plan, log) {
         Ok(replay) => replay,
@@ -107,9 +110,7 @@ pub fn view_log(
     }
     let block = memory_limits(valid.module(), log.key().profile).block;
     let world = replay.world();
-    match show(
-        alloc, valid, world, block, stopped, breaks, names, from, len,
-    ) {
+    match show(alloc, valid, world, block, stopped, breaks, choice) {
         Ok(text) => Ok(text),
         Err(fault) => Err(WasmViewFault::View(fault)),
     }

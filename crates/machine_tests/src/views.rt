@@ -10,7 +10,7 @@ use replay_breaks::{Break, Every, ObjectRange, Stopped};
 use std::alloc::Global;
 use std::test::Fail;
 use validator::Valid;
-use wasm_types::Block;
+use wasm_types::{Block, ByteRange};
 
 /// A shared memory of one page, and a function `w` that adds 1 at address 0 twice and answers the second old value: 8
 /// steps, 2 of them events.
@@ -75,8 +75,7 @@ fn text_of_view(alloc: Global, world: &Threads<'_>, row: &Row) -> Result<String,
         stopped,
         breaks,
         &[],
-        from,
-        len,
+        ByteRange { from, len },
     ) {
         Ok(text) => Ok(text),
         Err(fault) => Ok(format!(in alloc; "{fault:?}\n")?),

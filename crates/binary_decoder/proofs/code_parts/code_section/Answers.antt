@@ -17,8 +17,8 @@ returns-then-part-eq-CODE-clause-found c =
     rw c.rest.ensures (code_found (length c.args.bytes.now) (length c.rest-most.result.now) c.loop.counter c.loop.left.rest.now (code_of c.args.bytes.now) c.loop.invariant.1
     (c.in-Ok.part.id, c.in-Ok.part.content.rest.now) c.next_part.new.cursor.rest.now c.loop-test.true c.in-Ok.ensures.value c.if-part-eq-CODE.true)
 
-pub returns-then-part-eq-CODE-clause-fits : goal.returns-then-part-eq-CODE-clause-fits
-returns-then-part-eq-CODE-clause-fits c =
+pub returns-then-part-eq-CODE-clause-within : goal.returns-then-part-eq-CODE-clause-within
+returns-then-part-eq-CODE-clause-within c =
     omega (arith, c.loop.invariant.0, part_fits c.loop.left.rest.now (c.in-Ok.part.id, c.in-Ok.part.content.rest.now) c.next_part.new.cursor.rest.now c.in-Ok.ensures.value, ap length c.rest.ensures)
 
 pub loop-preserved : goal.loop-preserved

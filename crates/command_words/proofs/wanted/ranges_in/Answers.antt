@@ -1,7 +1,7 @@
 use Rattle.std.proofs.Common.{rules, ◌≡◌, ℕ, List, [], ◌∷◌, ap, sym, ◌∙◌, map}
 use Rattle.std.specs.Prelude.{option_map, Some, None}
 use Rattle.std.proofs.lemmas.List.{map-append}
-use Rattle.command_words.specs.declared.requests.ByteRange.{ByteRange}
+use Rattle.wasm_types.specs.declared.range.ByteRange.{ByteRange}
 use Rattle.command_words.proofs.Ranges.{range_more, range_none, ranges_done}
 use Rattle.command_words.proofs.wanted.ranges_in.Goals as goal
 

@@ -1,4 +1,4 @@
-use Rattle.std.proofs.Common.{ap, ◌++◌, ◌∙◌}
+use Rattle.std.proofs.Common.{ap, subst, ◌++◌, ◌∙◌}
 use Rattle.std.specs.Prelude.{string_bytes}
 use Rattle.block_objects.specs.SharedMemory.{shared_memory}
 use Rattle.event_core.specs.World.{world_of}
@@ -6,14 +6,16 @@ use Rattle.replay_breaks.specs.Notes.{notes}
 use Rattle.wasm_replay.specs.Replays.{gathered_log}
 use Rattle.wasm_types.specs.Memories.{block_power}
 use Rattle.wasm_world.specs.ThreadCode.{thread_code}
+use Rattle.debug_views.specs.Standing.{notes_of}
+use Rattle.debug_views.specs.Text.{IsView}
 use Rattle.debug_views.specs.Trace.{asked_with, trace_note}
 use Rattle.debug_views.specs.Traces.{asked_of}
 use Rattle.debug_views.proofs.Stopping.{shown}
 use Rattle.debug_views.proofs.TraceLaws.{asked_same, lines_of, trace_of}
 use Rattle.debug_views.proofs.tracing.trace_log.Goals as goal
 
-pub show-requires : goal.show-requires
-show-requires c = shown c.args.valid.now c.args.plan.now c.args.log.now c.in-Ok.replay.log.log.now c.args.order.now c.args.breaks.now (world_of c.in-Ok.replay.world) (world_of c.run_watched-stopped.new.replay.world)
+pub view_at-requires : goal.view_at-requires
+view_at-requires c = shown c.args.valid.now c.args.plan.now c.args.log.now c.in-Ok.replay.log.log.now c.args.order.now c.args.breaks.now (world_of c.in-Ok.replay.world) (world_of c.run_watched-stopped.new.replay.world)
     c.run_watched-stopped.result c.run_watched-stopped.ensures.stops c.in_default-stopped.not-Fault
 
 pub returns-in-Ok-with_view : goal.returns-in-Ok-with_view
@@ -28,10 +30,11 @@ returns-in-Ok-with_view c =
     let v = world_of c.run_watched-stopped.new.replay.world in
     let asked = asked_of m c.args.choice in
     let lines = string_bytes c.run_watched-stopped.new.watch.text in
+    let of_module = c.in-Ok-new.ensures ∙ ap (λ bytes. record { source = bytes; offsets = c.args.choice.offsets }) (c.as_slice-source.ensures ∙ ap (λ x. x.source) c.module.ensures.module) in
     let noted = c.run_watched-stopped.ensures.noted in
-    let same = asked_same m c.new-tracer.result.source.now c.new-tracer.result.choice c.args.choice (c.new-tracer.ensures.source ∙ c.as_slice-source.ensures ∙ ap (λ x. x.source) c.module.ensures.module) c.new-tracer.ensures.choice in
+    let same = asked_same m c.new-tracer.result.places.now c.new-tracer.result.choice c.args.choice (c.new-tracer.ensures.places ∙ of_module) c.new-tracer.ensures.choice in
     let is = noted.has.is c.in-Ok-with_view.ensures.0
-    ∙ ap (λ text. text ++ notes shared_memory thread_code (trace_note (asked_with c.new-tracer.result.source.now c.new-tracer.result.choice)) (gathered_log handed) opened order noted.turns) c.new-tracer.ensures.text
+    ∙ ap (λ text. text ++ notes shared_memory thread_code (trace_note (asked_with c.new-tracer.result.places.now c.new-tracer.result.choice)) (gathered_log handed) opened order noted.turns) c.new-tracer.ensures.text
     ∙ ap (λ a. notes shared_memory thread_code (trace_note a) (gathered_log handed) opened order noted.turns) same in
     record {
       of_run = c.in-Ok.ensures.of_run;
@@ -40,7 +43,7 @@ returns-in-Ok-with_view c =
           c.run_watched-stopped.ensures.stops c.in-Ok.ensures.log c.in-Ok.ensures.world (ap (λ x. world_of x) c.world-2.ensures.same)
           (ap (λ l. l.block) c.memory_limits-block.ensures ∙ ap (λ k. block_power k.profile) c.key.ensures)
           (shown m plan log handed order breaks opened v c.run_watched-stopped.result c.run_watched-stopped.ensures.stops c.in_default-stopped.not-Fault)
-          c.in-Ok-show.ensures.view
+          (subst (λ p. IsView shared_memory thread_code (world_of c.world-2.result.now) c.memory_limits-block.result.block c.run_watched-stopped.result breaks (notes_of p (world_of c.world-2.result.now).threads) 0 0 (string_bytes c.in-Ok-view_at.view)) of_module c.in-Ok-view_at.ensures)
           (lines_of m plan log handed order breaks opened v asked c.in-Ok.replay.opens c.in-Ok.ensures.log c.in-Ok.ensures.opens c.in-Ok.ensures.world c.run_watched-stopped.ensures.way noted.turns lines noted.at is)
           (c.in-Ok-with_view.ensures.1 ∙ ap (λ t. lines ++ t) c.deref.ensures);
       refused = tt;

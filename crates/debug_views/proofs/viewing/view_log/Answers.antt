@@ -15,7 +15,7 @@ returns-in-Ok-show c = record {
   of_run = c.in-Ok.ensures.of_run;
   has_world = c.in-Ok.ensures.has_world;
   shown = view_of c.args.valid.now c.args.plan.now c.args.log.now c.in-Ok.replay.log.log.now c.args.order.now c.args.breaks.now (world_of c.in-Ok.replay.world) (world_of c.run_to-stopped.new.replay.world)
-      c.args.names (world_of c.world-world.result.now) c.run_to-stopped.result c.memory_limits-block.result.block c.args.from c.args.len _
+      c.args.choice.notes (world_of c.world-world.result.now) c.run_to-stopped.result c.memory_limits-block.result.block c.args.choice.range.from c.args.choice.range.len _
       c.run_to-stopped.ensures.stops c.in-Ok.ensures.log c.in-Ok.ensures.world (ap (λ x. world_of x) c.world-world.ensures.same)
       (ap (λ l. l.block) c.memory_limits-block.ensures ∙ ap (λ k. block_power k.profile) c.key.ensures)
       (shown c.args.valid.now c.args.plan.now c.args.log.now c.in-Ok.replay.log.log.now c.args.order.now c.args.breaks.now (world_of c.in-Ok.replay.world) (world_of c.run_to-stopped.new.replay.world)
@@ -33,7 +33,7 @@ returns c = record {
   has_world = c.in-Ok.ensures.has_world;
   shown = tt;
   refused = fault_of c.args.valid.now c.args.plan.now c.args.log.now c.in-Ok.replay.log.log.now c.args.order.now c.args.breaks.now (world_of c.in-Ok.replay.world) (world_of c.run_to-stopped.new.replay.world)
-      (world_of c.world-world.result.now) c.run_to-stopped.result c.args.from c.args.len c.in-Err-show.fault
+      (world_of c.world-world.result.now) c.run_to-stopped.result c.args.choice.range.from c.args.choice.range.len c.in-Err-show.fault
       c.run_to-stopped.ensures.stops c.in-Ok.ensures.log c.in-Ok.ensures.world (ap (λ x. world_of x) c.world-world.ensures.same)
       c.in-Ok.ensures.of_run
       (shown c.args.valid.now c.args.plan.now c.args.log.now c.in-Ok.replay.log.log.now c.args.order.now c.args.breaks.now (world_of c.in-Ok.replay.world) (world_of c.run_to-stopped.new.replay.world)

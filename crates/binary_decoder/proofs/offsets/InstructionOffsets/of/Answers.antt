@@ -9,7 +9,7 @@ use Rattle.binary_decoder.proofs.offsets.InstructionOffsets.of.Goals as goal
 
 pub push_bodies-requires-clause-within : goal.push_bodies-requires-clause-within
 push_bodies-requires-clause-within c =
-    omega (arith, c.in-Some.ensures.fits, number_shrinks c.in-Some.code.content.rest.now c.in-Ok.count c.unsigned_32.new.self.rest.now c.in-Ok.ensures.value)
+    omega (arith, c.in-Some.ensures.within, number_shrinks c.in-Some.code.content.rest.now c.in-Ok.count c.unsigned_32.new.self.rest.now c.in-Ok.ensures.value)
 
 pub returns : goal.returns
 returns c function instruction =

@@ -21,14 +21,14 @@ pub overflow_sub-content_end : goal.overflow_sub-content_end
 overflow_sub-content_end c =
     omega (arith, c.loop.invariant.0, content_fits c.loop.cursor.rest.now c.in-Ok.content.rest.now c.sized.new.self.rest.now c.in-Ok.ensures.value, ap length c.rest.ensures)
 
-pub push_body-requires-clause-within : goal.push_body-requires-clause-within
-push_body-requires-clause-within c =
+pub push_body-requires : goal.push_body-requires
+push_body-requires c =
     omega (arith, c.loop.invariant.0, content_fits c.loop.cursor.rest.now c.in-Ok.content.rest.now c.sized.new.self.rest.now c.in-Ok.ensures.value, ap length c.rest.ensures)
 
 pub loop-preserved : goal.loop-preserved
 loop-preserved c =
     let offsets = offsets_behind (c.args.end - length c.sized.new.self.rest.now) (locals_of c.in-Ok.content.rest.now) in (
-      omega (arith, c.loop.invariant.0, content_fits c.loop.cursor.rest.now c.in-Ok.content.rest.now c.sized.new.self.rest.now c.in-Ok.ensures.value, c.in_ok-push_body.ensures.fits),
+      omega (arith, c.loop.invariant.0, content_fits c.loop.cursor.rest.now c.in-Ok.content.rest.now c.sized.new.self.rest.now c.in-Ok.ensures.value),
       (
         c.loop.invariant.1.0 ++ offsets ∷ [],
         holds_more c.loop.self c.push_body.new.self c.loop.invariant.1.0 offsets c.loop.invariant.1.1 (rw c.rest.ensures at c.in_ok-push_body.ensures.offsets) c.in_ok-push_body.ensures.starts,
