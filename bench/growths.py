@@ -39,7 +39,9 @@ WITH_REASONS = [
     "view counter.wasm counter.plan first.pieces --place 1.1 --why",
     "gather --by-object --only 1,0 --why < first.pieces",
     "gather --by-object --skip --shared < first.pieces",
-    "trace counter.wasm counter.plan first.pieces --only 0,1 --bytes 0+4 --bytes 60+8 --why",
+    "chart --only 1,0 --to 1.1 --why < first.pieces",
+    "chart --skip < first.pieces",
+    "trace counter.wasm counter.plan first.pieces --only 0,1 --bytes 0+4 --bytes 60+8 --offsets --why",
 ]
 USUAL = ["first.", "five.", "hunt counter.wasm counter.plan --until 'thread 0 i32 3'", *BY_THREADS]
 

@@ -2,6 +2,7 @@
 recordings of profile 1 by what was recorded apart, and for the hunt by what is kept with it."""
 import os, struct, sys
 from model import Module, World, digest, schedule_text, shrunk
+from charts import chart, EMPTY
 from objects import by_object
 from views import stop, trace, view
 
@@ -31,10 +32,11 @@ def refused(line, text):
     command(asked, '', 'refused %s\n%s\n' % (text, REASONS.get(asked, '?')), 1)
 
 def gathered(name, listing):
-    """Gathers pieces, and lists them by thread and by object."""
+    """Gathers pieces, lists them by thread and by object, and draws them."""
     command('gather < %s.pieces' % name, listing)
     command('gather --by-object < %s.pieces' % name, by_object(listing))
     command('gather --by-object --shared < %s.pieces' % name, by_object(listing, shared=True))
+    command('chart < %s.pieces' % name, chart(listing))
 
 # ---- one recorded run, its pieces, its listing and its replays
 
@@ -534,6 +536,18 @@ for only in ('1,', 'x', '4294967296'):
     usage('gather --by-object --only %s' % only, "'--only <LIST>' takes 1 to 1000000 object numbers, joined by commas")
 for words in ('--only 1', '--shared', '--only 1 --shared', '--objects --shared'):
     usage('gather ' + words, "'gather' takes '--only <LIST>' and '--shared' with '--by-object'")
+command('chart', EMPTY)
+for from_, to in ((None, None), ((1, 0), None), (None, (0, 1)), ((0, 1), (1, 1)), ((1, 1), (0, 0)), ((7, 0), None), (None, (0, 9))):
+    words = (' --from %d.%d' % from_ if from_ else '') + (' --to %d.%d' % to if to else '')
+    for only in ('', '1', '0,7'):
+        command('chart%s%s < first.pieces' % (words, ' --only ' + only if only else ''), chart(BY_THREAD, [int(n) for n in only.split(',')] if only else (), from_, to))
+command('chart --skip < first.pieces', chart(BY_THREAD), 'skipped 0 0\n')
+command('chart --skip < mixed.pieces', chart(LISTED), 'skipped 1 1\n')
+for only in ('1,', 'x', '4294967296'): usage('chart --only ' + only, "'--only <LIST>' takes 1 to 1000000 object numbers, joined by commas")
+for at in ('1', '1.', '1.4294967296'):
+    usage('chart --from ' + at, "'--from <T.P>' takes a thread and a place, as 1.0")
+    usage('chart --to ' + at, "'--to <T.P>' takes a thread and a place, as 1.0")
+refused('chart < short.pieces', '43 BadLine 1')
 for words in ('--by-object --objects', '--contradictions --by-object --only 1'):
     usage('gather ' + words, "'gather' takes '--by-object' without '--objects' and '--contradictions'")
 command('--version', 'wreplay 0.1.0\n')

@@ -10,7 +10,7 @@ use Rattle.command_words.specs.Commands.{program}
 use Rattle.command_words.specs.declared.requests.Request.{Request}
 use Rattle.command_words.specs.declared.requests.Request.TheVariants.{Gather, Check, Record, Hunt, Replay, View, Trace}
 use Rattle.command_words.specs.declared.requests.GatherForm.{GatherForm}
-use Rattle.command_words.specs.declared.requests.GatherForm.TheVariants as listed
+use Rattle.command_words.specs.declared.requests.GatherForm.TheVariants as written
 use Rattle.command_words.specs.declared.requests.RecordOrder.{RecordOrder}
 use Rattle.command_words.specs.declared.requests.RecordOrder.TheVariants as order
 use Rattle.command_words.specs.declared.requests.RecordRequest.{RecordRequest}
@@ -176,18 +176,21 @@ pub record IsTraceAsked (rows : List Row) (t : TraceRequest) : Type 0 where
   pub has_to : IsCountAsked (first_of (codes "to") rows) t.to
   pub has_offsets : t.offsets ≡ has_flag (codes "offsets") rows
 
--- the values that a parser found say that this is listed: by threads, or the objects that are chosen
-abbrev pub IsGatherAsked : List Row → GatherForm → Type 0
-IsGatherAsked rows (listed.ByThread objects contradictions) =
-    (has_flag (codes "by-object") rows ≡ false) × (first_of (codes "only") rows ≡ None) × (has_flag (codes "shared") rows ≡ false)
+-- a command and the values that a parser found say that this is written of a log: what each thread did, the objects that
+-- are chosen, or a picture
+abbrev pub IsGatherAsked : Text → List Row → GatherForm → Type 0
+IsGatherAsked name rows (written.ByThread objects contradictions) =
+    (name ≡ codes "gather") × (has_flag (codes "by-object") rows ≡ false) × (first_of (codes "only") rows ≡ None) × (has_flag (codes "shared") rows ≡ false)
     × (objects ≡ has_flag (codes "objects") rows) × (contradictions ≡ has_flag (codes "contradictions") rows)
-IsGatherAsked rows (listed.ByObject only shared) =
-    (has_flag (codes "by-object") rows ≡ true) × (has_flag (codes "objects") rows ≡ false) × (has_flag (codes "contradictions") rows ≡ false)
+IsGatherAsked name rows (written.ByObject only shared) =
+    (name ≡ codes "gather") × (has_flag (codes "by-object") rows ≡ true) × (has_flag (codes "objects") rows ≡ false) × (has_flag (codes "contradictions") rows ≡ false)
     × (order_of (first_of (codes "only") rows) ≡ Some only.items) × (shared ≡ has_flag (codes "shared") rows)
+IsGatherAsked name rows (written.Chart only from to) =
+    (name ≡ codes "chart") × (order_of (first_of (codes "only") rows) ≡ Some only.items) × IsCountAsked (first_of (codes "from") rows) from × IsCountAsked (first_of (codes "to") rows) to
 
 -- a command and its values ask for this
 abbrev pub IsAsked : Text → List Row → Request → Type 0
-IsAsked name rows (Gather skips form) = (name ≡ codes "gather") × (skips ≡ has_flag (codes "skip") rows) × IsGatherAsked rows form
+IsAsked name rows (Gather skips form) = (skips ≡ has_flag (codes "skip") rows) × IsGatherAsked name rows form
 IsAsked name rows (Check path) = (name ≡ codes "check") × (first_of (codes "MODULE") rows ≡ Some path.now)
 IsAsked name rows (Record r) = (name ≡ codes "record") × IsRecordAsked rows r
 IsAsked name rows (Hunt r) = (name ≡ codes "hunt") × IsHuntAsked rows r

@@ -34,6 +34,10 @@ with_listings a = with_rule (with_rule (with_rule (with_rule (with_rule a (flag_
 abbrev pub gather : App
 gather = with_why (with_listings (with_rule (new_app (codes "gather")) (flag_rule (codes "skip"))))
 
+-- which accesses are drawn
+abbrev pub chart : App
+chart = with_why (with_rule (with_rule (with_rule (with_rule (new_app (codes "chart")) (flag_rule (codes "skip"))) (option_rule (codes "only"))) (option_rule (codes "from"))) (option_rule (codes "to")))
+
 abbrev pub check : App
 check = with_why (with_rule (new_app (codes "check")) (file_rule (codes "MODULE")))
 
@@ -111,4 +115,4 @@ above = record { top = record (new_app (codes "wreplay")).top { has_version = tr
 
 abbrev pub program : App
 program = with_subcommand
-    (with_subcommand (with_subcommand (with_subcommand (with_subcommand (with_subcommand (with_subcommand above check.top) recording.top) hunting.top) replaying.top) viewing.top) tracing.top) gather.top
+    (with_subcommand (with_subcommand (with_subcommand (with_subcommand (with_subcommand (with_subcommand (with_subcommand above check.top) recording.top) hunting.top) replaying.top) viewing.top) tracing.top) gather.top) chart.top

@@ -1,10 +1,10 @@
 -- The arguments of commands, as the rows of tables name them.
 use Rattle.std.specs.Prelude.{List, [], ◌∷◌, codes}
 use Rattle.clap.specs.Words.{App, Rule, Text, with_rule, with_subcommand}
-use Rattle.command_words.specs.Commands.{check, recording, hunting, replaying, viewing, tracing, gather, file_rule, option_rule, default_rule, repeated_rule, flag_rule}
+use Rattle.command_words.specs.Commands.{check, recording, hunting, replaying, viewing, tracing, gather, chart, file_rule, option_rule, default_rule, repeated_rule, flag_rule}
 use Rattle.command_words.specs.declared.rows.ArgumentRow.{ArgumentRow}
 use Rattle.command_words.specs.declared.rows.Subcommand.{Subcommand}
-use Rattle.command_words.specs.declared.rows.Subcommand.TheVariants.{Check, Record, Hunt, Replay, View, Trace, Gather}
+use Rattle.command_words.specs.declared.rows.Subcommand.TheVariants.{Check, Record, Hunt, Replay, View, Trace, Gather, Chart}
 use Rattle.command_words.specs.declared.rows.Takes.{Takes}
 use Rattle.command_words.specs.declared.rows.Takes.TheVariants as takes
 
@@ -31,6 +31,7 @@ name_for Replay = codes "replay"
 name_for View = codes "view"
 name_for Trace = codes "trace"
 name_for Gather = codes "gather"
+name_for Chart = codes "chart"
 
 abbrev pub app_for : Subcommand → App
 app_for Check = check
@@ -40,6 +41,7 @@ app_for Replay = replaying
 app_for View = viewing
 app_for Trace = tracing
 app_for Gather = gather
+app_for Chart = chart
 
 -- a program with these commands behind its own
 abbrev pub with_commands : App → List Subcommand → App

@@ -9,9 +9,9 @@ A recorder logs, for each access of shared memory, only which version of each
 object it met, and writes the log in pieces: lines of hexadecimal digits. The
 pieces of one run may come from several machines, in any order, with repeats,
 and some may be lost. `wreplay gather` joins them into the one log that they
-claim, `wreplay replay` makes the run again, `wreplay view` stops it where a
-thread has come so far, or where a byte is written, and `wreplay trace` writes
-a line for each access.";
+claim, and `wreplay chart` draws that. `wreplay replay` makes the run again,
+`wreplay view` stops it where a thread has come so far, or where a byte is
+written, and `wreplay trace` writes a line for each access.";
 
 /// How the program ends.
 pub(crate) const STATUSES: &str = "\
@@ -102,6 +102,39 @@ Refusals (exit status 1):
 Example:
   wreplay gather < examples/pieces.txt
   wreplay gather --by-object --shared < examples/lost.pieces";
+
+/// What `chart` reads and writes.
+pub(crate) const CHART_ABOUT: &str = "\
+Reads piece lines from standard input, as `wreplay gather` does, and writes a
+picture of their joined log to standard output, as SVG, which browsers show: a
+column for each thread, and downwards its accesses, one in each line, in an
+order that the versions allow. At each access stands what the log says of it, as
+in
+
+  1.12 write 33@6        place 12 of thread 1: the write that made version 6
+                         of object 33
+  0.11 read 33@5         a read of version 5
+
+A full dot is a write, an empty one reads alone. An arrow leads from a write to
+each access of another thread that read the version it made, or wrote over it. A
+write is red, with the word `unread`, where its thread had neither read nor made
+the version that it wrote over, but for version 0, which no thread made.
+
+Accesses that no order allows, since entries are missing or contradict each
+other, are counted at the bottom. --from and --to leave out what stands above
+the line of an access, or below it; --only leaves out accesses that touch none
+of these objects.";
+
+/// How `chart` refuses.
+pub(crate) const CHART_REFUSALS: &str = "\
+Refusals (exit status 1):
+  refused 41 to 44         the piece lines, as `wreplay gather` refuses them
+  refused 42 NoMemory      the log or its picture does not fit into memory
+  refused 45 SinkFailed    writing failed; a beginning of the picture was
+                           written
+
+Example:
+  wreplay chart < examples/lost.pieces > lost.svg";
 
 /// What `check` reads and writes.
 pub(crate) const CHECK_ABOUT: &str = "\

@@ -132,19 +132,32 @@ pub struct TraceRequest<'a> {
     pub offsets: bool,
 }
 
-/// What is listed of a log.
+/// What is written of a log.
 #[derive(Drop)]
 pub enum GatherForm {
     /// What each thread did, whether with the bytes that each object is, and whether with what contradicts itself.
-    ByThread { objects: bool, contradictions: bool },
+    ByThread {
+        objects: bool,
+        contradictions: bool,
+    },
     /// The versions of objects: of these alone, where any is named, and perhaps of those alone that threads share.
-    ByObject { only: Vec<u32>, shared: bool },
+    ByObject {
+        only: Vec<u32>,
+        shared: bool,
+    },
+    /// A picture of its accesses: of those that touch one of these objects, where any is named, from the event of a
+    /// thread at a place on, and up to one.
+    Chart {
+        only: Vec<u32>,
+        from: Option<ThreadCount>,
+        to: Option<ThreadCount>,
+    },
 }
 
 /// What a command line asks for.
 #[derive(Drop)]
 pub enum Request<'a> {
-    /// A listing of piece lines, and whether those that cannot be joined are passed over.
+    /// What is written of the log of piece lines, and whether those that cannot be joined are passed over.
     Gather {
         skips: bool,
         form: GatherForm,

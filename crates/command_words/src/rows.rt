@@ -16,6 +16,7 @@ pub(crate) enum Subcommand {
     View,
     Trace,
     Gather,
+    Chart,
 }
 
 /// The commands, in the order of the help.
@@ -27,6 +28,7 @@ pub(crate) static SUBCOMMANDS: &[Subcommand] = &[
     Subcommand::View,
     Subcommand::Trace,
     Subcommand::Gather,
+    Subcommand::Chart,
 ];
 
 /// What an argument is, and what it takes.
@@ -295,13 +297,15 @@ static OF_TRACE: &[ArgumentRow] = &[
     WHY,
 ];
 
+const SKIP: ArgumentRow = ArgumentRow {
+    name: "skip",
+    takes: Takes::Nothing,
+    help: "Pass over lines that cannot be joined, and count them",
+};
+
 /// The arguments of `gather`.
 static OF_GATHER: &[ArgumentRow] = &[
-    ArgumentRow {
-        name: "skip",
-        takes: Takes::Nothing,
-        help: "Pass over lines that cannot be joined, and count them",
-    },
+    SKIP,
     ArgumentRow {
         name: "objects",
         takes: Takes::Nothing,
@@ -330,6 +334,27 @@ static OF_GATHER: &[ArgumentRow] = &[
     WHY,
 ];
 
+/// The arguments of `chart`.
+static OF_CHART: &[ArgumentRow] = &[
+    SKIP,
+    ArgumentRow {
+        name: "only",
+        takes: Takes::Value("LIST"),
+        help: "Draw accesses of these objects alone, as 0,3",
+    },
+    ArgumentRow {
+        name: "from",
+        takes: Takes::Value("T.P"),
+        help: "Draw from the access at place P of thread T on",
+    },
+    ArgumentRow {
+        name: "to",
+        takes: Takes::Value("T.P"),
+        help: "Draw up to the access at place P of thread T",
+    },
+    WHY,
+];
+
 impl Subcommand {
     /// What it is called.
     pub(crate) fn name<'a>(self) -> &'a str
@@ -343,6 +368,7 @@ impl Subcommand {
             Subcommand::View => "view",
             Subcommand::Trace => "trace",
             Subcommand::Gather => "gather",
+            Subcommand::Chart => "chart",
         }
     }
 
@@ -358,6 +384,7 @@ impl Subcommand {
             Subcommand::View => "Stop a replay where it matters, and show it",
             Subcommand::Trace => "Replay a run, and write a line for each access",
             Subcommand::Gather => "Join piece lines into one log, and list it",
+            Subcommand::Chart => "Join piece lines into one log, and draw its accesses",
         }
     }
 
@@ -371,6 +398,7 @@ impl Subcommand {
             Subcommand::View => help::VIEW_ABOUT,
             Subcommand::Trace => help::TRACE_ABOUT,
             Subcommand::Gather => help::GATHER_ABOUT,
+            Subcommand::Chart => help::CHART_ABOUT,
         }
     }
 
@@ -384,6 +412,7 @@ impl Subcommand {
             Subcommand::View => help::VIEW_REFUSALS,
             Subcommand::Trace => help::TRACE_REFUSALS,
             Subcommand::Gather => help::GATHER_REFUSALS,
+            Subcommand::Chart => help::CHART_REFUSALS,
         }
     }
 
@@ -399,6 +428,7 @@ impl Subcommand {
             Subcommand::View => OF_VIEW,
             Subcommand::Trace => OF_TRACE,
             Subcommand::Gather => OF_GATHER,
+            Subcommand::Chart => OF_CHART,
         }
     }
 }

@@ -4,8 +4,9 @@ ghost use Rattle.std.specs.Prelude.{◌≡◌, ℕ, Bool, Option, codes, map, So
 ghost use Rattle.clap.specs.Words.{Row, rows_of, first_of};
 ghost use Rattle.clap.specs.Matches.{found_of};
 ghost use Rattle.command_words.specs.Words.{pair_in};
-ghost use Rattle.command_words.specs.Asked.{IsAsked, AreSizesAsked, IsByThreadsAsked, IsFormAsked, IsOrderAsked, IsRecordAsked, IsHuntAsked, IsRangeOfRuns, IsJobsAsked, IsReplayAsked, IsTurnsAsked, IsViewAsked, IsTraceAsked, IsCountAsked, IsRangeAsked, IsGatherAsked, IsBlockOf, order_of, is_text, number_of, pair_of_option, ranges_of, texts_of};
+ghost use Rattle.command_words.specs.Asked.{IsAsked, AreSizesAsked, IsByThreadsAsked, IsFormAsked, IsOrderAsked, IsRecordAsked, IsHuntAsked, IsRangeOfRuns, IsJobsAsked, IsReplayAsked, IsTurnsAsked, IsViewAsked, IsTraceAsked, IsCountAsked, IsRangeAsked, IsGatherAsked, IsBlockOf, has_flag, order_of, is_text, number_of, pair_of_option, ranges_of, texts_of};
 ghost use Rattle.command_words.specs.declared.requests.Request.{Request};
+ghost use Rattle.command_words.specs.declared.requests.Request.TheVariants as requests;
 ghost use Rattle.command_words.specs.declared.requests.RecordOrder.{RecordOrder};
 ghost use Rattle.command_words.specs.declared.requests.RecordRequest.{RecordRequest};
 ghost use Rattle.command_words.specs.declared.requests.GatherForm.{GatherForm};
@@ -570,8 +571,8 @@ fn trace_of<'a>(
 
 /// What the values of `gather` say that is listed.
 fn form_of(alloc: Global, matches: &ArgMatches<'_>) -> Result<Wanted<GatherForm>, NoMemory>
-    ensures asked { IfOk result (λ wanted. IfOk wanted (IsGatherAsked (rows_of (found_of matches.now)))) }
-    ensures none { IfOk result (λ wanted. OnErr wanted ((f : GatherForm) → IsGatherAsked (rows_of (found_of matches.now)) f → ⊥)) }
+    ensures asked { IfOk result (λ wanted. IfOk wanted (IsGatherAsked (codes "gather") (rows_of (found_of matches.now)))) }
+    ensures none { IfOk result (λ wanted. OnErr wanted ((f : GatherForm) → IsGatherAsked (codes "gather") (rows_of (found_of matches.now)) f → ⊥)) }
 {
     let objects = has_text(matches, "objects", "true");
     let contradictions = has_text(matches, "contradictions", "true");
@@ -594,6 +595,31 @@ fn form_of(alloc: Global, matches: &ArgMatches<'_>) -> Result<Wanted<GatherForm>
     }))
 }
 
+/// What the values of `chart` say that is drawn.
+fn chart_of(alloc: Global, matches: &ArgMatches<'_>) -> Result<Wanted<GatherForm>, NoMemory>
+    ensures asked { IfOk result (λ wanted. IfOk wanted (IsGatherAsked (codes "chart") (rows_of (found_of matches.now)))) }
+    ensures none { IfOk result (λ wanted. OnErr wanted ((f : GatherForm) → IsGatherAsked (codes "chart") (rows_of (found_of matches.now)) f → ⊥)) }
+{
+    let Some(only) = number_list(alloc, matches, "only")? else {
+        return Ok(Err(BAD_OBJECTS));
+    };
+    let Some(from) = thread_count(matches, "from") else {
+        return Ok(Err(BAD_FIRST_EVENT));
+    };
+    let Some(to) = thread_count(matches, "to") else {
+        return Ok(Err(BAD_LAST_EVENT));
+    };
+    Ok(Ok(GatherForm::Chart { only, from, to }))
+}
+
+/// A log in that form, past lines that cannot be joined where the values ask for it.
+fn gather_of<'a>(matches: &ArgMatches<'_>, form: GatherForm) -> Request<'a>
+    ensures { result ≡ requests.Gather (has_flag (codes "skip") (rows_of (found_of matches.now))) form }
+{
+    let skips = has_text(matches, "skip", "true");
+    Request::Gather { skips, form }
+}
+
 /// What a command of that name with these values asks for.
 pub(crate) fn request_of<'a>(
     alloc: Global,
@@ -605,10 +631,7 @@ pub(crate) fn request_of<'a>(
 {
     match name {
         "gather" => match form_of(alloc, matches)? {
-            Ok(form) => {
-                let skips = has_text(matches, "skip", "true");
-                Ok(Ok(Request::Gather { skips, form }))
-            }
+            Ok(form) => Ok(Ok(gather_of(matches, form))),
             Err(wrong) => Ok(Err(wrong)),
         },
         "check" => match value(matches, "MODULE") {
@@ -640,6 +663,10 @@ pub(crate) fn request_of<'a>(
         },
         "trace" => match trace_of(alloc, matches)? {
             Ok(trace) => Ok(Ok(Request::Trace(trace))),
+            Err(wrong) => Ok(Err(wrong)),
+        },
+        "chart" => match chart_of(alloc, matches)? {
+            Ok(form) => Ok(Ok(gather_of(matches, form))),
             Err(wrong) => Ok(Err(wrong)),
         },
         _ => Ok(Err(NO_COMMAND)),

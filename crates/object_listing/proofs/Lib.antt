@@ -9,3 +9,9 @@ pub mod Shared
 pub mod Steps
 pub mod Listed
 pub mod Put
+pub mod Puts
+pub mod CountLaws
+pub mod MetLaws
+pub mod PassageLaws
+pub mod DrawnLaws
+pub mod Charted

@@ -1,5 +1,5 @@
 -- The listing of what was found.
-use Rattle.std.proofs.Common.{◌≡◌, List, [], ◌∷◌, ℕ, sym, subst, ◌∙◌}
+use Rattle.std.proofs.Common.{◌≡◌, List, [], ◌∷◌, ℕ, sym, ◌∙◌}
 use Rattle.std.specs.Prelude.{Option, Some, None}
 use Rattle.log_pieces.specs.Piece.{PieceValue}
 use Rattle.replica.specs.declared.replica.Replica.{Replica}

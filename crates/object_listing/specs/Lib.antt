@@ -5,3 +5,11 @@ pub mod Versions
 pub mod Chosen
 pub mod Order
 pub mod Example
+pub mod Counted
+pub mod Passage
+pub mod Kept
+pub mod Lines
+pub mod Met
+pub mod Drawing
+pub mod Chart
+pub mod ChartExample

@@ -1,6 +1,6 @@
 //! Which objects are listed.
 
-ghost use Rattle.std.specs.Prelude.{◌≡◌, ◌==◌, ℕ, IfOk};
+ghost use Rattle.std.specs.Prelude.{◌≡◌, ◌==◌, ℕ, length, IfOk};
 ghost use Rattle.std.specs.List.{list_any};
 ghost use Rattle.std.specs.BTreeSet.{contains};
 ghost use Rattle.std.specs.Ordering.{nat_cmp};
@@ -74,10 +74,17 @@ impl<'a> ChosenObjects<'a> {
     }
 
     /// Whether no object is named, or this one is.
-    fn is_named(&self, object: u32) -> bool
+    pub(crate) fn is_named(&self, object: u32) -> bool
         ensures { result ≡ is_named self.now.only object }
     {
         self.choice.only.is_empty() || self.named.contains(&object)
+    }
+
+    /// Whether no object is named.
+    pub(crate) fn is_unnamed(&self) -> bool
+        ensures { result ≡ (length self.now.only == 0) }
+    {
+        self.choice.only.is_empty()
     }
 
     /// Whether an object is listed, of which these are the touches.

@@ -15,7 +15,7 @@ use wasm_types::MOST_THREADS;
 
 impl ObjectTouch {
     /// What a touch found, by the event at a place of a thread.
-    fn of(found: Found, thread: ThreadNumber, place: u32) -> ObjectTouch
+    pub(crate) fn of(found: Found, thread: ThreadNumber, place: u32) -> ObjectTouch
         ensures { result ≡ touch_of thread place found }
     {
         match found {

@@ -9,6 +9,7 @@ use Rattle.command_words.specs.Commands.{program}
 use Rattle.command_words.specs.Asked.{Asks, IsFoundBy, asks_why}
 use Rattle.command_words.specs.declared.requests.Request.{Request}
 use Rattle.command_words.specs.declared.requests.Request.TheVariants as request
+use Rattle.command_words.specs.declared.requests.GatherForm.TheVariants as forms
 use Rattle.replica.specs.declared.skipping.Skipped.{Skipped}
 use Rattle.commands.specs.declared.memory.MemoryFile.{MemoryFile}
 use Rattle.commands.specs.Memory.{HoldsBytes, Fails, file_at}
@@ -43,7 +44,9 @@ module _ (files : List MemoryFile) where
     by_request said told (Some p) path h (request.Check other) k text done =
         let same : other.now ≡ path.now = ap text_of (sym k.1 ∙ h.1) in
         subst (λ (l : List ℕ). HasValidModule files l) same (valid other.now text done.0)
-    by_request said told (Some p) path h (request.Gather skips form) k text done = absurd (another p.0 (codes "gather") h.0 k.0 refl)
+    by_request said told (Some p) path h (request.Gather skips (forms.ByThread objects contradictions)) k text done = absurd (another p.0 (codes "gather") h.0 k.1.0 refl)
+    by_request said told (Some p) path h (request.Gather skips (forms.ByObject only shared)) k text done = absurd (another p.0 (codes "gather") h.0 k.1.0 refl)
+    by_request said told (Some p) path h (request.Gather skips (forms.Chart only from to)) k text done = absurd (another p.0 (codes "chart") h.0 k.1.0 refl)
     by_request said told (Some p) path h (request.Record r) k text done = absurd (another p.0 (codes "record") h.0 k.0 refl)
     by_request said told (Some p) path h (request.Hunt r) k text done = absurd (another p.0 (codes "hunt") h.0 k.0 refl)
     by_request said told (Some p) path h (request.Replay r by_threads) k text done = absurd (another p.0 (codes "replay") h.0 k.0 refl)

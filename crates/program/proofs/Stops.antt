@@ -16,7 +16,7 @@ use Rattle.replica.specs.declared.skipping.Skipped.{Skipped}
 use Rattle.command_words.specs.declared.requests.Request.TheVariants as request
 use Rattle.commands.specs.declared.fault.Fault.{Fault}
 use Rattle.commands.specs.declared.fault.Fault.TheVariants.{SinkFailed}
-use Rattle.program.specs.Answers.{IsGatheredText, IsNotGathered, IsTextStopped, IsShown, IsSaid, IsDone, IsStopped}
+use Rattle.program.specs.Answers.{IsInForm, IsGatheredText, IsNotGathered, IsTextStopped, IsShown, IsSaid, IsDone, IsStopped}
 
 -- what the words ask for, where that is a request
 pub as_requested : (words : List Text) (found : Asked) (r : Request) (why : Bool) → found ≡ asked.Request r why → IsRequested words found → Asks words r × (why ≡ asks_why words)
@@ -45,17 +45,17 @@ module _ (holds : List ℕ → List ℕ → Type 0) (fails brought : List ℕ �
 
   -- so is a listing, of which nothing is said but the numbers of lines that are passed over
   pub gathered_done : (asked : Request) (skips : Bool) (form : GatherForm) (counted : Skipped → Type 0) (said told : List ℕ → Type 0) (unsaid : Type 0) {T : Type 0} (result : Result T Fault) → asked ≡ request.Gather skips form
-      → (unsaid → said []) → OnOk result (IsShown took (IsGatheredText brought ended counted unsaid skips form)) → OnOk result (IsShown took (IsDone holds fails brought ended broke counted said told asked))
+      → (unsaid → said []) → OnOk result (IsShown took (IsGatheredText brought ended counted unsaid skips (IsInForm form))) → OnOk result (IsShown took (IsDone holds fails brought ended broke counted said told asked))
   gathered_done asked skips form counted said told unsaid (Ok x) is none done =
       subst (λ (q : Request). IsShown took (IsDone holds fails brought ended broke counted said told q)) (sym is) (done.0, told_of skips done.1, done.2)
     where
-      told_of : (b : Bool) → IsGatheredText brought ended counted unsaid b form done.0 → IsGatheredText brought ended counted (said []) b form done.0
+      told_of : (b : Bool) → IsGatheredText brought ended counted unsaid b (IsInForm form) done.0 → IsGatheredText brought ended counted (said []) b (IsInForm form) done.0
       told_of false h = (h.0, none h.1)
       told_of true h = h
   gathered_done asked skips form counted said told unsaid (Err fault) is none done = tt
 
   pub gathered_stops : (asked : Request) (skips : Bool) (form : GatherForm) {T : Type 0} (result : Result T Fault) → asked ≡ request.Gather skips form
-      → IfErr result (IsTextStopped (IsNotGathered brought ended broke skips) (IsGatheredText brought ended (λ skipped. Unit {0}) (Unit {0}) skips form) took unwritten unwritable)
+      → IfErr result (IsTextStopped (IsNotGathered brought ended broke skips) (IsGatheredText brought ended (λ skipped. Unit {0}) (Unit {0}) skips (IsInForm form)) took unwritten unwritable)
       → IfErr result (IsStopped holds fails brought ended broke took unwritten unwritable asked)
   gathered_stops asked skips form (Ok x) is stopped = tt
   gathered_stops asked skips form (Err fault) is stopped = subst (λ (q : Request). IsStopped holds fails brought ended broke took unwritten unwritable q fault) (sym is) stopped

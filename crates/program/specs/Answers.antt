@@ -1,5 +1,5 @@
 -- What the program answers.
-use Rattle.std.specs.Prelude.{◌≡◌, ◌≤◌, ◌⊎◌, ℕ, List, [], ◌∷◌, ◌++◌, ◌==◌, Bool, Option, Some, None, true, false, codes, cond, map, nat_le}
+use Rattle.std.specs.Prelude.{◌≡◌, ◌≤◌, ◌⊎◌, ℕ, List, [], ◌∷◌, ◌++◌, ◌==◌, Bool, Option, Some, None, true, false, codes, cond, map, nat_le, option_map}
 use Rattle.std.specs.Fmt.{decimal}
 use Rattle.clap.specs.Words.{Text}
 use Rattle.text_lines.specs.Quotes.{quoted}
@@ -8,6 +8,7 @@ use Rattle.log_pieces.specs.Piece.{PieceValue}
 use Rattle.replica.specs.Gathered.{IsText, IsListing, IsBadLine, IsOtherRun, IsCutText}
 use Rattle.replica.specs.Judged.{AreJudged, IsSkipped}
 use Rattle.replica.specs.declared.form.ListingForm.{ListingForm}
+use Rattle.replica.specs.declared.diverging.EventAt.{EventAt}
 use Rattle.replica.specs.declared.skipping.Skipped.{Skipped}
 use Rattle.replica.specs.declared.fault.GatherFault.{GatherFault}
 use Rattle.replica.specs.declared.fault.GatherFault.TheVariants as gathering
@@ -16,7 +17,9 @@ use Rattle.command_words.specs.declared.requests.GatherForm.{GatherForm}
 use Rattle.command_words.specs.declared.requests.GatherForm.TheVariants as form
 use Rattle.command_words.specs.declared.requests.Request.{Request}
 use Rattle.command_words.specs.declared.requests.Request.TheVariants as request
+use Rattle.command_words.specs.declared.requests.ThreadCount.{ThreadCount}
 use Rattle.object_listing.specs.Chosen.{IsObjectListing}
+use Rattle.object_listing.specs.Chart.{IsChart}
 use Rattle.commands.specs.Texts.{fault_text}
 use Rattle.explanations.specs.Explained.{IsExplanation}
 use Rattle.commands.specs.Checks.{IsChecked, IsCheckRefused}
@@ -37,10 +40,15 @@ fault_of fault = Gather fault
 abbrev pub form_of : Bool → Bool → ListingForm
 form_of objects contradictions = record { objects = objects; contradictions = contradictions }
 
--- the text is the listing of the log of these pieces in that form, by threads or by objects
+-- the event at a place of a thread
+abbrev pub event_of : ThreadCount → EventAt
+event_of c = record { thread = c.thread; place = c.count }
+
+-- the text is the log of these pieces in that form: a listing by threads or by objects, or a picture
 abbrev pub IsInForm : GatherForm → List PieceValue → List ℕ → Type 0
 IsInForm (form.ByThread objects contradictions) = IsListing (form_of objects contradictions)
 IsInForm (form.ByObject only shared) = IsObjectListing (record { only = only.items; shared = shared })
+IsInForm (form.Chart only from to) = IsChart (record { only = only.items; from = option_map event_of from; to = option_map event_of to })
 
 module _ {Sink : Type 0} (takes : List ℕ → Sink → Type 0) where
   -- a beginning of the text was taken
@@ -86,11 +94,11 @@ IsSkippingRefused broke _ = ⊥
 
 -- What the source brought, and whether it ended.
 module _ (brought : List ℕ → Type 0) (ended : Type 0) where
-  -- the text of a listing of what came, or of the lines that can be joined; `counted` says that the numbers of lines
+  -- the text of the log of what came, or of the lines that can be joined; `counted` says that the numbers of lines
   -- passed over were told, and `said` that nothing was
-  abbrev pub IsGatheredText : (Skipped → Type 0) → Type 0 → Bool → GatherForm → List ℕ → Type 0
-  IsGatheredText counted said false form text = IsListed (IsInForm form) brought ended text × said
-  IsGatheredText counted said true form text = IsListedSkipping (IsInForm form) brought ended counted text
+  abbrev pub IsGatheredText : (Skipped → Type 0) → Type 0 → Bool → (List PieceValue → List ℕ → Type 0) → List ℕ → Type 0
+  IsGatheredText counted said false is_of text = IsListed is_of brought ended text × said
+  IsGatheredText counted said true is_of text = IsListedSkipping is_of brought ended counted text
 
   -- when each fault is answered
   abbrev pub IsNotGathered : Type 0 → Bool → Fault → Type 0
@@ -146,7 +154,7 @@ module _ (holds : List ℕ → List ℕ → Type 0) (fails : List ℕ → Type 0
   -- the text of a command that is done; `counted` says that the numbers of lines passed over were told, `said` that a
   -- recording's line of the threads that stopped was, or nothing, and `told` that which run is caught was
   abbrev pub IsDone : (Skipped → Type 0) → (List ℕ → Type 0) → (List ℕ → Type 0) → Request → List ℕ → Type 0
-  IsDone counted said told (request.Gather skips form) text = IsGatheredText brought ended counted (said []) skips form text
+  IsDone counted said told (request.Gather skips form) text = IsGatheredText brought ended counted (said []) skips (IsInForm form) text
   IsDone counted said told (request.Check path) text = IsChecked (holds path.now) text × said []
   IsDone counted said told (request.Record r) text = (answer : AnswerAt) × IsRecordAnswer holds r answer × (text ≡ answer.text) × said answer.told
   IsDone counted said told (request.Hunt r) text = (answer : AnswerAt) × IsHuntAnswer holds r answer × (text ≡ answer.text) × told answer.told

@@ -1,22 +1,18 @@
-//! Listings of the piece lines that a source brings.
+//! What is written of the log of the piece lines that a source brings.
 
-ghost use Rattle.std.specs.Prelude.{◌≡◌, ◌<◌, ◌-◌, ◌^◌, ◌⊎◌, ◌++◌, ◌+◌, [], ◌∷◌, OnOk, OnErr, IfOk, IfErr};
+ghost use Rattle.std.specs.Prelude.{◌≡◌, ◌<◌, ◌-◌, ◌^◌, ◌⊎◌, ◌++◌, ◌+◌, [], ◌∷◌, OnOk, OnErr, IfErr, option_map};
 ghost use Rattle.std.specs.String.{string_bytes};
 ghost use Rattle.commands.specs.Texts.{skipped_text};
 ghost use Rattle.replica.specs.Gathered.{IsListing};
-ghost use Rattle.object_listing.specs.Chosen.{IsObjectListing, asked_of};
-ghost use Rattle.program.specs.Answers.{IsShown, IsListed, IsListedSkipping, IsGatheredText, IsGatherRefused, IsSkippingRefused, IsNotGathered, IsTextStopped, fault_of, form_of};
+ghost use Rattle.program.specs.Answers.{IsInForm, IsShown, IsListed, IsListedSkipping, IsGatheredText, IsGatherRefused, IsSkippingRefused, IsNotGathered, IsTextStopped, fault_of, form_of, event_of};
 
-use crate::showing::show;
+use crate::log_texts::{LogText, show_text};
 use byte_streams::{Sink, Source, write_all};
-use command_words::GatherForm;
+use command_words::{GatherForm, ThreadCount};
 use commands::{Fault, skipped_text};
-use object_listing::{Choice, listing_of};
-use replica::{
-    GatherFault, ListingForm, Skipped, collect, collect_skipping, gather, gather_skipping,
-};
+use object_listing::{ChartChoice, Choice};
+use replica::{EventAt, GatherFault, ListingForm, Skipped, gather, gather_skipping};
 use std::alloc::Global;
-use wasm_types::NoMemory;
 
 /// The program's fault where gathering is refused.
 fn fault_of(fault: GatherFault) -> Fault
@@ -29,7 +25,7 @@ fn fault_of(fault: GatherFault) -> Fault
 }
 
 /// Writes the line that tells how many lines were passed over. Where writing fails there is nobody to tell.
-fn tell_skipped<E: Sink>(errors: &mut E, skipped: &Skipped)
+pub(crate) fn tell_skipped<E: Sink>(errors: &mut E, skipped: &Skipped)
     requires { E.failed errors.old < 2 ^ 64 - 1 }
     ensures { (E.takes errors.old (skipped_text skipped.now ++ 10 ∷ []) errors.new) ⊎ (E.failed errors.new ≡ E.failed errors.old + 1) }
 {
@@ -45,6 +41,19 @@ fn form_of(objects: bool, contradictions: bool) -> ListingForm
     ListingForm {
         objects,
         contradictions,
+    }
+}
+
+/// The event at a place of a thread.
+fn event_of(at: Option<ThreadCount>) -> Option<EventAt>
+    ensures { result ≡ option_map event_of at }
+{
+    match at {
+        Some(at) => Some(EventAt {
+            thread: at.thread,
+            place: at.count,
+        }),
+        None => None,
     }
 }
 
@@ -94,64 +103,7 @@ fn list_threads_skipping<R: Source, W: Sink, E: Sink>(
     }
 }
 
-/// Lists what the source brings, by objects.
-fn list_objects<R: Source, W: Sink>(
-    alloc: Global,
-    source: &mut R,
-    output: &mut W,
-    choice: Choice<'_>,
-) -> Result<(), Fault>
-    requires source { R.failed source.old < 2 ^ 64 - 1 }
-    requires output { W.failed output.old < 2 ^ 64 - 1 }
-    ensures done { OnOk result (IsShown (λ text. W.takes output.old text output.new) (IsListed (IsObjectListing (asked_of choice.entry)) (λ text. R.brings source.old text source.new) (R.ended source.new))) }
-    ensures stopped { IfErr result (IsTextStopped (IsGatherRefused (λ text. R.brings source.old text source.new) (R.ended source.new) (R.failed source.new ≡ R.failed source.old + 1)) (IsListed (IsObjectListing (asked_of choice.entry)) (λ text. R.brings source.old text source.new) (R.ended source.new)) (λ text. W.takes output.old text output.new) (output.new ≡ output.old) (W.failed output.new ≡ W.failed output.old + 1)) }
-    ensures source_worked { OnOk result (R.failed source.new ≡ R.failed source.old) }
-    ensures output_worked { OnOk result (W.failed output.new ≡ W.failed output.old) }
-{
-    let replica = match collect(alloc, source) {
-        Ok(replica) => replica,
-        Err(fault) => return Err(Fault::Gather(fault)),
-    };
-    match listing_of(alloc, &replica, choice) {
-        Ok(text) => show(output, text.as_bytes()),
-        Err(NoMemory) => Err(Fault::Gather(GatherFault::NoMemory)),
-    }
-}
-
-/// The same of the lines that can be joined; the numbers of the others are told.
-fn list_objects_skipping<R: Source, W: Sink, E: Sink>(
-    alloc: Global,
-    source: &mut R,
-    output: &mut W,
-    errors: &mut E,
-    choice: Choice<'_>,
-) -> Result<(), Fault>
-    requires source { R.failed source.old < 2 ^ 64 - 1 }
-    requires output { W.failed output.old < 2 ^ 64 - 1 }
-    requires errors { E.failed errors.old < 2 ^ 64 - 1 }
-    ensures done { OnOk result (IsShown (λ text. W.takes output.old text output.new) (IsListedSkipping (IsObjectListing (asked_of choice.entry)) (λ text. R.brings source.old text source.new) (R.ended source.new) (λ skipped. (E.takes errors.old (skipped_text skipped ++ 10 ∷ []) errors.new) ⊎ (E.failed errors.new ≡ E.failed errors.old + 1)))) }
-    ensures stopped { IfErr result (IsTextStopped (IsSkippingRefused (R.failed source.new ≡ R.failed source.old + 1)) (IsListedSkipping (IsObjectListing (asked_of choice.entry)) (λ text. R.brings source.old text source.new) (R.ended source.new) (λ skipped. Unit {0})) (λ text. W.takes output.old text output.new) (output.new ≡ output.old) (W.failed output.new ≡ W.failed output.old + 1)) }
-    ensures untold { OnErr result (errors.new ≡ errors.old) }
-    ensures source_worked { OnOk result (R.failed source.new ≡ R.failed source.old) }
-    ensures output_worked { OnOk result (W.failed output.new ≡ W.failed output.old) }
-{
-    let kept = match collect_skipping(alloc, source) {
-        Ok(kept) => kept,
-        Err(fault) => return Err(Fault::Gather(fault)),
-    };
-    match listing_of(alloc, &kept.replica, choice) {
-        Ok(text) => match show(output, text.as_bytes()) {
-            Ok(()) => {
-                tell_skipped(errors, &kept.skipped);
-                Ok(())
-            }
-            Err(fault) => Err(fault),
-        },
-        Err(NoMemory) => Err(Fault::Gather(GatherFault::NoMemory)),
-    }
-}
-
-/// Lists what the source brings in that form, past lines that cannot be joined where it skips them.
+/// Writes the log of what the source brings in that form, past lines that cannot be joined where it skips them.
 pub(crate) fn list<R: Source, W: Sink, E: Sink>(
     alloc: Global,
     skips: bool,
@@ -163,8 +115,8 @@ pub(crate) fn list<R: Source, W: Sink, E: Sink>(
     requires source { R.failed source.old < 2 ^ 64 - 1 }
     requires output { W.failed output.old < 2 ^ 64 - 1 }
     requires errors { E.failed errors.old < 2 ^ 64 - 1 }
-    ensures done { OnOk result (IsShown (λ text. W.takes output.old text output.new) (IsGatheredText (λ text. R.brings source.old text source.new) (R.ended source.new) (λ skipped. (E.takes errors.old (skipped_text skipped ++ 10 ∷ []) errors.new) ⊎ (E.failed errors.new ≡ E.failed errors.old + 1)) (errors.new ≡ errors.old) skips form.now)) }
-    ensures stopped { IfErr result (IsTextStopped (IsNotGathered (λ text. R.brings source.old text source.new) (R.ended source.new) (R.failed source.new ≡ R.failed source.old + 1) skips) (IsGatheredText (λ text. R.brings source.old text source.new) (R.ended source.new) (λ skipped. Unit {0}) (Unit {0}) skips form.now) (λ text. W.takes output.old text output.new) (output.new ≡ output.old) (W.failed output.new ≡ W.failed output.old + 1)) }
+    ensures done { OnOk result (IsShown (λ text. W.takes output.old text output.new) (IsGatheredText (λ text. R.brings source.old text source.new) (R.ended source.new) (λ skipped. (E.takes errors.old (skipped_text skipped ++ 10 ∷ []) errors.new) ⊎ (E.failed errors.new ≡ E.failed errors.old + 1)) (errors.new ≡ errors.old) skips (IsInForm form.now))) }
+    ensures stopped { IfErr result (IsTextStopped (IsNotGathered (λ text. R.brings source.old text source.new) (R.ended source.new) (R.failed source.new ≡ R.failed source.old + 1) skips) (IsGatheredText (λ text. R.brings source.old text source.new) (R.ended source.new) (λ skipped. Unit {0}) (Unit {0}) skips (IsInForm form.now)) (λ text. W.takes output.old text output.new) (output.new ≡ output.old) (W.failed output.new ≡ W.failed output.old + 1)) }
     ensures untold { OnErr result (errors.new ≡ errors.old) }
     ensures source_worked { OnOk result (R.failed source.new ≡ R.failed source.old) }
     ensures output_worked { OnOk result (W.failed output.new ≡ W.failed output.old) }
@@ -186,11 +138,17 @@ pub(crate) fn list<R: Source, W: Sink, E: Sink>(
                 only: only.as_slice(),
                 shared: *shared,
             };
-            if skips {
-                list_objects_skipping(alloc, source, output, errors, choice)
-            } else {
-                list_objects(alloc, source, output, choice)
-            }
+            let kind = LogText::Objects(choice);
+            show_text(alloc, skips, kind, source, output, errors)
+        }
+        GatherForm::Chart { only, from, to } => {
+            let choice = ChartChoice {
+                only: only.as_slice(),
+                from: event_of(*from),
+                to: event_of(*to),
+            };
+            let kind = LogText::Chart(choice);
+            show_text(alloc, skips, kind, source, output, errors)
         }
     }
 }

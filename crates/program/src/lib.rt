@@ -7,6 +7,7 @@
 
 mod answering;
 mod gathering;
+mod log_texts;
 mod refusing;
 mod showing;
 

@@ -1,16 +1,24 @@
-use Rattle.std.proofs.Common.{ℕ, List, Bool, ap, sym, ◌∙◌}
-use Rattle.object_listing.specs.Chosen.{IsObjectListing}
-use Rattle.command_words.specs.declared.requests.GatherForm.{GatherForm}
-use Rattle.program.specs.Answers.{IsInForm}
-use Rattle.program.proofs.Listings.{form_stops, skipping_form_stops}
+use Rattle.program.proofs.Listings.{objects_form, chart_form, done_as, stopped_as}
 use Rattle.program.proofs.gathering.list.Goals as goal
 
-pub returns-then-skips-2-clause-stopped : goal.returns-then-skips-2-clause-stopped
-returns-then-skips-2-clause-stopped g c =
-    skipping_form_stops _ _ _ _ _ _ c.args.form.now _ (ap (λ (f : GatherForm). IsInForm f) c.in-ByObject.is ∙ ap (λ (l : List ℕ). IsObjectListing (record { only = l; shared = c.in-ByObject.shared })) (sym c.as_slice.ensures.value)) c.args.skips c.list_objects_skipping.result
-    c.if-skips-2.true c.list_objects_skipping.ensures.stopped
+pub returns-in-ByObject-clause-done : goal.returns-in-ByObject-clause-done
+returns-in-ByObject-clause-done g c =
+    done_as _ _ (Unit {0}) _ c.args.skips c.show_text.result _ _ (objects_form c.args.form.now c.in-ByObject.only c.in-ByObject.shared c.as_slice.result.now c.in-ByObject.is c.as_slice.ensures.value)
+    _ _ c.show_text.ensures.done
 
-pub returns-else-skips-2-clause-stopped : goal.returns-else-skips-2-clause-stopped
-returns-else-skips-2-clause-stopped g c =
-    form_stops _ _ _ _ _ _ c.args.form.now _ (ap (λ (f : GatherForm). IsInForm f) c.in-ByObject.is ∙ ap (λ (l : List ℕ). IsObjectListing (record { only = l; shared = c.in-ByObject.shared })) (sym c.as_slice.ensures.value)) c.args.skips c.list_objects.result
-    c.if-skips-2.false c.list_objects.ensures.stopped
+pub returns-in-ByObject-clause-stopped : goal.returns-in-ByObject-clause-stopped
+returns-in-ByObject-clause-stopped g c =
+    stopped_as _ _ _ _ c.args.skips c.show_text.result _ _ (objects_form c.args.form.now c.in-ByObject.only c.in-ByObject.shared c.as_slice.result.now c.in-ByObject.is c.as_slice.ensures.value)
+    _ _ c.show_text.ensures.stopped
+
+pub returns-in-Chart-clause-done : goal.returns-in-Chart-clause-done
+returns-in-Chart-clause-done g c =
+    done_as _ _ (Unit {0}) _ c.args.skips c.show_text-in-Chart.result _ _
+    (chart_form c.args.form.now c.in-Chart.only c.in-Chart.from c.in-Chart.to c.as_slice-in-Chart.result.now c.event_of.result c.event_of-in-Chart.result c.in-Chart.is c.as_slice-in-Chart.ensures.value c.event_of.ensures c.event_of-in-Chart.ensures)
+    _ _ c.show_text-in-Chart.ensures.done
+
+pub returns-in-Chart-clause-stopped : goal.returns-in-Chart-clause-stopped
+returns-in-Chart-clause-stopped g c =
+    stopped_as _ _ _ _ c.args.skips c.show_text-in-Chart.result _ _
+    (chart_form c.args.form.now c.in-Chart.only c.in-Chart.from c.in-Chart.to c.as_slice-in-Chart.result.now c.event_of.result c.event_of-in-Chart.result c.in-Chart.is c.as_slice-in-Chart.ensures.value c.event_of.ensures c.event_of-in-Chart.ensures)
+    _ _ c.show_text-in-Chart.ensures.stopped
