@@ -8,9 +8,10 @@ and ask for its length, at few addresses near one another and near the memory's 
 writes the lines of its replay by a random order. For each line the script asks `wreplay view --names` for the world behind that event:
 its thread has made one event more there, and the number that the line has last is what the bytes of the view have at its address; the
 number before it is the one that the lines before left there. Places of each thread rise by one, up to its last. The lines that --only,
---from and --to leave are those lines of the whole trace. Without a number 2,000 recordings are made; it ends with status 1 where one
-differs.
+--from and --to leave are those lines of the whole trace, and --offsets puts behind each instruction where the model laid it. Without a
+number 2,000 recordings are made; it ends with status 1 where one differs.
 """
+
 import os
 import random
 import subprocess
@@ -63,7 +64,7 @@ class Recording:
     def __init__(self, program, folder, seed):
         self.program, self.draw = program, random.Random(seed)
         count = self.draw.randint(2, 4)
-        module = Module([(f"f{n}", [], None, function(self.draw)) for n in range(count)], (1, 3, True))
+        self.module = module = Module([(f"f{n}", [], None, function(self.draw)) for n in range(count)], (1, 3, True))
         self.files = [os.path.join(folder, name) for name in ("module.wasm", "plan", "pieces")]
         plan = "wreplay plan 1\n" + "".join(f"thread f{self.draw.randrange(count)}\n" for _ in range(count))
         for path, content in zip(self.files, (module.bytes, plan.encode())):
@@ -114,7 +115,16 @@ class Recording:
         ends = {line.split(" ")[1]: line.split(" ")[5] for line in lines[count + 1 :] if line.startswith("thread ")}
         if any(int(places) != made.get(int(thread), 0) for thread, places in ends.items()):
             return "places of the ends differ"
-        return self.choice_differs(lines, count)
+        return self.choice_differs(lines, count) or self.offsets_differ(lines[:count])
+
+    def offsets_differ(self, lines):
+        """Behind each instruction stands its offset, as the model lays the module out."""
+        wanted = []
+        for line in lines:
+            at, place, done = line.split(" ", 2)
+            function, instruction = map(int, place.split("+"))
+            wanted.append(f"{at} {place} {self.module.offsets[function][instruction]:#x} {done}")
+        return None if self.ask("trace", "--offsets").splitlines()[: len(lines)] == wanted else "--offsets differ"
 
     def event_differs(self, event, thread, place, memory, pages):
         word = event[2]
