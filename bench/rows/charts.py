@@ -69,6 +69,7 @@ def chart(listing, only=(), since=None, to=None):
     for thread in range(columns):
         out += '<line x1="%d" y1="30" x2="%d" y2="%d" stroke="lightgray"/>\n<text x="%d" y="20">thread %d</text>\n' % (x(thread), x(thread), y(len(drawn)), x(thread), thread)
     out += arrows + dots
+    if not drawn: out += '<text x="20" y="54">no accesses</text>\n'
     more = len(known) - len(rows)
     if more: out += '<text x="10" y="%d" fill="gray">%d more accesses: what they met is not known</text>\n' % (y(len(drawn)) + 24, more)
     return out + '</svg>\n'

@@ -109,6 +109,10 @@ line_text n line = dot_text (record { thread = line.thread; line = n }) line.mar
 
 -- ---- the picture
 
+-- that no line is drawn, where none is
+abbrev pub none_text : ℕ → List ℕ
+none_text lines = if lines == 0 then codes "<text x=\"20\" y=\"54\">no accesses</text>\n" else []
+
 -- how many known accesses have no row, if there are some
 abbrev pub more_words : ℕ → ℕ → List ℕ
 more_words lines more =
@@ -136,7 +140,7 @@ drawn_text lines =
 
 -- the picture of lines, behind which so many known accesses have no row
 abbrev pub drawing : List LineValue → ℕ → List ℕ
-drawing lines more = drawn_text lines ++ (more_text (length lines) more ++ codes "</svg>\n")
+drawing lines more = drawn_text lines ++ (none_text (length lines) ++ (more_text (length lines) more ++ codes "</svg>\n"))
 
 -- the picture where no piece came
 abbrev pub no_pieces : List ℕ

@@ -3,7 +3,7 @@
 ghost use Rattle.std.specs.Prelude.{◌≡◌, ◌≤◌, ◌^◌, ◌++◌, true, IfOk, OnOk};
 ghost use Rattle.std.specs.String.{string_bytes};
 ghost use Rattle.std.specs.List.{flat_map, list_any};
-ghost use Rattle.object_listing.specs.Drawing.{numbered, attribute, column_of, height_of, thread_line, thread_head, column_text, columns_text, columns_of, point_text, arrow_text, arrow_to, arrows_text, dot_of, has_unread, has_write, dot_text, touch_word, unread_word, mark_text, separator, marks_text, access_text, words_text, line_text, more_words, more_text, svg_head, drawn_text, drawing};
+ghost use Rattle.object_listing.specs.Drawing.{numbered, attribute, column_of, height_of, thread_line, thread_head, column_text, columns_text, columns_of, point_text, arrow_text, arrow_to, arrows_text, dot_of, has_unread, has_write, dot_text, touch_word, unread_word, mark_text, separator, marks_text, access_text, words_text, line_text, none_text, more_words, more_text, svg_head, drawn_text, drawing};
 
 use crate::chart_lines::Line;
 use crate::texts::{put_event, put_number};
@@ -288,6 +288,16 @@ fn put_lines(text: &mut String, lines: &[Line]) -> Result<(), AllocError>
     Ok(())
 }
 
+/// Puts behind a text that no access is drawn, where none is.
+fn put_none(text: &mut String, lines: usize) -> Result<(), AllocError>
+    ensures { OnOk result (string_bytes text.new ≡ string_bytes text.old ++ none_text lines) }
+{
+    if lines == 0 {
+        text.push_str("<text x=\"20\" y=\"54\">no accesses</text>\n")?;
+    }
+    Ok(())
+}
+
 /// Puts how many known accesses have no row behind a text.
 fn put_more_words(text: &mut String, lines: usize, more: usize) -> Result<(), AllocError>
     ensures { OnOk result (string_bytes text.new ≡ string_bytes text.old ++ more_words lines more) }
@@ -337,6 +347,7 @@ pub(crate) fn drawing(alloc: Global, lines: &[Line], more: usize) -> Result<Stri
 {
     let mut text = String::new(alloc);
     put_drawn(&mut text, lines)?;
+    put_none(&mut text, lines.len())?;
     put_more(&mut text, lines.len(), more)?;
     text.push_str("</svg>\n")?;
     Ok(text)
