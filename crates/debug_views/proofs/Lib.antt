@@ -7,3 +7,5 @@ pub mod Stopping
 pub mod Frames
 pub mod TraceLaws
 pub mod TraceRows
+pub mod Noting
+pub mod AtStep

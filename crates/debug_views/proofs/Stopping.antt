@@ -23,8 +23,9 @@ use Rattle.wasm_replay.specs.Replays.{Opens, IsOfRun, IsOpenerOf, world_or_empty
 use Rattle.wasm_replay.specs.declared.opener.Opener.{Opener}
 use Rattle.debug_views.specs.declared.viewing.WasmViewFault.TheVariants.{View}
 use Rattle.debug_views.specs.declared.notes.Notes.{Notes}
-use Rattle.debug_views.specs.Standing.{notes_if}
-use Rattle.debug_views.specs.Views.{Stops, StopsToShow, IsViewOfLog, IsNotViewed}
+use Rattle.debug_views.specs.Stopping.{Stops, StopsToShow}
+use Rattle.debug_views.specs.ThreadNotes.{AreNotesAsked}
+use Rattle.debug_views.specs.Views.{IsViewOfLog, IsNotViewed}
 
 module _ (m : Module) (plan : PlanValue) (log handed : GatheredLog) (order : List ℕ) (breaks : List Break) (opened v : WasmWorld) where
   -- a stop at a break is at one of the list
@@ -56,15 +57,17 @@ module _ (m : Module) (plan : PlanValue) (log handed : GatheredLog) (order : Lis
       (subst (λ (l : GatheredLog). ShowsRecorded shared_memory thread_code (gathered_log l) (opened_world o.valid.now o.plan.now o.profile) shown_at) same_log h))
 
   -- the view of the world at which it stopped
-  pub view_of : (notes : Notes) (shown_at : WasmWorld) (s : Stopped) (power from len : ℕ) (text : List ℕ) → StopsAt shared_memory thread_code (gathered_log handed) opened order breaks v s → handed ≡ log → ((w : WasmWorld) → Opens m plan log w → opened ≡ w)
-      → shown_at ≡ v → power ≡ block_power (key_of log).profile → IsShown s breaks → IsView shared_memory thread_code shown_at power s breaks (notes_if notes m.source shown_at.threads) from len text
-      → from + len ≤ length (memory_bytes shared_memory shown_at) → ((w : WasmWorld) → Opens m plan log w → ShowsRecorded shared_memory thread_code (gathered_log log) w v) → IsViewOfLog m plan log order breaks notes from len text
-  view_of notes shown_at s power from len text h same_log same_world same_end same_power is_shown view within recorded = record {
+  pub view_of : (asked : Notes) (shown_at : WasmWorld) (s : Stopped) (power from len : ℕ) (text : List ℕ) → StopsAt shared_memory thread_code (gathered_log handed) opened order breaks v s → handed ≡ log → ((w : WasmWorld) → Opens m plan log w → opened ≡ w)
+      → shown_at ≡ v → power ≡ block_power (key_of log).profile → IsShown s breaks → (notes : List (List ℕ)) → AreNotesAsked m plan log order asked shown_at notes
+      → IsView shared_memory thread_code shown_at power s breaks notes from len text → from + len ≤ length (memory_bytes shared_memory shown_at) → ((w : WasmWorld) → Opens m plan log w → ShowsRecorded shared_memory thread_code (gathered_log log) w v) → IsViewOfLog m plan log order breaks asked from len text
+  view_of asked shown_at s power from len text h same_log same_world same_end same_power is_shown notes are_notes view within recorded = record {
     world = v;
     stopped = s;
     stops = shown_of s h same_log same_world is_shown;
-    view = subst (λ (x : WasmWorld). IsView shared_memory thread_code x (block_power (key_of log).profile) s breaks (notes_if notes m.source x.threads) from len text) same_end
-        (subst (λ (p : ℕ). IsView shared_memory thread_code shown_at p s breaks (notes_if notes m.source shown_at.threads) from len text) same_power view);
+    notes = notes;
+    are_notes = subst (λ (x : WasmWorld). AreNotesAsked m plan log order asked x notes) same_end are_notes;
+    view = subst (λ (x : WasmWorld). IsView shared_memory thread_code x (block_power (key_of log).profile) s breaks notes from len text) same_end
+        (subst (λ (p : ℕ). IsView shared_memory thread_code shown_at p s breaks notes from len text) same_power view);
     within = subst (λ (x : WasmWorld). from + len ≤ length (memory_bytes shared_memory x)) same_end within;
     recorded = recorded;
   }

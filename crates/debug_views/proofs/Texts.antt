@@ -10,13 +10,13 @@ use Rattle.block_objects.specs.Objects.{block_object}
 use Rattle.event_core.specs.World.{WorldAt}
 use Rattle.replay_breaks.specs.declared.breaks.Break.{Break}
 use Rattle.replay_breaks.specs.declared.breaks.Stopped.{Stopped}
-use Rattle.debug_views.specs.Report.{shown}
+use Rattle.debug_views.specs.Report.{note_at, shown}
 use Rattle.debug_views.specs.declared.blocks.BlockRange.{BlockRange}
 use Rattle.debug_views.specs.declared.threads.ThreadView.{ThreadView}
 use Rattle.debug_views.specs.Blocks.{AreHolding}
 use Rattle.debug_views.specs.Threads.{view_of_thread}
 use Rattle.debug_views.specs.Values.{memory_bytes, bytes_of_range}
-use Rattle.debug_views.specs.Text.{object_text, objects_text, rows_text, stop_words, note_of, thread_text, threads_text, IsView}
+use Rattle.debug_views.specs.Text.{object_text, objects_text, rows_text, stop_words, thread_text, threads_text, IsView}
 
 pub object_more : (counts : ℕ → Count) (front now next : List ℕ) (first n : ℕ) (c : Count) → now ≡ front ++ objects_text counts first n → c ≡ counts (block_object (first + n))
     → next ≡ now ++ object_text (block_object (first + n)) c → next ≡ front ++ objects_text counts first (n + 1)
@@ -50,11 +50,11 @@ drop_at {A} {B} f xs n b e =
     ∙ ap (λ (x : B). x ∷ drop (suc n) (map f xs)) (get_or_from_slice_get (map f xs) n b b s)
     ∙ ap (λ (k : ℕ). b ∷ drop k (map f xs)) (sym (add-one n))
 
-pub thread_more : {A : Type 0} (f : A → ThreadView) (notes : List (List ℕ)) (threads : List A) (now next : List ℕ) (n : ℕ) (v : ThreadView) → option_map f (slice_get threads n) ≡ Some v → next ≡ now ++ thread_text n v (note_of notes n)
+pub thread_more : {A : Type 0} (f : A → ThreadView) (notes : List (List ℕ)) (threads : List A) (now next : List ℕ) (n : ℕ) (v : ThreadView) → option_map f (slice_get threads n) ≡ Some v → next ≡ now ++ thread_text n v (note_at notes n)
     → next ++ threads_text notes (n + 1) (drop (n + 1) (map f threads)) ≡ now ++ threads_text notes n (drop n (map f threads))
 thread_more f notes threads now next n v at_n more =
     ap (λ (l : List ℕ). l ++ threads_text notes (n + 1) (drop (n + 1) (map f threads))) more
-    ∙ append_assoc now (thread_text n v (note_of notes n)) (threads_text notes (n + 1) (drop (n + 1) (map f threads)))
+    ∙ append_assoc now (thread_text n v (note_at notes n)) (threads_text notes (n + 1) (drop (n + 1) (map f threads)))
     ∙ ap (λ (vs : List ThreadView). now ++ threads_text notes n vs) (sym (drop_at f threads n v at_n))
 
 -- no more bytes than were asked for

@@ -24,7 +24,8 @@ use Rattle.wasm_replay.specs.Replays.{Opens, IsOpenerOf, world_or_empty, opened_
 use Rattle.wasm_replay.specs.declared.opener.Opener.{Opener}
 use Rattle.debug_views.specs.declared.trace_choice.TraceChoice.{TraceChoice}
 use Rattle.debug_views.specs.declared.trace_seen.Seen.{Seen}
-use Rattle.debug_views.specs.Standing.{PlaceForm, notes_of}
+use Rattle.debug_views.specs.Standing.{PlaceForm}
+use Rattle.debug_views.specs.ThreadNotes.{AreNotes}
 use Rattle.debug_views.specs.Text.{IsShown, IsView}
 use Rattle.debug_views.specs.Trace.{TraceAsked, action_of, asked_with, is_of_ranges, is_of_threads, is_since, line_of, measured, outcome_in, seen_by, seen_if, seen_of, standing_text, trace_note}
 use Rattle.debug_views.specs.TraceLines.{event_line}
@@ -111,16 +112,18 @@ module _ (m : Module) (plan : PlanValue) (log handed : GatheredLog) (order : Lis
 
   -- the lines, and the view of the world at which it stopped
   pub trace_of : (shown_at : WasmWorld) (s : Stopped) (power : ℕ) (lines view text : List ℕ) → StopsAt shared_memory thread_code (gathered_log handed) opened order breaks v s → handed ≡ log → ((w : WasmWorld) → Opens m plan log w → opened ≡ w)
-      → shown_at ≡ v → power ≡ block_power (key_of log).profile → IsShown s breaks → IsView shared_memory thread_code shown_at power s breaks (notes_of asked.places shown_at.threads) 0 0 view
+      → shown_at ≡ v → power ≡ block_power (key_of log).profile → IsShown s breaks → (stood : List (List ℕ)) → AreNotes m plan log order asked.places shown_at stood → IsView shared_memory thread_code shown_at power s breaks stood 0 0 view
       → ((w : WasmWorld) → Opens m plan log w → AreLines m plan log order breaks asked w v lines) → text ≡ lines ++ view → IsTraceOfLog m plan log order breaks asked text
-  trace_of shown_at s power lines view text h same_log same_world same_end same_power is_shown is_view are_lines is = record {
+  trace_of shown_at s power lines view text h same_log same_world same_end same_power is_shown stood are_notes is_view are_lines is = record {
     world = v;
     stopped = s;
     stops = shown_of m plan log handed order breaks opened v s h same_log same_world is_shown;
     lines = lines;
     are_lines = are_lines;
     view = view;
-    is_view = subst (λ (x : WasmWorld). IsView shared_memory thread_code x (block_power (key_of log).profile) s breaks (notes_of asked.places x.threads) 0 0 view) same_end
-        (subst (λ (p : ℕ). IsView shared_memory thread_code shown_at p s breaks (notes_of asked.places shown_at.threads) 0 0 view) same_power is_view);
+    notes = stood;
+    are_notes = subst (λ (x : WasmWorld). AreNotes m plan log order asked.places x stood) same_end are_notes;
+    is_view = subst (λ (x : WasmWorld). IsView shared_memory thread_code x (block_power (key_of log).profile) s breaks stood 0 0 view) same_end
+        (subst (λ (p : ℕ). IsView shared_memory thread_code shown_at p s breaks stood 0 0 view) same_power is_view);
     is = is;
   }

@@ -4,8 +4,10 @@ pub mod Blocks
 pub mod Text
 pub mod Writes
 pub mod Report
-pub mod Views
 pub mod Standing
+pub mod Stopping
+pub mod ThreadNotes
+pub mod Views
 pub use Rattle.replay_breaks.specs.declared.breaks.Break
 pub mod TraceLines
 pub mod Trace

@@ -1,5 +1,5 @@
 -- The report of a run's end.
-use Rattle.std.specs.Prelude.{ℕ, zero, suc, ◌+◌, ◌*◌, ◌/◌, ◌==◌, List, [], ◌∷◌, ◌++◌, codes, length, take, drop, if◌then◌else◌}
+use Rattle.std.specs.Prelude.{ℕ, zero, suc, ◌+◌, ◌*◌, ◌/◌, ◌==◌, List, [], ◌∷◌, ◌++◌, codes, length, take, drop, if◌then◌else◌, slice_get, unwrap_or}
 use Rattle.std.specs.Int.{w64, to_be_bytes}
 use Rattle.std.specs.List.{list_all, flat_map}
 use Rattle.std.specs.Fmt.{decimal}
@@ -25,13 +25,21 @@ abbrev pub rows_text : List ℕ → ℕ → List ℕ
 rows_text memory zero = []
 rows_text memory (suc row) = rows_text memory row ++ row_text memory row
 
-abbrev pub thread_text : ℕ → Outcome → List ℕ
-thread_text thread outcome = codes "thread " ++ (decimal thread ++ 32 ∷ (outcome_text outcome ++ 10 ∷ []))
+-- the note of a thread, which is empty where there is none of its number
+abbrev pub note_at : List (List ℕ) → ℕ → List ℕ
+note_at notes thread = unwrap_or (slice_get notes thread) []
 
--- threads that are numbered from `thread` on
-abbrev pub threads_text : ℕ → List Outcome → List ℕ
-threads_text thread [] = []
-threads_text thread (outcome ∷ outcomes) = thread_text thread outcome ++ threads_text (thread + 1) outcomes
+abbrev pub thread_text : ℕ → Outcome → List ℕ → List ℕ
+thread_text thread outcome note = codes "thread " ++ (decimal thread ++ 32 ∷ (outcome_text outcome ++ (note ++ 10 ∷ [])))
+
+-- threads that are numbered from `thread` on, each with its note
+abbrev pub threads_text : List (List ℕ) → ℕ → List Outcome → List ℕ
+threads_text notes thread [] = []
+threads_text notes thread (outcome ∷ outcomes) = thread_text thread outcome (note_at notes thread) ++ threads_text notes (thread + 1) outcomes
+
+-- the report with these notes of where threads stand
+abbrev pub noted_text : List (List ℕ) → RunEnd → List ℕ
+noted_text notes end = codes "pages " ++ (decimal (length end.memory / PAGE_SIZE) ++ 10 ∷ (rows_text end.memory (length end.memory / 16) ++ threads_text notes 0 end.outcomes))
 
 abbrev pub report_text : RunEnd → List ℕ
-report_text end = codes "pages " ++ (decimal (length end.memory / PAGE_SIZE) ++ 10 ∷ (rows_text end.memory (length end.memory / 16) ++ threads_text 0 end.outcomes))
+report_text end = noted_text [] end

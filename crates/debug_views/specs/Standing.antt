@@ -1,15 +1,12 @@
 -- Where threads stand, as notes behind their lines: ` at bump+5 from main+3`.
-use Rattle.std.specs.Prelude.{ℕ, zero, suc, ◌+◌, Bool, true, false, List, [], ◌∷◌, ◌++◌, codes, map, cond, if◌then◌else◌, Option, Some, None}
+use Rattle.std.specs.Prelude.{ℕ, zero, suc, ◌+◌, Bool, false, List, [], ◌∷◌, ◌++◌, codes, cond, if◌then◌else◌, Option, Some, None}
 use Rattle.std.specs.Fmt.{decimal, radix_digits}
-use Rattle.event_core.specs.Threads.{ThreadAt}
 use Rattle.binary_decoder.specs.Names.{function_name}
 use Rattle.binary_decoder.specs.Offsets.{instruction_offset}
 use Rattle.binary_decoder.specs.Printable.{fits_line}
 use Rattle.integer_machine.specs.declared.standing.CodePlace.{CodePlace}
 use Rattle.integer_machine.specs.Standing.{standing}
 use Rattle.wasm_world.specs.ThreadCode.{ThreadAt as CodeThread}
-use Rattle.debug_views.specs.declared.notes.Notes.{Notes}
-use Rattle.debug_views.specs.declared.notes.Notes.TheVariants.{Nothing, Names, Offsets}
 
 -- by what places in code are written: a module's bytes, and whether instructions have their offsets there beside them
 pub record PlaceForm : Type 0 where
@@ -50,12 +47,3 @@ frames_text form depth (p ∷ ps) = frame_text form depth p ++ frames_text form 
 -- the functions that a thread is in; a thread that has ended is in none
 abbrev pub note_of : PlaceForm → CodeThread → List ℕ
 note_of form t = frames_text form 0 (standing t.state)
-
-abbrev pub notes_of : PlaceForm → List (ThreadAt CodeThread) → List (List ℕ)
-notes_of form threads = map (λ t. note_of form t.state) threads
-
--- the notes of all threads by a module's bytes, as they are asked for
-abbrev pub notes_if : Notes → List ℕ → List (ThreadAt CodeThread) → List (List ℕ)
-notes_if Nothing source threads = []
-notes_if Names source threads = notes_of (record { source = source; offsets = false }) threads
-notes_if Offsets source threads = notes_of (record { source = source; offsets = true }) threads

@@ -11,7 +11,7 @@ use Rattle.replay_breaks.specs.declared.breaks.Break.{Break}
 use Rattle.replay_breaks.specs.declared.breaks.Break.TheVariants as break
 use Rattle.replay_breaks.specs.declared.breaks.Stopped.{Stopped}
 use Rattle.replay_breaks.specs.declared.breaks.Stopped.TheVariants as stopped
-use Rattle.debug_views.specs.Report.{shown}
+use Rattle.debug_views.specs.Report.{note_at, shown}
 use Rattle.debug_views.specs.declared.blocks.BlockRange.{BlockRange}
 use Rattle.debug_views.specs.declared.threads.ThreadView.{ThreadView}
 use Rattle.debug_views.specs.Blocks.{AreHolding}
@@ -40,18 +40,10 @@ stop_words (stopped.Fault f) breaks = []
 abbrev pub thread_text : ℕ → ThreadView → List ℕ → List ℕ
 thread_text thread v note = codes "thread " ++ (decimal thread ++ (codes " steps " ++ (decimal v.steps ++ (codes " places " ++ (decimal v.places ++ 32 ∷ (outcome_text v.outcome ++ (note ++ 10 ∷ [])))))))
 
-abbrev pub note_or_none : Option (List ℕ) → List ℕ
-note_or_none None = []
-note_or_none (Some note) = note
-
--- the note of a thread, which is empty where there is none of its number
-abbrev pub note_of : List (List ℕ) → ℕ → List ℕ
-note_of notes thread = note_or_none (slice_get notes thread)
-
 -- threads that are numbered from `thread` on, each with its note
 abbrev pub threads_text : List (List ℕ) → ℕ → List ThreadView → List ℕ
 threads_text notes thread [] = []
-threads_text notes thread (v ∷ vs) = thread_text thread v (note_of notes thread) ++ threads_text notes (thread + 1) vs
+threads_text notes thread (v ∷ vs) = thread_text thread v (note_at notes thread) ++ threads_text notes (thread + 1) vs
 
 abbrev pub object_text : ℕ → Count → List ℕ
 object_text object c = codes "object " ++ (decimal object ++ (codes " version " ++ (decimal c.version ++ (codes " reads " ++ (decimal c.reads ++ 10 ∷ [])))))

@@ -1,8 +1,7 @@
 -- Traces: a line for each event of a replay that is asked for.
-use Rattle.std.specs.Prelude.{ℕ, ◌+◌, Bool, true, false, ◌&&◌, ◌||◌, ◌==◌, nat_lt, nat_le, min, max, cond, List, [], ◌∷◌, ◌++◌, codes, length, Option, Some, None, option_map, slice_get, unwrap_or}
+use Rattle.std.specs.Prelude.{ℕ, ◌+◌, Bool, true, false, ◌&&◌, ◌||◌, ◌==◌, nat_lt, nat_le, min, max, cond, List, [], ◌∷◌, ◌++◌, length, Option, Some, None, option_map, slice_get, unwrap_or}
 use Rattle.std.specs.Int.{Width, byte_len}
 use Rattle.std.specs.List.{list_any}
-use Rattle.std.specs.Fmt.{decimal}
 use Rattle.wasm_types.specs.declared.instruction.Access.{Access}
 use Rattle.wasm_types.specs.declared.instruction.Access.TheVariants.{Whole}
 use Rattle.wasm_types.specs.declared.outcome.Outcome.{Outcome}

@@ -13,15 +13,16 @@ use Rattle.replay_laws.specs.Ordered.{ordered_world}
 use Rattle.replay_gate.specs.Shows.{ShowsRecorded}
 use Rattle.replay_breaks.specs.declared.breaks.Break.{Break}
 use Rattle.replay_breaks.specs.declared.breaks.Stopped.{Stopped}
-use Rattle.replay_breaks.specs.Notes.{notes}
+use Rattle.replay_breaks.specs.Notes.{notes as noted}
 use Rattle.wasm_replay.specs.Replays.{Opens, IsOfRun, gathered_log}
 use Rattle.debug_views.specs.declared.trace_choice.TraceChoice.{TraceChoice}
 use Rattle.debug_views.specs.declared.tracing.TraceFault.{TraceFault}
 use Rattle.debug_views.specs.declared.tracing.TraceFault.TheVariants.{Replay, NoMemory}
-use Rattle.debug_views.specs.Standing.{notes_of}
+use Rattle.debug_views.specs.Stopping.{StopsToShow}
 use Rattle.debug_views.specs.Text.{IsView}
 use Rattle.debug_views.specs.Trace.{TraceAsked, asked_with, trace_note}
-use Rattle.debug_views.specs.Views.{StopsToShow, IsNotReplayed}
+use Rattle.debug_views.specs.ThreadNotes.{AreNotes}
+use Rattle.debug_views.specs.Views.{IsNotReplayed}
 
 -- places by the module's bytes, and the events that are chosen
 abbrev pub asked_of : Module → TraceChoice → TraceAsked
@@ -33,7 +34,7 @@ module _ (m : Module) (plan : PlanValue) (log : GatheredLog) (order : List ℕ) 
   pub record AreLines (asked : TraceAsked) (w v : WasmWorld) (lines : List ℕ) : Type 0 where
     pub turns : ℕ
     pub leads : v ≡ ordered_world shared_memory thread_code (gathered_log log) w order turns
-    pub is : lines ≡ notes shared_memory thread_code (trace_note asked) (gathered_log log) w order turns
+    pub is : lines ≡ noted shared_memory thread_code (trace_note asked) (gathered_log log) w order turns
     pub recorded : (k : ℕ) → k ≤ turns → ShowsRecorded shared_memory thread_code (gathered_log log) w (ordered_world shared_memory thread_code (gathered_log log) w order k)
 
   -- the lines of the events up to where the replay stops, and the view of that world
@@ -43,8 +44,10 @@ module _ (m : Module) (plan : PlanValue) (log : GatheredLog) (order : List ℕ) 
     pub stops : StopsToShow m plan log order breaks world stopped
     pub lines : List ℕ
     pub are_lines : (w : WasmWorld) → Opens m plan log w → AreLines asked w world lines
+    pub notes : List (List ℕ)
+    pub are_notes : AreNotes m plan log order asked.places world notes
     pub view : List ℕ
-    pub is_view : IsView shared_memory thread_code world (block_power (key_of log).profile) stopped breaks (notes_of asked.places world.threads) 0 0 view
+    pub is_view : IsView shared_memory thread_code world (block_power (key_of log).profile) stopped breaks notes 0 0 view
     pub is : text ≡ lines ++ view
 
   -- the log is of another run, its replay comes to a fault, or memory is wanting

@@ -15,35 +15,28 @@ use Rattle.replay_gate.specs.Shows.{ShowsRecorded}
 use Rattle.replay_breaks.specs.declared.breaks.Break.{Break}
 use Rattle.replay_breaks.specs.declared.breaks.Stopped.{Stopped}
 use Rattle.replay_breaks.specs.declared.breaks.Stopped.TheVariants as stopped
-use Rattle.replay_breaks.specs.Stops.{StopsAt}
-use Rattle.debug_views.specs.Text.{IsShown, IsView}
+use Rattle.debug_views.specs.Text.{IsView}
 use Rattle.debug_views.specs.Values.{memory_bytes}
 use Rattle.debug_views.specs.declared.fault.ViewFault.TheVariants as showing
 use Rattle.wasm_replay.specs.Replays.{Opens, IsOfRun, IsOfNoRun, gathered_log}
 use Rattle.wasm_replay.specs.declared.replaying.WasmReplayFault.{WasmReplayFault}
 use Rattle.wasm_replay.specs.declared.replaying.WasmReplayFault.TheVariants as refusal
 use Rattle.debug_views.specs.declared.notes.Notes.{Notes}
-use Rattle.debug_views.specs.Standing.{notes_if}
+use Rattle.debug_views.specs.Stopping.{Stops, StopsToShow}
+use Rattle.debug_views.specs.ThreadNotes.{AreNotesAsked}
 use Rattle.debug_views.specs.declared.viewing.WasmViewFault.{WasmViewFault}
 use Rattle.debug_views.specs.declared.viewing.WasmViewFault.TheVariants.{Replay, View}
 
 module _ (m : Module) (plan : PlanValue) (log : GatheredLog) (order : List ℕ) (breaks : List Break) where
-  -- the replay by the order from the opening world stops so, at world v
-  abbrev pub Stops : WasmWorld → Stopped → Type 0
-  Stops v s = (w : WasmWorld) → Opens m plan log w → StopsAt shared_memory thread_code (gathered_log log) w order breaks v s
-
-  -- the same where the world is shown: at one of the breaks, or where no thread goes on
-  pub record StopsToShow (v : WasmWorld) (s : Stopped) : Type 0 where
-    pub stops : Stops v s
-    pub shown : IsShown s breaks
-
   -- the view of the world at which the replay stops, which has the range, with what is said of where its threads
   -- stand; on a log below that of a run, that world is right by the run
-  pub record IsViewOfLog (notes : Notes) (from len : ℕ) (text : List ℕ) : Type 0 where
+  pub record IsViewOfLog (asked : Notes) (from len : ℕ) (text : List ℕ) : Type 0 where
     pub world : WasmWorld
     pub stopped : Stopped
-    pub stops : StopsToShow world stopped
-    pub view : IsView shared_memory thread_code world (block_power (key_of log).profile) stopped breaks (notes_if notes m.source world.threads) from len text
+    pub stops : StopsToShow m plan log order breaks world stopped
+    pub notes : List (List ℕ)
+    pub are_notes : AreNotesAsked m plan log order asked world notes
+    pub view : IsView shared_memory thread_code world (block_power (key_of log).profile) stopped breaks notes from len text
     pub within : from + len ≤ length (memory_bytes shared_memory world)
     pub recorded : (w : WasmWorld) → Opens m plan log w → ShowsRecorded shared_memory thread_code (gathered_log log) w world
 
@@ -51,20 +44,20 @@ module _ (m : Module) (plan : PlanValue) (log : GatheredLog) (order : List ℕ) 
   pub record IsOutOfView (from len : ℕ) : Type 0 where
     pub world : WasmWorld
     pub stopped : Stopped
-    pub stops : StopsToShow world stopped
+    pub stops : StopsToShow m plan log order breaks world stopped
     pub past : length (memory_bytes shared_memory world) < from + len
 
   -- the replay stops at a world whose memory has the range
   pub record IsInView (from len : ℕ) : Type 0 where
     pub world : WasmWorld
     pub stopped : Stopped
-    pub stops : StopsToShow world stopped
+    pub stops : StopsToShow m plan log order breaks world stopped
     pub within : from + len ≤ length (memory_bytes shared_memory world)
 
   -- the replay stops for this fault, or there is no memory for its opening world
   pub record IsFaultOfReplay (f : ReplayFault) : Type 0 where
     pub of_run : IsOfRun m plan log
-    pub stops : (f ≡ fault.NoMemory) ⊎ ((v : WasmWorld) × Stops v (stopped.Fault f))
+    pub stops : (f ≡ fault.NoMemory) ⊎ ((v : WasmWorld) × Stops m plan log order breaks v (stopped.Fault f))
 
   abbrev pub IsNotReplayed : WasmReplayFault → Type 0
   IsNotReplayed refusal.OtherRun = IsOfNoRun m plan log refusal.OtherRun

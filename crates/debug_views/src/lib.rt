@@ -8,6 +8,7 @@
 
 mod blocks;
 mod breaks;
+mod ending;
 mod fault;
 mod memory_space;
 mod notes;
@@ -28,11 +29,13 @@ mod viewing;
 
 pub use blocks::{BlockRange, blocks_of_range};
 pub use breaks::write_break;
+pub use ending::notes_of_end;
+pub use event_core::Ended;
 pub use fault::ViewFault;
 pub use memory_space::MemorySpace;
 pub use notes::Notes;
 pub use replay_breaks::Break;
-pub use report_text::{put_row, report};
+pub use report_text::{noted_report, put_row, report};
 pub use text::view;
 pub use threads::{ThreadView, thread_view};
 pub use trace_choice::TraceChoice;

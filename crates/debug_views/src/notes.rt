@@ -1,17 +1,23 @@
 //! Where threads stand, as notes.
 
-ghost use Rattle.std.specs.Prelude.{◌≡◌, ◌++◌, IfOk, OnOk, map, string_bytes};
+ghost use Rattle.std.specs.Prelude.{◌≡◌, ◌++◌, IfOk, OnOk, Some, map, slice_get, string_bytes};
 ghost use Rattle.event_core.specs.World.{world_of};
-ghost use Rattle.debug_views.specs.Standing.{PlaceForm, word_at, frame_text, note_of, notes_of, notes_if};
+ghost use Rattle.event_core.specs.Threads.{ThreadAt};
+ghost use Rattle.wasm_world.specs.Plans.{IsPlanOf};
+ghost use Rattle.wasm_world.specs.ThreadCode.{ThreadAt as CodeThread};
+ghost use Rattle.debug_views.specs.Standing.{PlaceForm, word_at, frame_text, note_of};
+ghost use Rattle.debug_views.specs.ThreadNotes.{AreNotes, AreNotesAsked, IsNote, IsNoteAtStep};
 
 use crate::places::PlaceWriter;
+use crate::replays::{OrderedReplay, replay_to_step};
+use crate::threads::thread_view;
 use event_core::World;
 use integer_machine::{CodePlace, ThreadState};
 use std::alloc::Global;
-use wasm_types::NoMemory;
-use wasm_world::{SharedSpace, Valid};
+use wasm_types::{NoMemory, Outcome};
+use wasm_world::SharedSpace;
 
-/// What a view says of where threads stand.
+/// What is said of where threads stand.
 #[derive(Clone, Copy, Debug, PartialEq, Eq)]
 pub enum Notes {
     /// Nothing.
@@ -60,51 +66,96 @@ fn note_of(
     Ok(text)
 }
 
-/// Where each thread of a world stands.
+/// Where a thread stood once it had made so many steps, by the same replay made again.
+fn note_at_step(
+    alloc: Global,
+    places: &PlaceWriter<'_>,
+    replay: &OrderedReplay<'_>,
+    thread: u32,
+    steps: u32,
+) -> Result<String, NoMemory>
+    requires { IsPlanOf replay.now.valid.now replay.now.plan.now }
+    ensures { IfOk result (λ note. IsNoteAtStep replay.now.valid.now replay.now.plan.now replay.now.log.now replay.now.order.now places.now thread steps (string_bytes note)) }
+{
+    let again = replay_to_step(alloc, replay, thread, steps)?;
+    match again.world().machine(thread) {
+        Some(machine) => note_of(alloc, places, machine),
+        None => Ok(String::new(alloc)),
+    }
+}
+
+/// Where a thread of a world at which a replay stopped stands; of one that trapped, where it stood before the last of its
+/// steps.
+fn note_of_thread(
+    alloc: Global,
+    places: &PlaceWriter<'_>,
+    replay: &OrderedReplay<'_>,
+    world: &World<ThreadState<'_>, SharedSpace>,
+    thread: u32,
+) -> Result<String, NoMemory>
+    requires { IsPlanOf replay.now.valid.now replay.now.plan.now }
+    ensures { IfOk result (λ note. (at : ThreadAt CodeThread) → slice_get (world_of world.now).threads thread ≡ Some at → IsNote replay.now.valid.now replay.now.plan.now replay.now.log.now replay.now.order.now places.now thread at (string_bytes note)) }
+{
+    let (Some(machine), Some(stands)) = (world.machine(thread), thread_view(world, thread)) else {
+        return Ok(String::new(alloc));
+    };
+    match stands.outcome {
+        Outcome::Trapped(_) => {
+            let before = stands.steps.saturating_sub(1);
+            note_at_step(alloc, places, replay, thread, before)
+        }
+        Outcome::Running | Outcome::Waiting | Outcome::Done(_) => {
+            note_of(alloc, places, machine)
+        }
+    }
+}
+
+/// Where each thread of a world stands at which a replay stopped.
 pub(crate) fn notes_of(
     alloc: Global,
     places: &PlaceWriter<'_>,
+    replay: &OrderedReplay<'_>,
     world: &World<ThreadState<'_>, SharedSpace>,
 ) -> Result<Vec<String>, NoMemory>
-    ensures { IfOk result (λ notes. map string_bytes notes.items ≡ notes_of places.now (world_of world.now).threads) }
+    requires { IsPlanOf replay.now.valid.now replay.now.plan.now }
+    ensures { IfOk result (λ notes. AreNotes replay.now.valid.now replay.now.plan.now replay.now.log.now replay.now.order.now places.now (world_of world.now) (map string_bytes notes.items)) }
 {
     let mut notes = Vec::new(alloc);
     for thread in 0..world.count() {
-        let Some(machine) = world.machine(thread as u32) else {
-            unreachable!()
-        };
-        notes.push(note_of(alloc, places, machine)?)?;
+        notes.push(note_of_thread(alloc, places, replay, world, thread as u32)?)?;
     }
     Ok(notes)
 }
 
-/// Where each thread of a world stands, by the module's bytes, and perhaps with the offsets of instructions.
-fn notes_by(
+/// Where each thread stands, by the module's bytes, and perhaps with the offsets of instructions.
+pub(crate) fn notes_by(
     alloc: Global,
     has_offsets: bool,
-    valid: &Valid,
+    replay: &OrderedReplay<'_>,
     world: &World<ThreadState<'_>, SharedSpace>,
 ) -> Result<Vec<String>, NoMemory>
-    ensures { IfOk result (λ notes. map string_bytes notes.items ≡ notes_of (record { source = valid.now.source; offsets = has_offsets }) (world_of world.now).threads) }
+    requires { IsPlanOf replay.now.valid.now replay.now.plan.now }
+    ensures { IfOk result (λ notes. AreNotes replay.now.valid.now replay.now.plan.now replay.now.log.now replay.now.order.now (record { source = replay.now.valid.now.source; offsets = has_offsets }) (world_of world.now) (map string_bytes notes.items)) }
 {
-    let source = valid.module().source.as_slice();
+    let source = replay.valid.module().source.as_slice();
     let places = PlaceWriter::new(alloc, source, has_offsets)?;
-    let notes = notes_of(alloc, &places, world)?;
+    let notes = notes_of(alloc, &places, replay, world)?;
     Ok(notes)
 }
 
-/// What is asked for of where each thread of a world stands.
-pub(crate) fn notes_if(
+/// What is asked for of where each thread stands.
+pub(crate) fn notes_asked(
     alloc: Global,
-    notes: Notes,
-    valid: &Valid,
+    asked: Notes,
+    replay: &OrderedReplay<'_>,
     world: &World<ThreadState<'_>, SharedSpace>,
 ) -> Result<Vec<String>, NoMemory>
-    ensures { IfOk result (λ found. map string_bytes found.items ≡ notes_if notes valid.now.source (world_of world.now).threads) }
+    requires { IsPlanOf replay.now.valid.now replay.now.plan.now }
+    ensures { IfOk result (λ notes. AreNotesAsked replay.now.valid.now replay.now.plan.now replay.now.log.now replay.now.order.now asked (world_of world.now) (map string_bytes notes.items)) }
 {
-    match notes {
+    match asked {
         Notes::Nothing => Ok(Vec::new(alloc)),
-        Notes::Names => notes_by(alloc, false, valid, world),
-        Notes::Offsets => notes_by(alloc, true, valid, world),
+        Notes::Names => notes_by(alloc, false, replay, world),
+        Notes::Offsets => notes_by(alloc, true, replay, world),
     }
 }

@@ -1,8 +1,8 @@
 //! Reports.
 
-ghost use Rattle.std.specs.Prelude.{◌≡◌, ◌++◌, ◌*◌, ◌/◌, ◌+◌, ◌≤◌, ◌==◌, IfOk, OnOk, length, string_bytes};
+ghost use Rattle.std.specs.Prelude.{◌≡◌, ◌++◌, ◌*◌, ◌/◌, ◌+◌, ◌≤◌, ◌==◌, IfOk, OnOk, length, map, string_bytes};
 ghost use Rattle.std.specs.List.{list_all};
-ghost use Rattle.debug_views.specs.Report.{report_text, shown, row_text, rows_text, threads_text};
+ghost use Rattle.debug_views.specs.Report.{note_at, noted_text, report_text, shown, row_text, rows_text, threads_text};
 
 use crate::row::HexBytes;
 use event_core::Ended;
@@ -18,11 +18,18 @@ const ROW: usize = 16;
 pub fn report(alloc: Global, ended: &Ended) -> Result<String, NoMemory>
     ensures { IfOk result (λ text. string_bytes text ≡ report_text ended.now) }
 {
+    noted_report(alloc, ended, &[])
+}
+
+/// The same report, in which behind each thread's line stands the note of its number, if there is one.
+pub fn noted_report(alloc: Global, ended: &Ended, notes: &[String]) -> Result<String, NoMemory>
+    ensures { IfOk result (λ text. string_bytes text ≡ noted_text (map string_bytes notes.now) ended.now) }
+{
     let memory = ended.memory();
     let pages = memory.len() / PAGE_SIZE as usize;
     let mut text = format!(in alloc; "pages {pages}\n")?;
     write_rows(&mut text, memory)?;
-    write_threads(&mut text, ended.outcomes())?;
+    write_threads(&mut text, ended.outcomes(), notes)?;
     Ok(text)
 }
 
@@ -67,13 +74,24 @@ fn is_zero(bytes: &[u8]) -> bool
     bytes.iter().all(|byte| *byte == 0)
 }
 
-// Writes how each thread stands.
-fn write_threads(text: &mut String, outcomes: &[Outcome]) -> Result<(), NoMemory>
-    ensures { OnOk result (string_bytes text.new ≡ string_bytes text.old ++ threads_text 0 outcomes.now) }
+// Writes how each thread stands, and its note.
+fn write_threads(text: &mut String, outcomes: &[Outcome], notes: &[String]) -> Result<(), NoMemory>
+    ensures { OnOk result (string_bytes text.new ≡ string_bytes text.old ++ threads_text (map string_bytes notes.now) 0 outcomes.now) }
 {
     for thread in 0..outcomes.len() {
         let outcome = outcomes[thread];
-        write!(text, "thread {thread} {outcome}\n")?;
+        let note = note_at(notes, thread);
+        write!(text, "thread {thread} {outcome}{note}\n")?;
     }
     Ok(())
+}
+
+/// The note of a thread; an empty one where it has none.
+pub(crate) fn note_at(notes: &[String], thread: usize) -> &str
+    ensures { result.now ≡ note_at (map string_bytes notes.now) thread }
+{
+    match notes.get(thread) {
+        Some(note) => note.as_str(),
+        None => "",
+    }
 }

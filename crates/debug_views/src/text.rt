@@ -5,12 +5,12 @@ ghost use Rattle.rw_objects.specs.Counts.{count_at};
 ghost use Rattle.event_core.specs.World.{world_of};
 ghost use Rattle.debug_views.specs.Values.{memory_bytes, IsFault};
 ghost use Rattle.debug_views.specs.Threads.{view_of_thread};
-ghost use Rattle.debug_views.specs.Text.{IsShown, IsView, stop_words, note_of, thread_text, threads_text, object_text, objects_text, rows_text};
+ghost use Rattle.debug_views.specs.Text.{IsShown, IsView, stop_words, thread_text, threads_text, object_text, objects_text, rows_text};
 
 use crate::blocks::{BlockRange, blocks_of_range};
 use crate::fault::ViewFault;
 use crate::memory_space::MemorySpace;
-use crate::report_text::put_row;
+use crate::report_text::{note_at, put_row};
 use crate::threads::{ThreadView, thread_view};
 use crate::values::bytes;
 use event_core::World;
@@ -90,19 +90,9 @@ fn write_threads<M: Machine<S>, S: ObjectSpace>(
         let Some(view) = thread_view(world, thread as u32) else {
             unreachable!()
         };
-        write_thread(text, thread, view, note_of(notes, thread))?;
+        write_thread(text, thread, view, note_at(notes, thread))?;
     }
     Ok(())
-}
-
-// The note of a thread; an empty one where it has none.
-fn note_of(notes: &[String], thread: usize) -> &str
-    ensures { result.now ≡ note_of (map string_bytes notes.now) thread }
-{
-    match notes.get(thread) {
-        Some(note) => note.as_str(),
-        None => "",
-    }
 }
 
 // Writes how a thread stands, and its note.

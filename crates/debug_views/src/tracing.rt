@@ -1,18 +1,18 @@
 //! The trace of a replay.
 
-ghost use Rattle.std.specs.Prelude.{◌≡◌, ◌++◌, false, OnOk, IfOk, IfErr, string_bytes};
+ghost use Rattle.std.specs.Prelude.{◌≡◌, ◌++◌, ℕ, List, false, OnOk, IfOk, IfErr, string_bytes};
 ghost use Rattle.block_objects.specs.SharedMemory.{shared_memory};
 ghost use Rattle.event_core.specs.World.{world_of};
 ghost use Rattle.wasm_world.specs.Plans.{IsPlanOf};
 ghost use Rattle.wasm_world.specs.ThreadCode.{thread_code};
 ghost use Rattle.wasm_replay.specs.Replays.{HasWorld, IsOfRun};
-ghost use Rattle.debug_views.specs.Standing.{notes_of};
 ghost use Rattle.debug_views.specs.Text.{IsShown, IsView};
+ghost use Rattle.debug_views.specs.ThreadNotes.{AreNotes};
 ghost use Rattle.debug_views.specs.Traces.{asked_of, IsTraceOfLog, IsNotTraced};
 
 use crate::notes::notes_of;
 use crate::places::PlaceWriter;
-use crate::replays::{opened, refused_at};
+use crate::replays::{OrderedReplay, opened, refused_at};
 use crate::text::view;
 use crate::trace_choice::TraceChoice;
 use crate::trace_watch::Tracer;
@@ -49,16 +49,19 @@ fn with_view(tracer: Tracer<'_>, view: &str) -> Result<String, NoMemory>
 /// The view of a world at which a replay stopped, without bytes of its memory.
 fn view_at(
     alloc: Global,
+    places: &PlaceWriter<'_>,
+    replay: &OrderedReplay<'_>,
     world: &World<ThreadState<'_>, SharedSpace>,
     block: Block,
     stopped: Stopped,
     breaks: &[Break],
-    places: &PlaceWriter<'_>,
 ) -> Result<String, NoMemory>
-    requires { IsShown stopped breaks.now }
-    ensures { IfOk result (λ text. IsView shared_memory thread_code (world_of world.now) block stopped breaks.now (notes_of places.now (world_of world.now).threads) 0 0 (string_bytes text)) }
+    requires suits { IsPlanOf replay.now.valid.now replay.now.plan.now }
+    requires shown { IsShown stopped breaks.now }
+    ensures { IfOk result (λ text. (notes : List (List ℕ)) × AreNotes replay.now.valid.now replay.now.plan.now replay.now.log.now replay.now.order.now places.now (world_of world.now) notes
+        × IsView shared_memory thread_code (world_of world.now) block stopped breaks.now notes 0 0 (string_bytes text)) }
 {
-    let notes = notes_of(alloc, places, world)?;
+    let notes = notes_of(alloc, places, replay, world)?;
     let none = ByteRange { from: 0, len: 0 };
     match view(alloc, world, block, stopped, breaks, notes.as_slice(), none) {
         Ok(text) => Ok(text),
@@ -101,7 +104,14 @@ pub fn trace_log(
         return Err(TraceFault::Replay(refused));
     }
     let block = memory_limits(valid.module(), log.key().profile).block;
-    let Ok(view) = view_at(alloc, replay.world(), block, stopped, breaks, &places) else {
+    let again = OrderedReplay {
+        valid,
+        plan,
+        log,
+        order,
+    };
+    let world = replay.world();
+    let Ok(view) = view_at(alloc, &places, &again, world, block, stopped, breaks) else {
         return Err(TraceFault::NoMemory);
     };
     match with_view(tracer, &view) {

@@ -1,6 +1,6 @@
 //! The view of a replay that stops.
 
-ghost use Rattle.std.specs.Prelude.{◌+◌, ◌≤◌, length, OnOk, IfOk, IfErr, string_bytes};
+ghost use Rattle.std.specs.Prelude.{ℕ, ◌+◌, ◌≤◌, List, length, OnOk, IfOk, IfErr, string_bytes};
 ghost use Rattle.block_objects.specs.SharedMemory.{shared_memory};
 ghost use Rattle.debug_views.specs.Text.{IsShown, IsView};
 ghost use Rattle.debug_views.specs.Values.{IsFault, memory_bytes};
@@ -8,12 +8,12 @@ ghost use Rattle.event_core.specs.World.{world_of};
 ghost use Rattle.wasm_world.specs.ThreadCode.{thread_code};
 ghost use Rattle.wasm_world.specs.Plans.{IsPlanOf};
 ghost use Rattle.wasm_replay.specs.Replays.{HasWorld, IsOfRun};
-ghost use Rattle.debug_views.specs.Standing.{notes_if};
+ghost use Rattle.debug_views.specs.ThreadNotes.{AreNotesAsked};
 ghost use Rattle.debug_views.specs.Views.{IsViewOfLog, IsNotViewed};
 
 use crate::fault::ViewFault;
-use crate::notes::{Notes, notes_if};
-use crate::replays::{opened, refused_at};
+use crate::notes::{Notes, notes_asked};
+use crate::replays::{OrderedReplay, opened, refused_at};
 use crate::text::view;
 use crate::values::is_in_view;
 use event_core::World;
@@ -49,15 +49,17 @@ pub struct ViewChoice {
 /// Shows a world at which a replay stopped. A range that passes the memory is refused before memory is wanted for notes.
 fn show(
     alloc: Global,
-    valid: &Valid,
+    replay: &OrderedReplay<'_>,
     world: &World<ThreadState<'_>, SharedSpace>,
     block: Block,
     stopped: Stopped,
     breaks: &[Break],
     choice: ViewChoice,
 ) -> Result<String, ViewFault>
-    requires { IsShown stopped breaks.now }
-    ensures view { IfOk result (λ text. IsView shared_memory thread_code (world_of world.now) block stopped breaks.now (notes_if choice.notes valid.now.source (world_of world.now).threads) choice.range.from choice.range.len (string_bytes text)) }
+    requires suits { IsPlanOf replay.now.valid.now replay.now.plan.now }
+    requires shown { IsShown stopped breaks.now }
+    ensures view { IfOk result (λ text. (notes : List (List ℕ)) × AreNotesAsked replay.now.valid.now replay.now.plan.now replay.now.log.now replay.now.order.now choice.notes (world_of world.now) notes
+        × IsView shared_memory thread_code (world_of world.now) block stopped breaks.now notes choice.range.from choice.range.len (string_bytes text)) }
     ensures within { IfOk result (λ text. choice.range.from + choice.range.len ≤ length (memory_bytes shared_memory (world_of world.now))) }
     ensures fault { IfErr result (IsFault (memory_bytes shared_memory (world_of world.now)) choice.range.from choice.range.len) }
 {
@@ -65,7 +67,7 @@ fn show(
     if !is_in_view(world, range.from, range.len) {
         return Err(ViewFault::OutOfView);
     }
-    let Ok(notes) = notes_if(alloc, choice.notes, valid, world) else {
+    let Ok(notes) = notes_asked(alloc, choice.notes, replay, world) else {
         return Err(ViewFault::NoMemory);
     };
     view(
@@ -82,7 +84,7 @@ fn show(
 /// Replays a log that was gathered, in this order, up to the first break that holds, or until no thread goes on, and
 /// shows the world at which it stops. On a log below that of a run of the module and plan, the values and threads of
 /// that world are recorded ones alone. Where it is asked for, behind the line of each thread stands where it is, by the
-/// module's bytes. That the range passes that world's memory is said before any want of memory for its view.
+/// module's bytes, or of one that trapped, where it was before the last of its steps. That the range passes that world's memory is said before any want of memory for its view.
 pub fn view_log(
     alloc: Global,
     valid: &Valid,
@@ -109,8 +111,21 @@ pub fn view_log(
         return Err(WasmViewFault::Replay(refused));
     }
     let block = memory_limits(valid.module(), log.key().profile).block;
-    let world = replay.world();
-    match show(alloc, valid, world, block, stopped, breaks, choice) {
+    let again = OrderedReplay {
+        valid,
+        plan,
+        log,
+        order,
+    };
+    match show(
+        alloc,
+        &again,
+        replay.world(),
+        block,
+        stopped,
+        breaks,
+        choice,
+    ) {
         Ok(text) => Ok(text),
         Err(fault) => Err(WasmViewFault::View(fault)),
     }

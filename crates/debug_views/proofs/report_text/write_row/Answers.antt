@@ -1,7 +1,7 @@
-use Rattle.std.proofs.Common.{◌≡◌, ℕ, List, ◌+◌, ◌-◌, ◌*◌, ◌++◌, take, drop, true, false, sym, ap, ◌∙◌, arith}
+use Rattle.std.proofs.Common.{ℕ, List, ◌*◌, ◌++◌, sym, ap, ◌∙◌}
 use Rattle.std.specs.Prelude.{string_bytes, ◌==◌}
 use Rattle.std.specs.List.{list_all}
-use Rattle.debug_views.specs.Report.{bytes_of_row, shown}
+use Rattle.debug_views.specs.Report.{shown}
 use Rattle.debug_views.proofs.Rows.{no_row, one_row, same_row}
 use Rattle.debug_views.proofs.report_text.write_row.Goals as goal
 

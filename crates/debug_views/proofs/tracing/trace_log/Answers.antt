@@ -6,8 +6,7 @@ use Rattle.replay_breaks.specs.Notes.{notes}
 use Rattle.wasm_replay.specs.Replays.{gathered_log}
 use Rattle.wasm_types.specs.Memories.{block_power}
 use Rattle.wasm_world.specs.ThreadCode.{thread_code}
-use Rattle.debug_views.specs.Standing.{notes_of}
-use Rattle.debug_views.specs.Text.{IsView}
+use Rattle.debug_views.specs.ThreadNotes.{AreNotes}
 use Rattle.debug_views.specs.Trace.{asked_with, trace_note}
 use Rattle.debug_views.specs.Traces.{asked_of}
 use Rattle.debug_views.proofs.Stopping.{shown}
@@ -15,8 +14,11 @@ use Rattle.debug_views.proofs.TraceLaws.{asked_same, lines_of, trace_of}
 use Rattle.debug_views.proofs.tracing.trace_log.Goals as goal
 
 pub view_at-requires : goal.view_at-requires
-view_at-requires c = shown c.args.valid.now c.args.plan.now c.args.log.now c.in-Ok.replay.log.log.now c.args.order.now c.args.breaks.now (world_of c.in-Ok.replay.world) (world_of c.run_watched-stopped.new.replay.world)
-    c.run_watched-stopped.result c.run_watched-stopped.ensures.stops c.in_default-stopped.not-Fault
+view_at-requires c = record {
+  suits = c.requires;
+  shown = shown c.args.valid.now c.args.plan.now c.args.log.now c.in-Ok.replay.log.log.now c.args.order.now c.args.breaks.now (world_of c.in-Ok.replay.world) (world_of c.run_watched-stopped.new.replay.world)
+      c.run_watched-stopped.result c.run_watched-stopped.ensures.stops c.in_default-stopped.not-Fault;
+}
 
 pub returns-in-Ok-with_view : goal.returns-in-Ok-with_view
 returns-in-Ok-with_view c =
@@ -39,11 +41,11 @@ returns-in-Ok-with_view c =
     record {
       of_run = c.in-Ok.ensures.of_run;
       has_world = c.in-Ok.ensures.has_world;
-      traced = trace_of m plan log handed order breaks opened v asked (world_of c.world-2.result.now) c.run_watched-stopped.result c.memory_limits-block.result.block lines _ _
-          c.run_watched-stopped.ensures.stops c.in-Ok.ensures.log c.in-Ok.ensures.world (ap (λ x. world_of x) c.world-2.ensures.same)
+      traced = trace_of m plan log handed order breaks opened v asked (world_of c.world-world.result.now) c.run_watched-stopped.result c.memory_limits-block.result.block lines _ _
+          c.run_watched-stopped.ensures.stops c.in-Ok.ensures.log c.in-Ok.ensures.world (ap (λ x. world_of x) c.world-world.ensures.same)
           (ap (λ l. l.block) c.memory_limits-block.ensures ∙ ap (λ k. block_power k.profile) c.key.ensures)
           (shown m plan log handed order breaks opened v c.run_watched-stopped.result c.run_watched-stopped.ensures.stops c.in_default-stopped.not-Fault)
-          (subst (λ p. IsView shared_memory thread_code (world_of c.world-2.result.now) c.memory_limits-block.result.block c.run_watched-stopped.result breaks (notes_of p (world_of c.world-2.result.now).threads) 0 0 (string_bytes c.in-Ok-view_at.view)) of_module c.in-Ok-view_at.ensures)
+          c.in-Ok-view_at.ensures.0 (subst (λ p. AreNotes m plan log order p (world_of c.world-world.result.now) c.in-Ok-view_at.ensures.0) of_module c.in-Ok-view_at.ensures.1) c.in-Ok-view_at.ensures.2
           (lines_of m plan log handed order breaks opened v asked c.in-Ok.replay.opens c.in-Ok.ensures.log c.in-Ok.ensures.opens c.in-Ok.ensures.world c.run_watched-stopped.ensures.way noted.turns lines noted.at is)
           (c.in-Ok-with_view.ensures.1 ∙ ap (λ t. lines ++ t) c.deref.ensures);
       refused = tt;

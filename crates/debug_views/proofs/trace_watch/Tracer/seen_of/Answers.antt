@@ -1,7 +1,7 @@
-use Rattle.std.proofs.Common.{◌≡◌, ◌<◌, ◌≤◌, true, false, length, get_or, sym, ◌∙◌, arith}
+use Rattle.std.proofs.Common.{◌<◌, false, sym, ◌∙◌, arith}
 use Rattle.std.proofs.lemmas.Option.{get_or_from_slice_get}
 use Rattle.event_core.specs.World.{world_of}
-use Rattle.debug_views.specs.Trace.{is_of_ranges, is_of_threads, seen_of}
+use Rattle.debug_views.specs.Trace.{is_of_threads, seen_of}
 use Rattle.debug_views.proofs.TraceLaws.{seen_asked, seen_not, seen_past}
 use Rattle.debug_views.proofs.trace_watch.Tracer.seen_of.Goals.{then-at-count-via-then-at-count, then-at-count-via-else-at-count+then-not-self-at}
 use Rattle.debug_views.proofs.trace_watch.Tracer.seen_of.Goals as goal
