@@ -5,7 +5,7 @@ usage: growths.py PATH_OF_WREPLAY [WORD..]
        growths.py PATH_OF_WREPLAY_BENCH
 
 The commands are those of `crates/worked_rows/data/commands` that have one of the words, and recordings by threads that come to the
-same each time; without a word those of the counter's first run, those of five waiting threads, a hunt, and these recordings. A small library, made by the C compiler and loaded before the system's, answers
+same each time; without a word those of the counter's first run, those of five waiting threads, those of two that trap, a hunt, and these recordings. A small library, made by the C compiler and loaded before the system's, answers
 one of the program's calls for memory with none: the first, then the second, and so on until a run asks for no more. Each time
 the program must do one of two things: exactly what it does with ample memory, or exit with 1, the output empty, and on
 standard error one line `refused N NoMemory`, with `--why` and one more line. Behind each such run the same command is run again with ample memory and must
@@ -42,8 +42,11 @@ WITH_REASONS = [
     "chart --only 1,0 --to 1.1 --why < first.pieces",
     "chart --skip < first.pieces",
     "trace counter.wasm counter.plan first.pieces --only 0,1 --bytes 0+4 --bytes 60+8 --offsets --why",
+    "record traps.wasm traps.plan --schedule traps.schedule --report --offsets --why",
+    "replay traps.wasm traps.plan traps.pieces --offsets --why",
+    "replay traps.wasm traps.plan traps.pieces --threads --offsets --why",
 ]
-USUAL = ["first.", "five.", "hunt counter.wasm counter.plan --until 'thread 0 i32 3'", *BY_THREADS]
+USUAL = ["first.", "five.", "traps.plan", "hunt counter.wasm counter.plan --until 'thread 0 i32 3'", *BY_THREADS]
 
 LIBRARY = r"""
 #include <errno.h>

@@ -1,7 +1,8 @@
 #!/usr/bin/env python3
-"""Puts lines of source behind the offsets that `wreplay trace --offsets` and `wreplay view --offsets` write.
+"""Puts lines of source behind the offsets that `wreplay trace`, `view`, `replay` and `record --report` write with --offsets.
 
 usage: wreplay trace MODULE PLAN PIECES --offsets | lines.py MODULE [TWIN]
+       wreplay replay MODULE PLAN PIECES --offsets | lines.py MODULE [TWIN]
 
 `put+17 0x1d3` becomes `put+17 0x1d3 queue.c:63`. The lines are what llvm-symbolizer finds in the DWARF of MODULE. If that has none,
 TWIN is a module of the same code that has: linked from the same source, compiled with -g as well. LLVM_SYMBOLIZER names the program.

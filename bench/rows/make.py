@@ -11,9 +11,12 @@ DATA = os.path.join(TARGET, 'data')
 os.makedirs(DATA, exist_ok=True)
 script, expected = [], []
 
+kept = {}
 def keep(name, content):
-    with open(os.path.join(DATA, name), 'wb') as file:
-        file.write(content if isinstance(content, bytes) else content.encode())
+    """A file, of one content for all commands."""
+    content = content if isinstance(content, bytes) else content.encode()
+    assert kept.setdefault(name, content) == content, name
+    with open(os.path.join(DATA, name), 'wb') as file: file.write(content)
     return name
 
 def command(line, output='', errors='', status=0):
@@ -551,6 +554,121 @@ refused('chart < short.pieces', '43 BadLine 1')
 for words in ('--by-object --objects', '--contradictions --by-object --only 1'):
     usage('gather ' + words, "'gather' takes '--by-object' without '--objects' and '--contradictions'")
 command('--version', 'wreplay 0.1.0\n')
+
+# ---- where threads stand that have not returned: behind the lines of reports, views and traces
+
+NAMES, OFFSETS, BOTH = NOTES = (('names',), ('offsets',), ('names', 'offsets'))
+def flags(notes): return ''.join(' --' + note for note in notes)
+def are(notes): return 'names' in notes, 'offsets' in notes
+def shown_of(module, plan, world, files, pieces, order, stop_at, notes):
+    """A view where a thread has made so many steps, or of the end; no bytes are shown."""
+    turns = [int(n) for n in order.split(',')] if order else []
+    words = (' --order ' + order if order else '') + (' --step %d.%d' % stop_at if stop_at else '') + ' --len 0' + flags(notes)
+    command('view %s %s.pieces%s' % (files, pieces, words), view(*stop(World(module, plan), *log_of(world), turns, step=stop_at), 0, 0, *are(notes)))
+def log_of(world):
+    return ({(t.n, p): e for t in world.threads for p, e in enumerate(t.entries)}, {t.n: (t.steps, len(t.entries), world.outcome(t)) for t in world.threads})
+def noted(name, module_file, module, plan_file, plan, schedule, orders=('',), steps=None, stops=(), threads=False):
+    """One schedule, with where threads stand: its report, those of its replays, its views and its traces. Where threads come to
+    the same whatever the schedule is, also what they record at once."""
+    keep(module_file, module.bytes); keep(plan_file, plan); keep(name + '.schedule', schedule)
+    world = run_of(name, module, plan, schedule, steps=1000000 if steps is None else steps)
+    files = '%s %s' % (module_file, plan_file)
+    recording = 'record %s --schedule %s.schedule' % (files, name) + (' --steps %d' % steps if steps is not None else '')
+    for notes in NOTES: command(recording + ' --report' + flags(notes), world.report(*are(notes)))
+    if threads:
+        for notes in (NAMES, OFFSETS): command('record %s --threads --report%s' % (files, flags(notes)), world.report(*are(notes)))
+    pieces = '%s > %s.pieces' % (recording, name)
+    if pieces not in script: command(pieces)
+    replay = 'replay %s %s.pieces' % (files, name)
+    for order in orders:
+        for notes in (NAMES, BOTH) if order == orders[0] else (OFFSETS,): command(replay + (' --order ' + order if order else '') + flags(notes), world.report(*are(notes)))
+    for notes in (NAMES, OFFSETS): command(replay + ' --threads' + flags(notes), world.report(*are(notes)))
+    for n, order in enumerate(orders):
+        turns = [int(n) for n in order.split(',')] if order else []
+        shown_of(module, plan, world, files, name, order, None, NOTES[n % 2])
+        has_offsets = n % 2 == 0
+        command('trace %s %s.pieces%s%s' % (files, name, ' --order ' + order if order else '', ' --offsets' if has_offsets else ''), trace(World(module, plan), *log_of(world), turns, offsets=has_offsets))
+    for n, stop_at in enumerate(stops): shown_of(module, plan, world, files, name, orders[n % len(orders)], stop_at, NOTES[n % 2])
+    return world
+
+# traps of each kind, in the function itself, in those that it calls, and at the first instruction; a thread that waits; one that returned
+I32 = lambda *numbers: [('i32.const', n) for n in numbers]
+STANDING = [
+    ('first', [], 'i32', ['unreachable', 'end']),
+    ('later', [], None, I32(1) + ['drop', 'unreachable', 'end']),
+    ('divide', ['i32', 'i32'], 'i32', [('local.get', 0), ('local.get', 1), 'i32.div_s', 'end']),
+    ('ratio', ['i32'], 'i32', I32(6) + [('local.get', 0), ('call', 2)] + I32(1) + ['i32.add', 'end']),
+    ('twice', ['i32'], 'i32', [('local.get', 0), ('call', 3), 'end']),
+    ('element', ['i32'], 'i32', I32(-2147483648, -1) + [('local.get', 0), ('call_indirect', 2), 'end']),
+    ('deep', [], None, [('call', 6), 'end']),
+    ('past', [], 'i32', load(65536)),
+    ('beyond', [], 'i32', load(131072)),
+    ('odd', [], 'i32', I32(2) + ['i32.atomic.load', 'end']),
+    ('sleep', [], 'i32', wait(0, 0, -1)),
+    ('sleeper', [], 'i32', [('call', 10)] + I32(1) + ['i32.add', 'end']),
+    ('seven', [], 'i32', I32(7) + ['end']),
+    ('writes', [], 'i32', I32(64, 5) + ['i32.store', ('call', 7), 'end']),
+]
+TABLE = (2, None, 0)
+PLACED = {0: 'first', 2: 'divide', 3: 'gr\u00f6\u00dfe::of', 4: 'two\nlines', 5: 'turned\u202e', 7: 'past', 10: 'atomic wait', 13: ''}
+STANDS = Module(STANDING, (1, 2, True), table=TABLE)
+NAMED = Module(STANDING, (1, 2, True), table=TABLE, names=PLACED)
+EACH = plan_of('first', 'later', 'ratio 0', 'ratio 4', 'twice 0', 'element 0', 'element 1', 'element 2', 'element 3', 'past', 'beyond', 'odd', 'sleeper', 'seven', 'writes')
+SOME = plan_of('first', 'later', 'twice 0', 'element 1', 'past', 'sleeper', 'writes')
+def all_go(count): return b''.join(b'go %d 99\n' % n for n in range(count))
+noted('stands', 'stands.wasm', STANDS, 'each.plan', EACH, all_go(15), ('', '14,14,12,4,4,4,4,4'), stops=((4, 8), (4, 7), (0, 1)), threads=True)
+noted('named', 'named.wasm', NAMED, 'some.plan', SOME, all_go(7), ('', '6,6,5,2,2,2,2,2'), stops=((2, 8), (2, 7), (5, 4), (0, 1), (0, 0)), threads=True)
+# a thread that stands in the midst of functions, since its schedule or its steps end there
+TWICE = plan_of('twice 0', 'sleeper', 'element 0')
+noted('midst', 'named.wasm', NAMED, 'twice.plan', TWICE, b'go 0 7\ngo 1 3\ngo 2 5\n', ('', '2,0,1', '1,1,1,1,0'), stops=((0, 5), (1, 2), (0, 8)))
+noted('halted', 'named.wasm', NAMED, 'twice.plan', TWICE, b'go 0 99\ngo 1 99\ngo 2 99\n', steps=4)
+noted('unbegun', 'stands.wasm', STANDS, 'twice.plan', TWICE, b'')
+# a stack of as many functions as there may be
+DEEP = World(STANDS, plan_of('deep', 'seven')).tries([(0, True, 999), (1, True, 9)])
+keep('deep.plan', plan_of('deep', 'seven')); keep('deep.schedule', b'go 0 999\ngo 1 9\n')
+command('record stands.wasm deep.plan --schedule deep.schedule --report --names', DEEP.report(True))
+command('record stands.wasm deep.plan --schedule deep.schedule > deep.pieces')
+command('replay stands.wasm deep.plan deep.pieces --threads --names', DEEP.report(True))
+# the start function, before which the exported one waits
+BEGUN = [('check', [], None, I32(1, 0) + ['i32.load', 'i32.div_s', 'drop', 'end']), ('main', [], 'i32', I32(0, 0) + ['i32.store', ('call', 2), 'end']), ('fail', [], 'i32', ['unreachable', 'end'])]
+for name, names in (('begun', None), ('begins', {0: 'check', 1: 'main'})):
+    BEGINS = Module(BEGUN, data=((0, b'\1'),), start=0, names=names)
+    for run, schedule, order in (('1', b'go 0 99\ngo 1 99\n', '0,0,0,0,1'), ('2', b'go 1 6\ngo 0 99\ngo 1 99\n', '1,0,1,0,1')):
+        noted(name + run, name + '.wasm', BEGINS, 'begun.plan', plan_of('main', 'main'), schedule, ('', order), stops=((1, 3), (0, 9)))
+# the modules above: all return, accesses that trap, one of them by the order of the run, a memory that is not shared, waits
+noted('done', 'counter.wasm', COUNTER, 'counter.plan', TWO, b'go 0 3\ngo 1 8\ngo 0 5\n')
+noted('traps', 'traps.wasm', TRAPS, 'traps.plan', plan_of('d', 'u'), b'go 0 9\ngo 1 9\n', threads=True)
+noted('reader', 'grow.wasm', GROW, 'grow.plan', GROWS, b'go 1 3\ngo 0 3\n', ('', '1,1'), stops=((1, 1), (1, 2)))
+noted('alone', 'alone.wasm', ALONE, 'alone.plan', plan_of('f'), b'go 0 9\n', threads=True)
+noted('asleep', 'five.wasm', FIVE, 'five.plan', FIVES, b'go 2 4\ngo 0 4\ngo 1 4\ngo 3 4\ngo 4 3\n')
+noted('limited2', 'limited.wasm', LIMITED, 'limited.plan', plan_of('f', 'n'), b'go 0 4\ngo 1 4\nout 0\ngo 0 2\n')
+# runs that numbers draw
+def drawn_notes(module_file, module, plan_file, plan, number, timeouts=False):
+    world = World(module, plan); world.draw(number, timeouts)
+    words = 'record %s %s --random --run %d%s' % (module_file, keep(plan_file, plan), number, ' --timeouts now' if timeouts else '')
+    for notes in NOTES: command(words + ' --report' + flags(notes), world.report(*are(notes)))
+    pieces = 'noted_%s_%d.pieces' % (module_file[:-5], number)
+    command('%s > %s' % (words, pieces))
+    command('replay %s %s %s --order 1,0 --names' % (module_file, plan_file, pieces), world.report(True))
+    command('replay %s %s %s --threads --offsets' % (module_file, plan_file, pieces), world.report(False, True))
+for number in range(4):
+    drawn_notes('named.wasm', NAMED, 'three.plan', plan_of('writes', 'sleeper', 'twice 0'), number)
+    drawn_notes('begins.wasm', BEGINS, 'begun.plan', plan_of('main', 'main'), number)
+    drawn_notes('limited.wasm', LIMITED, 'limited.plan', plan_of('f', 'n'), number, True)
+# notes change no refusal, and a recording has them in its report alone
+for notes in NOTES:
+    for more in (' --schedule third.schedule', ' --threads', ' --random --run 1', ' --threads --size 4097'):
+        usage(RECORD + more + flags(notes), "'record' takes '--names' and '--offsets' with '--report'")
+    usage(RECORD + flags(notes), "'record' takes one of '--schedule <FILE>', '--threads' and '--random'")
+    usage(RECORD + ' --threads --run x' + flags(notes), "'--run <N>' takes a number from 0 to 18446744073709551615")
+    usage(RECORD + ' --threads --block 96' + flags(notes), "'--block <N>' takes 64, 128, 256, 512, 1024, 2048 or 4096")
+    usage('replay counter.wasm counter.plan third.pieces --order 1,0 --threads' + flags(notes), "'replay' takes either '--order <LIST>' or '--threads'")
+    usage('replay counter.wasm counter.plan third.pieces --order 1,' + flags(notes), "'--order <LIST>' takes 1 to 1000000 thread numbers, joined by commas")
+    command(RECORD + ' --schedule third.schedule --size 4097 --report' + flags(notes), '', 'refused 32 TooMany\n', 1)
+    command('record bad.wasm counter.plan --schedule third.schedule --report' + flags(notes), '', 'refused 1 Refused 33\n', 1)
+    for turns in ('', ' --threads'):
+        for pieces, text in (('missing', '53 Missing 1 0'), ('clash', '52 Clash 0 0'), ('version', '57 Stuck'), ('kind', '55 Diverged 0 0'), ('absent', '44 SourceFailed')):
+            command('replay counter.wasm counter.plan %s.pieces%s%s' % (pieces, turns, flags(notes)), '', 'refused %s\n' % text, 1)
 
 keep('commands', '\n'.join(script) + '\n')
 with open(os.path.join(TARGET, 'stdout'), 'w') as file: file.write(''.join(expected))

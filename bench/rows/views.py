@@ -1,5 +1,4 @@
 """Views of replays that stop, by the model: a turn is tried on a copy of the world, and kept where its entry is the log's."""
-import copy
 from model import SIZE
 
 def turn(world, entries, ends, n):
@@ -9,7 +8,7 @@ def turn(world, entries, ends, n):
     if (t.steps, len(t.entries), world.outcome(t)) == ends[n]: return None
     place = len(t.entries)
     entry = entries.get((n, place))
-    tried = copy.deepcopy(world)
+    tried = world.copied()
     if not tried.pick(n, not (t.sleep is not None and entry is not None and entry[0] == 'timedout'), 10**9): return None
     made = tried.threads[n].entries[place:]
     if made and made[0] != entry: return None
@@ -38,13 +37,8 @@ def stop(world, entries, ends, order, place=None, step=None, write=None):
     done = all((t.steps, len(t.entries), world.outcome(t)) == ends.get(t.n) for t in world.threads)
     return ('finished' if done else 'stuck'), world
 
-def standing(world, t, offsets):
-    f = world.m.funcs.index(t.f)
-    return '%d+%d' % (f, t.pc) + (' 0x%x' % world.m.offsets[f][t.pc] if offsets else '')
-
 def thread_line(world, t, names, offsets):
-    note = ' at ' + standing(world, t, offsets) if (names or offsets) and t.out is None else ''
-    return 'thread %d steps %d places %d %s%s\n' % (t.n, t.steps, len(t.entries), world.outcome(t), note)
+    return 'thread %d steps %d places %d %s%s\n' % (t.n, t.steps, len(t.entries), world.outcome(t), world.note(t, names, offsets))
 
 def view(stopped, world, start, length, names=False, offsets=False):
     out = stopped + '\n'
@@ -66,8 +60,7 @@ def action(world, n, kind):
     """The word, address and size of a thread's next event, a number that it is told with, and whether it writes."""
     t = world.threads[n]
     if t.sleep is not None: return ('woken' if kind == 'woken' else 'timed out'), t.sleep[0], None, None, False
-    i = t.f[3][t.pc]
-    name = i[0] if isinstance(i, tuple) else i
+    name = world.next(t)[0]
     args = [v for _, v in t.stack]
     if name == 'memory.size': return 'size', None, None, None, False
     if name == 'memory.grow': return 'grow', None, None, args[-1], True
@@ -81,7 +74,7 @@ def action(world, n, kind):
 def event_line(before, after, n, kind, offsets):
     t, u = before.threads[n], after.threads[n]
     word, addr, size, told, writes = action(before, n, kind)
-    line = '%d.%d %s %s' % (n, len(t.entries), standing(before, t, offsets), word)
+    line = '%d.%d %s %s' % (n, len(t.entries), before.m.place(*t.standing()[0], offsets), word)
     if size is not None or word in ('size', 'grow'):
         old, new = (found_at(w, addr, size) if size is not None else w.length // 65536 for w in (before, after))
         if size is not None: line += ' %d i%d' % (addr, 8 * size)

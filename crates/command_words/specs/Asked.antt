@@ -13,6 +13,8 @@ use Rattle.command_words.specs.declared.requests.GatherForm.{GatherForm}
 use Rattle.command_words.specs.declared.requests.GatherForm.TheVariants as written
 use Rattle.command_words.specs.declared.requests.RecordOrder.{RecordOrder}
 use Rattle.command_words.specs.declared.requests.RecordOrder.TheVariants as order
+use Rattle.command_words.specs.declared.requests.RecordForm.{RecordForm}
+use Rattle.command_words.specs.declared.requests.RecordForm.TheVariants as recorded
 use Rattle.command_words.specs.declared.requests.RecordRequest.{RecordRequest}
 use Rattle.command_words.specs.declared.requests.HuntForm.{HuntForm}
 use Rattle.command_words.specs.declared.requests.HuntForm.TheVariants as form
@@ -65,6 +67,12 @@ IsOrderAsked rows (order.Threads times_out) =
 IsOrderAsked rows (order.Random times_out) =
     (first_of (codes "schedule") rows ≡ None) × (has_flag (codes "threads") rows ≡ false) × (has_flag (codes "random") rows ≡ true) × (times_out ≡ times_out_in rows)
 
+-- the values that a parser found say what is written: the pieces, or the report, which may say where threads stand
+abbrev pub IsRecordFormAsked : List Row → RecordForm → Type 0
+IsRecordFormAsked rows recorded.Pieces = (has_flag (codes "report") rows ≡ false) × (has_flag (codes "names") rows ≡ false) × (has_flag (codes "offsets") rows ≡ false)
+IsRecordFormAsked rows (recorded.Report names offsets) =
+    (has_flag (codes "report") rows ≡ true) × (names ≡ has_flag (codes "names") rows) × (offsets ≡ has_flag (codes "offsets") rows)
+
 -- the values that a parser found ask for this recording
 pub record IsRecordAsked (rows : List Row) (r : RecordRequest) : Type 0 where
   pub has_module : first_of (codes "MODULE") rows ≡ Some r.«module».now
@@ -75,7 +83,7 @@ pub record IsRecordAsked (rows : List Row) (r : RecordRequest) : Type 0 where
   pub has_size : number_of 4294967295 (first_of (codes "size") rows) ≡ Some r.size
   pub has_block : IsBlockOf (number_of 4294967295 (first_of (codes "block") rows)) r.block
   pub has_timeouts : (is_text (codes "never") (first_of (codes "timeouts") rows) || is_text (codes "now") (first_of (codes "timeouts") rows)) ≡ true
-  pub has_report : r.report ≡ is_text (codes "true") (first_of (codes "report") rows)
+  pub has_form : IsRecordFormAsked rows r.form
 
 -- the texts of an option that may be named any number of times
 abbrev pub texts_of : Text → List Row → List Text
@@ -194,7 +202,8 @@ IsAsked name rows (Gather skips form) = (skips ≡ has_flag (codes "skip") rows)
 IsAsked name rows (Check path) = (name ≡ codes "check") × (first_of (codes "MODULE") rows ≡ Some path.now)
 IsAsked name rows (Record r) = (name ≡ codes "record") × IsRecordAsked rows r
 IsAsked name rows (Hunt r) = (name ≡ codes "hunt") × IsHuntAsked rows r
-IsAsked name rows (Replay r by_threads) = (name ≡ codes "replay") × IsReplayAsked rows r × IsTurnsAsked rows by_threads
+IsAsked name rows (Replay r by_threads names offsets) =
+    (name ≡ codes "replay") × IsReplayAsked rows r × IsTurnsAsked rows by_threads × (names ≡ has_flag (codes "names") rows) × (offsets ≡ has_flag (codes "offsets") rows)
 IsAsked name rows (View v) = (name ≡ codes "view") × IsViewAsked rows v
 IsAsked name rows (Trace t) = (name ≡ codes "trace") × IsTraceAsked rows t
 

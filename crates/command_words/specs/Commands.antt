@@ -57,8 +57,16 @@ abbrev pub with_orders : App → App
 with_orders a = with_rule (with_rule (with_rule (with_rule a (option_rule (codes "schedule"))) (flag_rule (codes "threads"))) (flag_rule (codes "random")))
     (default_rule (codes "timeouts") (codes "never"))
 
+-- whether instructions have their offsets beside them
+abbrev pub with_offsets : App → App
+with_offsets a = with_rule a (flag_rule (codes "offsets"))
+
+-- whether functions are shown, and the offsets of instructions
+abbrev pub with_names : App → App
+with_names a = with_offsets (with_rule a (flag_rule (codes "names")))
+
 abbrev pub recording : App
-recording = with_why (with_rule (with_numbers (with_orders (on_program (new_app (codes "record"))))) (flag_rule (codes "report")))
+recording = with_why (with_names (with_rule (with_numbers (with_orders (on_program (new_app (codes "record"))))) (flag_rule (codes "report"))))
 
 -- which runs are caught
 abbrev pub with_signs : App → App
@@ -82,7 +90,7 @@ abbrev pub on_pieces : App → App
 on_pieces a = with_rule (with_rule (on_program a) (file_rule (codes "PIECES"))) (option_rule (codes "order"))
 
 abbrev pub replaying : App
-replaying = with_why (with_rule (on_pieces (new_app (codes "replay"))) (flag_rule (codes "threads")))
+replaying = with_why (with_names (with_rule (on_pieces (new_app (codes "replay"))) (flag_rule (codes "threads"))))
 
 abbrev pub with_breaks : App → App
 with_breaks a = with_rule (with_rule (with_rule a (option_rule (codes "place"))) (option_rule (codes "step"))) (option_rule (codes "write"))
@@ -90,14 +98,6 @@ with_breaks a = with_rule (with_rule (with_rule a (option_rule (codes "place")))
 -- which bytes are shown
 abbrev pub with_range : App → App
 with_range a = with_rule (with_rule a (default_rule (codes "from") (codes "0"))) (default_rule (codes "len") (codes "64"))
-
--- whether instructions have their offsets beside them
-abbrev pub with_offsets : App → App
-with_offsets a = with_rule a (flag_rule (codes "offsets"))
-
--- whether functions are shown, and the offsets of instructions
-abbrev pub with_names : App → App
-with_names a = with_offsets (with_rule a (flag_rule (codes "names")))
 
 abbrev pub viewing : App
 viewing = with_why (with_names (with_range (with_breaks (on_pieces (new_app (codes "view"))))))

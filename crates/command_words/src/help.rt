@@ -208,6 +208,15 @@ same run on every machine, so a loop over --run tries many schedules, and a run
 that shows a fault is named by its number. `--timeouts now` draws time-outs of
 waits too.
 
+With --names the report says of each thread that has not returned where it
+stands, as `wreplay view --help` says it: where it trapped, or what comes next,
+as in
+
+  thread 1 trap 4 out of bounds at put+17 from main+3
+
+With --offsets, which needs no --names, the offset of each instruction in the
+bytes of the module stands behind its number: `put+17 0x19e`.
+
 With --why standard error has the line `threads stopped at --steps N: T ..`
 where threads T were still running when they had made N steps.";
 
@@ -312,7 +321,16 @@ the run again at once. That saves time where threads compute for long between
 their accesses and cores are free; beside programs that keep all cores busy it
 can take many times as long as a replay in turns. What is written is the same;
 where there are several reasons to refuse the replay, it may name another of
-them than a replay in turns.";
+them than a replay in turns.
+
+With --names the line of a thread that has not returned ends with where it
+stands, as `wreplay view --help` says it: where it trapped, or what comes next,
+as in
+
+  thread 1 trap 4 out of bounds at put+17 from main+3
+
+With --offsets, which needs no --names, the offset of each instruction in the
+bytes of the module stands behind its number: `put+17 0x19e`.";
 
 /// How `replay` refuses.
 pub(crate) const REPLAY_REFUSALS: &str = "\
@@ -355,6 +373,9 @@ name in the module's name section, or by its number, `+`, and the instruction,
 numbered from 0; then its callers, as in
 
   thread 0 steps 5 places 1 running at bump+5 from main+3
+
+The instruction is the one that comes next, or of a thread that trapped the one
+that trapped.
 
 With --offsets, which needs no --names, the offset of each instruction in the
 bytes of the module stands behind its number, as engines print it: `bump+5

@@ -13,6 +13,6 @@ mod wanted;
 
 pub use command::{Asked, requested};
 pub use requests::{
-    GatherForm, HuntForm, HuntRequest, RecordOrder, RecordRequest, ReplayRequest, Request,
-    RunRange, ThreadCount, TraceRequest, ViewRequest,
+    GatherForm, HuntForm, HuntRequest, RecordForm, RecordOrder, RecordRequest, ReplayRequest,
+    Request, RunRange, ThreadCount, TraceRequest, ViewRequest,
 };

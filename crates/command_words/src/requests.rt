@@ -15,6 +15,16 @@ pub enum RecordOrder<'a> {
     Random { times_out: bool },
 }
 
+/// What is written of a recording.
+#[derive(Clone, Copy, Debug, PartialEq, Eq)]
+pub enum RecordForm {
+    /// Its pieces.
+    Pieces,
+    /// Its report, whether with the functions in which threads stand that have not returned, and whether with the
+    /// offsets of instructions in them.
+    Report { names: bool, offsets: bool },
+}
+
 /// A recording: the files of the module and the plan, how the threads go on, and how it is made and written.
 #[derive(Drop)]
 pub struct RecordRequest<'a> {
@@ -28,8 +38,7 @@ pub struct RecordRequest<'a> {
     /// The most entries of a piece.
     pub size: u32,
     pub block: Block,
-    /// Whether the report is wanted, and not the pieces.
-    pub report: bool,
+    pub form: RecordForm,
 }
 
 /// Numbers of runs that follow one another, all below 2^64 - 1.
@@ -168,10 +177,13 @@ pub enum Request<'a> {
     Record(RecordRequest<'a>),
     /// The pieces or the schedule of the first run that is caught, or a line for each run.
     Hunt(HuntRequest<'a>),
-    /// The report of a replay, whose threads take turns, or replay at once, as threads of the system.
+    /// The report of a replay, whose threads take turns, or replay at once, as threads of the system; whether with the
+    /// functions in which threads stand that have not returned, and whether with the offsets of instructions in them.
     Replay {
         replay: ReplayRequest<'a>,
         by_threads: bool,
+        names: bool,
+        offsets: bool,
     },
     /// A view of a replay that stops.
     View(ViewRequest<'a>),

@@ -142,6 +142,16 @@ static OF_RECORD: &[ArgumentRow] = &[
         takes: Takes::Nothing,
         help: "Write what the run came to",
     },
+    ArgumentRow {
+        name: "names",
+        takes: Takes::Nothing,
+        help: "With --report: say where each thread trapped, or waits",
+    },
+    ArgumentRow {
+        name: "offsets",
+        takes: Takes::Nothing,
+        help: "With --report: say it with the offset of each instruction",
+    },
     WHY,
 ];
 
@@ -215,6 +225,16 @@ static OF_REPLAY: &[ArgumentRow] = &[
         name: "threads",
         takes: Takes::Nothing,
         help: "Replay the threads at once, as the system lets them",
+    },
+    ArgumentRow {
+        name: "names",
+        takes: Takes::Nothing,
+        help: "Say where each thread trapped, or waits",
+    },
+    ArgumentRow {
+        name: "offsets",
+        takes: Takes::Nothing,
+        help: "Say it with the offset of each instruction in the module",
     },
     WHY,
 ];

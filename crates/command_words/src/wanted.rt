@@ -4,10 +4,11 @@ ghost use Rattle.std.specs.Prelude.{◌≡◌, ℕ, Bool, Option, codes, map, So
 ghost use Rattle.clap.specs.Words.{Row, rows_of, first_of};
 ghost use Rattle.clap.specs.Matches.{found_of};
 ghost use Rattle.command_words.specs.Words.{pair_in};
-ghost use Rattle.command_words.specs.Asked.{IsAsked, AreSizesAsked, IsByThreadsAsked, IsFormAsked, IsOrderAsked, IsRecordAsked, IsHuntAsked, IsRangeOfRuns, IsJobsAsked, IsReplayAsked, IsTurnsAsked, IsViewAsked, IsTraceAsked, IsCountAsked, IsRangeAsked, IsGatherAsked, IsBlockOf, has_flag, order_of, is_text, number_of, pair_of_option, ranges_of, texts_of};
+ghost use Rattle.command_words.specs.Asked.{IsAsked, AreSizesAsked, IsByThreadsAsked, IsFormAsked, IsOrderAsked, IsRecordFormAsked, IsRecordAsked, IsHuntAsked, IsRangeOfRuns, IsJobsAsked, IsReplayAsked, IsTurnsAsked, IsViewAsked, IsTraceAsked, IsCountAsked, IsRangeAsked, IsGatherAsked, IsBlockOf, has_flag, order_of, is_text, number_of, pair_of_option, ranges_of, texts_of};
 ghost use Rattle.command_words.specs.declared.requests.Request.{Request};
 ghost use Rattle.command_words.specs.declared.requests.Request.TheVariants as requests;
 ghost use Rattle.command_words.specs.declared.requests.RecordOrder.{RecordOrder};
+ghost use Rattle.command_words.specs.declared.requests.RecordForm.{RecordForm};
 ghost use Rattle.command_words.specs.declared.requests.RecordRequest.{RecordRequest};
 ghost use Rattle.command_words.specs.declared.requests.GatherForm.{GatherForm};
 ghost use Rattle.command_words.specs.declared.requests.HuntForm.{HuntForm};
@@ -22,8 +23,8 @@ ghost use Rattle.command_words.specs.declared.wanted.Sizes.{Sizes};
 use crate::numbers::{number_up_to, order_in, pair_in, small_number_up_to};
 use crate::report_texts::may_begin_all;
 use crate::requests::{
-    GatherForm, HuntForm, HuntRequest, RecordOrder, RecordRequest, ReplayRequest, Request,
-    RunRange, ThreadCount, TraceRequest, ViewRequest,
+    GatherForm, HuntForm, HuntRequest, RecordForm, RecordOrder, RecordRequest, ReplayRequest,
+    Request, RunRange, ThreadCount, TraceRequest, ViewRequest,
 };
 use clap::ArgMatches;
 use std::alloc::Global;
@@ -35,6 +36,9 @@ const MISSING: &str = "error: a value is missing\n";
 /// What is said where it is not clear how the threads of a recording go on.
 const BAD_RECORD_ORDER: &str =
     "error: 'record' takes one of '--schedule <FILE>', '--threads' and '--random'\n";
+
+/// What is said where notes of a report are wanted, and no report.
+const BAD_NOTES: &str = "error: 'record' takes '--names' and '--offsets' with '--report'\n";
 
 /// What is said of a number that is none.
 const BAD_RUN: &str = "error: '--run <N>' takes a number from 0 to 18446744073709551615\n";
@@ -173,6 +177,21 @@ fn record_order<'a>(matches: &ArgMatches<'a>) -> Option<RecordOrder<'a>>
     }
 }
 
+/// What is written of a recording, as the values of `record` say; None where notes are wanted, and no report.
+fn record_form(matches: &ArgMatches<'_>) -> Option<RecordForm>
+    ensures asked { IfSome result (IsRecordFormAsked (rows_of (found_of matches.now))) }
+    ensures none { IfNone result ((form : RecordForm) → IsRecordFormAsked (rows_of (found_of matches.now)) form → ⊥) }
+{
+    let report = has_text(matches, "report", "true");
+    let names = has_text(matches, "names", "true");
+    let offsets = has_text(matches, "offsets", "true");
+    match (report, names, offsets) {
+        (true, _, _) => Some(RecordForm::Report { names, offsets }),
+        (false, false, false) => Some(RecordForm::Pieces),
+        _ => None,
+    }
+}
+
 /// How long runs are, how their logs are cut, and when waits time out.
 #[derive(Clone, Copy)]
 struct Sizes {
@@ -228,6 +247,9 @@ fn recording_of<'a>(matches: &ArgMatches<'a>) -> Wanted<RecordRequest<'a>>
         Ok(sizes) => sizes,
         Err(wrong) => return Err(wrong),
     };
+    let Some(form) = record_form(matches) else {
+        return Err(BAD_NOTES);
+    };
     Ok(RecordRequest {
         module,
         plan,
@@ -236,7 +258,7 @@ fn recording_of<'a>(matches: &ArgMatches<'a>) -> Wanted<RecordRequest<'a>>
         steps: sizes.steps,
         size: sizes.size,
         block: sizes.block,
-        report: has_text(matches, "report", "true"),
+        form,
     })
 }
 
@@ -426,6 +448,28 @@ fn by_threads(matches: &ArgMatches<'_>) -> Option<bool>
         Some(_) if threads => None,
         _ => Some(threads),
     }
+}
+
+/// The report of that replay that the values of `replay` ask for.
+fn replaying_of<'a>(
+    matches: &ArgMatches<'a>,
+    replay: Wanted<ReplayRequest<'a>>,
+) -> Wanted<Request<'a>>
+    requires asked { IfOk replay (IsReplayAsked (rows_of (found_of matches.now))) }
+    requires none { OnErr replay ((r : ReplayRequest) → IsReplayAsked (rows_of (found_of matches.now)) r → ⊥) }
+    ensures asked { IfOk result (IsAsked (codes "replay") (rows_of (found_of matches.now))) }
+    ensures none { OnErr result ((r : Request) → IsAsked (codes "replay") (rows_of (found_of matches.now)) r → ⊥) }
+{
+    let replay = replay?;
+    let Some(by_threads) = by_threads(matches) else {
+        return Err(BAD_TURNS);
+    };
+    Ok(Request::Replay {
+        replay,
+        by_threads,
+        names: has_text(matches, "names", "true"),
+        offsets: has_text(matches, "offsets", "true"),
+    })
 }
 
 /// The two numbers that an option has, if it is there.
@@ -650,13 +694,7 @@ pub(crate) fn request_of<'a>(
                 Err(wrong) => Ok(Err(wrong)),
             }
         }
-        "replay" => match replay_of(alloc, matches)? {
-            Ok(replay) => match by_threads(matches) {
-                Some(by_threads) => Ok(Ok(Request::Replay { replay, by_threads })),
-                None => Ok(Err(BAD_TURNS)),
-            },
-            Err(wrong) => Ok(Err(wrong)),
-        },
+        "replay" => Ok(replaying_of(matches, replay_of(alloc, matches)?)),
         "view" => match view_of(matches, replay_of(alloc, matches)?) {
             Ok(view) => Ok(Ok(Request::View(view))),
             Err(wrong) => Ok(Err(wrong)),

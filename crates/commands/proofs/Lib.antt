@@ -8,3 +8,5 @@ pub mod Traced
 pub mod Least
 pub mod Rest
 pub mod Forms
+pub mod Wanting
+pub mod Delivering

@@ -1,5 +1,5 @@
 -- Ends at which no thread could still go on, if none may.
-use Rattle.std.proofs.Common.{◌≡◌, Bool, true, false, ◌&&◌, ◌||◌, refl, sym, ap, ◌∙◌}
+use Rattle.std.proofs.Common.{◌≡◌, Bool, true, false, ◌&&◌, ◌||◌, refl, ap, ◌∙◌}
 use Rattle.std.specs.Prelude.{not}
 
 pub not_at_rest : (rest shown : Bool) → rest ≡ false → (rest && shown) ≡ false

@@ -21,7 +21,7 @@ use Rattle.command_words.specs.declared.requests.HuntForm.{HuntForm}
 use Rattle.command_words.specs.declared.requests.HuntForm.TheVariants as form
 use Rattle.command_words.specs.declared.requests.HuntRequest.{HuntRequest}
 use Rattle.commands.specs.Inputs.{IsProgram, IsProgramRefused}
-use Rattle.commands.specs.Records.{AnswerAt, is_running, recorded_text}
+use Rattle.commands.specs.Records.{AnswerAt, is_running, pieces_text}
 use Rattle.commands.specs.Least.{NoneIsCaught, IsLeastCaught, AreListed}
 use Rattle.commands.specs.Signs.{is_caught, signs_in, wants_faults}
 use Rattle.commands.specs.declared.fault.Fault.{Fault}
@@ -116,13 +116,13 @@ module _ (m : Module) (plan : PlanValue) (r : HuntRequest) where
     pub few : r.size ≤ 4096
     pub key : IsKeyOf m plan number (Two r.block) recording.key
     pub is_run : IsRunOfNumber number recording.recorded
-    pub text : answer.text ≡ recorded_text false r.size recording
+    pub text : answer.text ≡ pieces_text r.size recording
     pub told : answer.told ≡ caught_text r number (report_text recording.recorded.end)
 
   -- the text of the run by these picks: the schedule itself, or the lines of its pieces
   abbrev pub IsTextOf : Bool → List Pick → RecordingAt → List ℕ → Type 0
   IsTextOf true picks recording text = schedule_of text ≡ Ok picks
-  IsTextOf false picks recording text = text ≡ recorded_text false r.size recording
+  IsTextOf false picks recording text = text ≡ pieces_text r.size recording
 
   -- the schedule of the run that is caught, or the lines of the pieces of its run, which is caught too
   pub record IsScheduleAnswer (answer : AnswerAt) : Type 0 where
@@ -160,7 +160,7 @@ module _ (m : Module) (plan : PlanValue) (r : HuntRequest) where
     pub found : IsCaughtRun number recording
     pub some : 0 < r.size
     pub few : r.size ≤ 4096
-    pub text : answer.text ≡ recorded_text false r.size recording
+    pub text : answer.text ≡ pieces_text r.size recording
     pub told : answer.told ≡ caught_text r number (report_text recording.recorded.end)
 
   -- the line of the run of a number

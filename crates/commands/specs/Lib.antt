@@ -3,6 +3,7 @@ pub mod Files
 pub mod Checks
 pub mod Inputs
 pub mod Memory
+pub mod Notes
 pub mod Records
 pub mod Signs
 pub mod Least

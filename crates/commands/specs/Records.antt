@@ -15,7 +15,16 @@ use Rattle.wasm_record.specs.Cut.{pieces_of, IsPiecesFault}
 use Rattle.wasm_types.specs.declared.sizes.TheConstants.{MOST_STEPS}
 use Rattle.wasm_record.specs.ThreadLogAt.{ThreadLogAt, RecordedAt}
 use Rattle.wasm_record.specs.Recordings.{RecordingAt, IsKeyOf, RecordsRun, RecordsThreads, RecordsRandom}
-use Rattle.debug_views.specs.Report.{report_text}
+use Rattle.debug_views.specs.Report.{noted_text}
+use Rattle.debug_views.specs.ThreadNotes.{AreNotesOfEnd}
+use Rattle.debug_views.specs.declared.notes.Notes.{Notes}
+use Rattle.debug_views.specs.declared.notes.Notes.TheVariants.{Nothing, Names, Offsets}
+use Rattle.replica.specs.declared.log.Log.{Log}
+use Rattle.replica.specs.Log.{key_of}
+use Rattle.replica.specs.LogOf.{Among, IsLogOf}
+use Rattle.command_words.specs.declared.requests.RecordForm.{RecordForm}
+use Rattle.command_words.specs.declared.requests.RecordForm.TheVariants.{Pieces, Report}
+use Rattle.commands.specs.Notes.{notes_by}
 use Rattle.command_words.specs.declared.requests.RecordOrder.{RecordOrder}
 use Rattle.command_words.specs.declared.requests.RecordOrder.TheVariants as order
 use Rattle.command_words.specs.declared.requests.RecordRequest.{RecordRequest}
@@ -23,7 +32,7 @@ use Rattle.commands.specs.Files.{IsFileFault}
 use Rattle.commands.specs.declared.files.InputFile.TheVariants as input
 use Rattle.commands.specs.Inputs.{IsProgram, IsProgramRefused}
 use Rattle.commands.specs.declared.fault.Fault.{Fault}
-use Rattle.commands.specs.declared.fault.Fault.TheVariants.{File, Schedule, Pieces, NoMemory}
+use Rattle.commands.specs.declared.fault.Fault.TheVariants.{File, Schedule, Pieces as Size, NoMemory}
 
 module _ (holds : List ℕ → Type 0) where
   -- the picks of the schedule in the file
@@ -37,14 +46,32 @@ module _ (holds : List ℕ → Type 0) where
 
 -- there are no pieces of so many entries, or there is no memory for the run or its text
 abbrev pub IsRecordRefusal : ℕ → Fault → Type 0
-IsRecordRefusal entries (Pieces fault) = IsPiecesFault entries fault
+IsRecordRefusal entries (Size fault) = IsPiecesFault entries fault
 IsRecordRefusal entries NoMemory = Unit {0}
 IsRecordRefusal entries _ = ⊥
 
--- the report of the run's end, or the lines of its pieces
-abbrev pub recorded_text : Bool → ℕ → RecordingAt → List ℕ
-recorded_text true entries r = report_text r.recorded.end
-recorded_text false entries r = flat_map line_of (pieces_of r.key r.recorded.threads entries)
+-- the lines of the pieces of a recording
+abbrev pub pieces_text : ℕ → RecordingAt → List ℕ
+pieces_text entries r = flat_map line_of (pieces_of r.key r.recorded.threads entries)
+
+module _ (m : Module) (plan : PlanValue) (entries : ℕ) (r : RecordingAt) where
+  -- of the log that the pieces of the recording make, where threads stand at the end of its replay
+  pub record AreNotesByReplay (asked : Notes) (notes : List (List ℕ)) : Type 0 where
+    pub log : Log
+    pub same_key : key_of log ≡ r.key
+    pub is_log : IsLogOf (Among (pieces_of r.key r.recorded.threads entries)) log
+    pub are_notes : AreNotesOfEnd m plan log [] asked notes
+
+  -- what is asked for of where threads stand at the end of the run
+  abbrev pub AreNotesOfRun : Notes → List (List ℕ) → Type 0
+  AreNotesOfRun Nothing notes = notes ≡ []
+  AreNotesOfRun Names notes = AreNotesByReplay Names notes
+  AreNotesOfRun Offsets notes = AreNotesByReplay Offsets notes
+
+  -- the lines of its pieces, or the report of the run's end, with what is asked for of where threads stand there
+  abbrev pub IsRecordedText : RecordForm → List ℕ → Type 0
+  IsRecordedText Pieces text = text ≡ pieces_text entries r
+  IsRecordedText (Report names offsets) text = (notes : List (List ℕ)) × AreNotesOfRun (notes_by names offsets) notes × (text ≡ noted_text notes r.recorded.end)
 
 abbrev pub is_running : Outcome → Bool
 is_running Running = true
@@ -69,11 +96,10 @@ pub record AnswerAt : Type 0 where
   pub text : List ℕ
   pub told : List ℕ
 
-abbrev pub answer_of : RecordRequest → RecordingAt → AnswerAt
-answer_of request r = record {
-  text = recorded_text request.report request.size r;
-  told = stopped_line request.steps (stopped_from request.steps 0 r.recorded.threads);
-}
+-- what a recording answers that asks for this
+pub record IsAnswer (m : Module) (plan : PlanValue) (request : RecordRequest) (r : RecordingAt) (answer : AnswerAt) : Type 0 where
+  pub text : IsRecordedText m plan request.size r request.form answer.text
+  pub told : answer.told ≡ stopped_line request.steps (stopped_from request.steps 0 r.recorded.threads)
 
 -- what was recorded is of a run of that number, is so, and is answered
 pub record IsAnswerOf (m : Module) (plan : PlanValue) (request : RecordRequest) (records : RecordedAt → Type 0) (answer : AnswerAt) : Type 0 where
@@ -82,7 +108,7 @@ pub record IsAnswerOf (m : Module) (plan : PlanValue) (request : RecordRequest) 
   pub few : request.size ≤ 4096
   pub key : IsKeyOf m plan request.run (Two request.block) recording.key
   pub is_recorded : records recording.recorded
-  pub is : answer ≡ answer_of request recording
+  pub is : IsAnswer m plan request recording answer
 
 -- the run that the picks make is recorded
 abbrev pub IsRunOf : Module → PlanValue → RecordRequest → List Pick → RecordedAt → Type 0

@@ -6,7 +6,9 @@ use Rattle.thread_plan.specs.Plans.{PlanValue}
 use Rattle.replica.specs.declared.log.Log.{Log}
 use Rattle.wasm_replay.specs.Replays.{IsOfRun, IsOrderedAnswer, EndsAsRecorded, IsRefusal}
 use Rattle.threaded_replay.specs.Threaded.{IsThreadsRefusal}
-use Rattle.debug_views.specs.Report.{report_text}
+use Rattle.debug_views.specs.Report.{noted_text}
+use Rattle.debug_views.specs.ThreadNotes.{AreNotesOfEnd}
+use Rattle.debug_views.specs.declared.notes.Notes.{Notes}
 use Rattle.commands.specs.Inputs.{IsProgram, IsProgramRefused, IsLogFile, IsLinesRefused}
 use Rattle.commands.specs.declared.fault.Fault.{Fault}
 use Rattle.commands.specs.declared.fault.Fault.TheVariants.{Replay, NoMemory}
@@ -17,12 +19,15 @@ pub record IsReplayEnd (m : Module) (plan : PlanValue) (log : Log) (order : List
   pub ordered : IsOrderedAnswer m plan log order end
   pub recorded : EndsAsRecorded m plan log end
 
--- the log can be of a run of the module and plan, and this is the report of that end
-pub record IsReplayReport (m : Module) (plan : PlanValue) (log : Log) (order : List ℕ) (text : List ℕ) : Type 0 where
+-- the log can be of a run of the module and plan, and this is the report of that end, with what is asked for of where
+-- threads stand there
+pub record IsReplayReport (m : Module) (plan : PlanValue) (log : Log) (order : List ℕ) (asked : Notes) (text : List ℕ) : Type 0 where
   pub of_run : IsOfRun m plan log
   pub end : RunEnd
   pub ends : IsReplayEnd m plan log order end
-  pub is : text ≡ report_text end
+  pub notes : List (List ℕ)
+  pub are_notes : AreNotesOfEnd m plan log order asked notes
+  pub is : text ≡ noted_text notes end
 
 -- the log is refused by the replay, or there is no memory for a text
 abbrev pub IsReplayRefusal : Module → PlanValue → Log → List ℕ → Fault → Type 0
@@ -53,12 +58,12 @@ module _ (holds : List ℕ → List ℕ → Type 0) where
       ⊎ ((m : Module) × (plan : PlanValue) × IsProgram holds request.«module».now request.plan.now m plan × IsLinesRefused (holds request.pieces.now) (fails request.pieces.now) fault)
 
   -- the report of the end, in turns or by threads: it is the same
-  pub record IsReplayedText (request : ReplayRequest) (text : List ℕ) : Type 0 where
+  pub record IsReplayedText (request : ReplayRequest) (asked : Notes) (text : List ℕ) : Type 0 where
     pub m : Module
     pub plan : PlanValue
     pub log : Log
     pub input : IsReplayInput request m plan log
-    pub report : IsReplayReport m plan log request.order.items text
+    pub report : IsReplayReport m plan log request.order.items asked text
 
   -- the files are refused, else the replay
   abbrev pub IsReplayRefused : (List ℕ → Type 0) → ReplayRequest → Bool → Fault → Type 0

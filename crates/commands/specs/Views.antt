@@ -1,5 +1,5 @@
 -- What `view` answers, by what its three files may hold.
-use Rattle.std.specs.Prelude.{◌≡◌, ◌⊎◌, ℕ, Bool, true, false, List, [], ◌∷◌, ◌++◌, Option, Some, None}
+use Rattle.std.specs.Prelude.{◌≡◌, ◌⊎◌, ℕ, List, [], ◌∷◌, ◌++◌, Option, Some, None}
 use Rattle.wasm_types.specs.declared.modules.Module.{Module}
 use Rattle.thread_plan.specs.Plans.{PlanValue}
 use Rattle.wasm_types.specs.Memories.{block_power}
@@ -8,8 +8,6 @@ use Rattle.replica.specs.Log.{key_of}
 use Rattle.debug_views.specs.Break.{Break}
 use Rattle.debug_views.specs.Break.TheVariants as break
 use Rattle.debug_views.specs.Writes.{IsWriteOfRange}
-use Rattle.debug_views.specs.declared.notes.Notes.{Notes}
-use Rattle.debug_views.specs.declared.notes.Notes.TheVariants.{Nothing, Names, Offsets}
 use Rattle.wasm_replay.specs.Replays.{IsOfRun}
 use Rattle.debug_views.specs.Views.{IsViewOfLog, IsNotViewed}
 use Rattle.debug_views.specs.declared.viewing.WasmViewFault.{WasmViewFault}
@@ -17,6 +15,7 @@ use Rattle.debug_views.specs.declared.viewing.WasmViewFault.TheVariants as viewi
 use Rattle.wasm_types.specs.declared.range.ByteRange.{ByteRange}
 use Rattle.command_words.specs.declared.requests.ThreadCount.{ThreadCount}
 use Rattle.command_words.specs.declared.requests.ViewRequest.{ViewRequest}
+use Rattle.commands.specs.Notes.{notes_by}
 use Rattle.commands.specs.Replays.{IsReplayInput, IsInputRefused}
 use Rattle.commands.specs.declared.fault.Fault.{Fault}
 use Rattle.commands.specs.declared.fault.Fault.TheVariants.{Replay, View}
@@ -37,12 +36,6 @@ AreWrites power (Some r) breaks = (b : Break) × IsWriteOfRange power r.from r.l
 -- the breaks of the request: at a place, at a step, behind a write
 abbrev pub AreBreaks : ViewRequest → ℕ → List Break → Type 0
 AreBreaks r power breaks = (writes : List Break) × AreWrites power r.write writes × (breaks ≡ place_break r.place ++ (step_break r.step ++ writes))
-
--- what is said of where threads stand: offsets stand beside names
-abbrev pub notes_by : Bool → Bool → Notes
-notes_by names true = Offsets
-notes_by true false = Names
-notes_by false false = Nothing
 
 module _ (m : Module) (plan : PlanValue) (log : Log) (r : ViewRequest) where
   -- the log can be of a run of the module and plan, and this is the view where its replay stops, at one of the breaks

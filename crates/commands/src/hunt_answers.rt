@@ -3,7 +3,7 @@
 ghost use Rattle.std.specs.Prelude.{◌≡◌, ◌<◌, ◌≤◌, false, IfOk};
 ghost use Rattle.debug_views.specs.Report.{report_text};
 ghost use Rattle.commands.specs.Hunts.{caught_text, shows};
-ghost use Rattle.commands.specs.Records.{recorded_text};
+ghost use Rattle.commands.specs.Records.{pieces_text};
 
 use crate::record_answer::RecordAnswer;
 use crate::signs::{is_caught, put_signs, signs_of};
@@ -61,7 +61,7 @@ pub(crate) fn caught_lines(
 ) -> Result<RecordAnswer, NoMemory>
     requires some { 0 < request.now.size }
     requires few { request.now.size ≤ 4096 }
-    ensures text { IfOk result (λ answer. answer.text ≡ recorded_text false request.now.size recording) }
+    ensures text { IfOk result (λ answer. answer.text ≡ pieces_text request.now.size recording) }
     ensures told { IfOk result (λ answer. answer.told ≡ caught_text request.now number (report_text recording.recorded.end)) }
 {
     let told = told_of(alloc, request, number, &recording)?;

@@ -1,7 +1,7 @@
 //! What a recording answers, to be written.
 
-ghost use Rattle.std.specs.Prelude.{◌≡◌, ◌+◌, ◌-◌, ◌^◌, ◌<◌, ◌≤◌, ℕ, List, ◌++◌, IfOk, OnOk, OnErr, false};
-ghost use Rattle.commands.specs.Records.{recorded_text};
+ghost use Rattle.std.specs.Prelude.{◌≡◌, ◌+◌, ◌-◌, ◌^◌, ◌<◌, ◌≤◌, ℕ, List, ◌++◌, IfOk, OnOk, OnErr};
+ghost use Rattle.commands.specs.Records.{pieces_text};
 
 use byte_streams::{Failed, Sink, write_all};
 use std::alloc::Global;
@@ -18,12 +18,12 @@ pub struct RecordedLines {
 }
 
 impl Model for RecordedLines {
-    ghost use Rattle.std.specs.Prelude.{ℕ, List, ◌<◌, ◌≤◌, false};
-    ghost use Rattle.commands.specs.Records.{recorded_text};
+    ghost use Rattle.std.specs.Prelude.{ℕ, List, ◌<◌, ◌≤◌};
+    ghost use Rattle.commands.specs.Records.{pieces_text};
 
     ghost Value = { List ℕ };
 
-    ghost view = { λ l. recorded_text false l.size l.recording };
+    ghost view = { λ l. pieces_text l.size l.recording };
 
     ghost invariant = { λ l. (0 < l.size) × (l.size ≤ 4096) };
 }
@@ -33,7 +33,7 @@ impl RecordedLines {
     fn new(alloc: Global, recording: Recording, size: u32) -> Result<RecordedLines, NoMemory>
         requires some { 0 < size }
         requires few { size ≤ 4096 }
-        ensures { IfOk result (λ lines. lines ≡ recorded_text false size recording) }
+        ensures { IfOk result (λ lines. lines ≡ pieces_text size recording) }
     {
         let room = LineRoom::new(alloc)?;
         Ok(RecordedLines {
@@ -101,7 +101,7 @@ impl RecordAnswer {
     ) -> Result<RecordAnswer, NoMemory>
         requires some { 0 < size }
         requires few { size ≤ 4096 }
-        ensures text { IfOk result (λ answer. answer.text ≡ recorded_text false size recording) }
+        ensures text { IfOk result (λ answer. answer.text ≡ pieces_text size recording) }
         ensures told { IfOk result (λ answer. answer.told ≡ told.items) }
     {
         let lines = RecordedLines::new(alloc, recording, size)?;

@@ -6,17 +6,18 @@ ghost use Rattle.thread_plan.specs.Plans.{IsPlanOf};
 ghost use Rattle.wasm_record.specs.Pick.{Pick};
 ghost use Rattle.wasm_types.specs.declared.key.Profile.TheVariants.{Two};
 ghost use Rattle.wasm_record.specs.Recordings.{IsKeyOf};
-ghost use Rattle.commands.specs.Records.{IsScheduleFile, IsScheduleRefused, IsOrderRefused, IsRecordRefusal, IsRecordedBy, IsRecordAnswer, IsRecordRefused, IsRunOf, IsRunOfThreads, IsRandomRunOf, IsAnswerOf, answer_of};
+ghost use Rattle.commands.specs.Records.{IsScheduleFile, IsScheduleRefused, IsOrderRefused, IsRecordRefusal, IsRecordedBy, IsRecordAnswer, IsRecordRefused, IsRunOf, IsRunOfThreads, IsRandomRunOf, IsAnswer, IsAnswerOf};
 
 use crate::fault::Fault;
 use crate::files::Files;
 use crate::program::{Program, read_program};
 use crate::record_answer::RecordAnswer;
+use crate::run_notes::{notes_by, notes_of_run};
 use crate::schedule_file::read_schedule;
 use crate::stopped::stopped_line;
 use crate::thread_runs::recording_by_threads;
-use command_words::{RecordOrder, RecordRequest};
-use debug_views::report;
+use command_words::{RecordForm, RecordOrder, RecordRequest};
+use debug_views::noted_report;
 use log::Log;
 use pick_schedule::Schedule;
 use replica::MOST_ENTRIES;
@@ -80,7 +81,7 @@ fn record_picks(
     let block = request.block;
     let steps = request.steps;
     match record_schedule(alloc, valid, plan, request.run, block, picks, steps) {
-        Ok(recording) => answered(alloc, recording, request),
+        Ok(recording) => answered(alloc, program, recording, request),
         Err(NoMemory) => Err(Fault::NoMemory),
     }
 }
@@ -107,7 +108,7 @@ fn record_by_threads<T: Threads + Wait + Sync>(
         ..
     } = *request;
     match recording_by_threads(threads, alloc, program, times_out, run, block, steps) {
-        Ok(recording) => answered(alloc, recording, request),
+        Ok(recording) => answered(alloc, program, recording, request),
         Err(NoMemory) => Err(Fault::NoMemory),
     }
 }
@@ -134,7 +135,7 @@ fn record_at_random<R: Wait>(
         steps: request.steps,
     };
     match record_drawn(rt, alloc, valid, plan, request.block, run) {
-        Ok(recording) => answered(alloc, recording, request),
+        Ok(recording) => answered(alloc, program, recording, request),
         Err(NoMemory) => Err(Fault::NoMemory),
     }
 }
@@ -184,37 +185,46 @@ pub fn record<L: Log, T: Threads + Wait + Sync, F: Files>(
     recorded_by(rt, threads, alloc, files, &program, request)
 }
 
-/// The report of a recording, or the lines of its pieces, for which room is taken, and the line of the threads that
-/// stopped at `--steps`.
+/// The report of a recording, with what is asked for of where threads stand at its end, or the lines of its pieces, for
+/// which room is taken; and the line of the threads that stopped at `--steps`.
 fn written(
     alloc: Global,
+    program: &Program,
     recording: Recording,
     request: &RecordRequest<'_>,
 ) -> Result<RecordAnswer, NoMemory>
+    requires suits { IsPlanOf program.now.valid program.now.plan }
     requires some { 0 < request.now.size }
     requires few { request.now.size ≤ 4096 }
-    ensures answer { IfOk result (λ answer. answer ≡ answer_of request.now recording) }
+    ensures answer { IfOk result (IsAnswer program.now.valid program.now.plan request.now recording) }
 {
+    let size = request.size;
     let stopped = stopped_line(alloc, request.steps, recording.recorded().log())?.into_bytes();
-    if !request.report {
-        return RecordAnswer::of_lines(alloc, recording, request.size, stopped);
+    match request.form {
+        RecordForm::Pieces => RecordAnswer::of_lines(alloc, recording, size, stopped),
+        RecordForm::Report { names, offsets } => {
+            let asked = notes_by(names, offsets);
+            let notes = notes_of_run(alloc, program, &recording, size, asked)?;
+            let text = noted_report(alloc, recording.recorded().end(), &notes)?;
+            Ok(RecordAnswer::of_text(text.into_bytes(), stopped))
+        }
     }
-    let text = report(alloc, recording.recorded().end())?;
-    Ok(RecordAnswer::of_text(text.into_bytes(), stopped))
 }
 
 /// The same, or the program's fault.
 fn answered(
     alloc: Global,
+    program: &Program,
     recording: Recording,
     request: &RecordRequest<'_>,
 ) -> Result<RecordAnswer, Fault>
+    requires suits { IsPlanOf program.now.valid program.now.plan }
     requires some { 0 < request.now.size }
     requires few { request.now.size ≤ 4096 }
-    ensures answer { IfOk result (λ answer. answer ≡ answer_of request.now recording) }
+    ensures answer { IfOk result (IsAnswer program.now.valid program.now.plan request.now recording) }
     ensures refused { IfErr result (IsRecordRefusal request.now.size) }
 {
-    match written(alloc, recording, request) {
+    match written(alloc, program, recording, request) {
         Ok(answer) => Ok(answer),
         Err(NoMemory) => Err(Fault::NoMemory),
     }

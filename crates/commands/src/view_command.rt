@@ -4,14 +4,15 @@ ghost use Rattle.std.specs.Prelude.{◌≡◌, IfOk, IfErr, string_bytes};
 ghost use Rattle.replica.specs.Log.{log_of, key_of};
 ghost use Rattle.thread_plan.specs.Plans.{IsPlanOf};
 ghost use Rattle.wasm_types.specs.Memories.{block_power};
-ghost use Rattle.commands.specs.Views.{AreBreaks, notes_by, IsViewText, IsViewRefusal, IsViewedText, IsViewRefused};
+ghost use Rattle.commands.specs.Views.{AreBreaks, IsViewText, IsViewRefusal, IsViewedText, IsViewRefused};
 
 use crate::fault::Fault;
 use crate::files::Files;
 use crate::gathered::{ReplayInput, read_replay_input};
+use crate::run_notes::notes_by;
 use arrayvec::ArrayVec;
 use command_words::ViewRequest;
-use debug_views::{Break, Notes, ViewChoice, WasmViewFault, view_log, write_break};
+use debug_views::{Break, ViewChoice, WasmViewFault, view_log, write_break};
 use log::Log;
 use std::alloc::Global;
 use wasm_record::memory_limits;
@@ -38,17 +39,6 @@ fn breaks_of(request: &ViewRequest<'_>, block: Block) -> ArrayVec<Break, 3>
         breaks.push(write_break(block, write.from, write.len));
     }
     breaks
-}
-
-/// What is said of where threads stand: offsets stand beside names.
-fn notes_by(names: bool, offsets: bool) -> Notes
-    ensures { result ≡ notes_by names offsets }
-{
-    match (names, offsets) {
-        (_, true) => Notes::Offsets,
-        (true, false) => Notes::Names,
-        (false, false) => Notes::Nothing,
-    }
 }
 
 /// The view of a log where its replay stops.

@@ -32,7 +32,7 @@ module_path (Gather skips form) = codes "standard input"
 module_path (Check path) = path.now
 module_path (Record r) = r.«module».now
 module_path (Hunt r) = r.«module».now
-module_path (Replay r by_threads) = r.«module».now
+module_path (Replay r by_threads names offsets) = r.«module».now
 module_path (View v) = v.replay.«module».now
 module_path (Trace t) = t.replay.«module».now
 
@@ -41,7 +41,7 @@ plan_path (Gather skips form) = codes "standard input"
 plan_path (Check path) = path.now
 plan_path (Record r) = r.plan.now
 plan_path (Hunt r) = r.plan.now
-plan_path (Replay r by_threads) = r.plan.now
+plan_path (Replay r by_threads names offsets) = r.plan.now
 plan_path (View v) = v.replay.plan.now
 plan_path (Trace t) = t.replay.plan.now
 
@@ -55,7 +55,7 @@ schedule_path (Record r) = schedule_of r.order
 schedule_path r = codes "--schedule"
 
 abbrev pub pieces_path : Request → List ℕ
-pieces_path (Replay r by_threads) = r.pieces.now
+pieces_path (Replay r by_threads names offsets) = r.pieces.now
 pieces_path (View v) = v.replay.pieces.now
 pieces_path (Trace t) = t.replay.pieces.now
 pieces_path r = codes "standard input"

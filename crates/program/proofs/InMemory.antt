@@ -49,7 +49,7 @@ module _ (files : List MemoryFile) where
     by_request said told (Some p) path h (request.Gather skips (forms.Chart only from to)) k text done = absurd (another p.0 (codes "chart") h.0 k.1.0 refl)
     by_request said told (Some p) path h (request.Record r) k text done = absurd (another p.0 (codes "record") h.0 k.0 refl)
     by_request said told (Some p) path h (request.Hunt r) k text done = absurd (another p.0 (codes "hunt") h.0 k.0 refl)
-    by_request said told (Some p) path h (request.Replay r by_threads) k text done = absurd (another p.0 (codes "replay") h.0 k.0 refl)
+    by_request said told (Some p) path h (request.Replay r by_threads names offsets) k text done = absurd (another p.0 (codes "replay") h.0 k.0 refl)
     by_request said told (Some p) path h (request.View v) k text done = absurd (another p.0 (codes "view") h.0 k.0 refl)
     by_request said told (Some p) path h (request.Trace v) k text done = absurd (another p.0 (codes "trace") h.0 k.0 refl)
 

@@ -11,8 +11,9 @@ use Rattle.command_words.specs.declared.requests.HuntRequest.{HuntRequest}
 use Rattle.command_words.specs.declared.requests.ReplayRequest.{ReplayRequest}
 use Rattle.commands.specs.Records.{AnswerAt, IsRecordAnswer}
 use Rattle.commands.specs.Hunts.{IsHuntAnswer}
-use Rattle.commands.specs.Replays.{IsReplayRefused}
+use Rattle.commands.specs.Replays.{IsReplayedText, IsReplayRefused}
 use Rattle.replica.specs.declared.skipping.Skipped.{Skipped}
+use Rattle.debug_views.specs.declared.notes.Notes.{Notes}
 use Rattle.command_words.specs.declared.requests.Request.TheVariants as request
 use Rattle.commands.specs.declared.fault.Fault.{Fault}
 use Rattle.commands.specs.declared.fault.Fault.TheVariants.{SinkFailed}
@@ -26,6 +27,10 @@ as_requested words found r why is h = subst (IsRequested words) is h
 pub none_said : (tells : List ℕ → Type 0) (why : Bool) → tells [] → IsSaid tells why []
 none_said tells true h = h
 none_said tells false h = h
+
+-- the same report, where the same is asked for of where threads stand
+pub replayed_as : (holds : List ℕ → List ℕ → Type 0) (r : ReplayRequest) (asked wanted : Notes) (text : List ℕ) → asked ≡ wanted → IsReplayedText holds r asked text → IsReplayedText holds r wanted text
+replayed_as holds r asked wanted text same replayed = subst (λ (a : Notes). IsReplayedText holds r a text) same replayed
 
 module _ (holds : List ℕ → List ℕ → Type 0) (fails brought : List ℕ → Type 0) (ended broke : Type 0) (took : List ℕ → Type 0) (unwritten unwritable : Type 0) where
   -- what was to be shown stops where the output fails
@@ -80,7 +85,7 @@ module _ (holds : List ℕ → List ℕ → Type 0) (fails brought : List ℕ �
   done_as_asked counted tells why asked r is done = subst (λ (b : Bool). IsShown took (IsDone holds fails brought ended broke counted (IsSaid tells b) tells r)) is done
 
   -- a replay that is refused stops
-  pub replay_stops : (asked : Request) (r : ReplayRequest) (by_threads : Bool) (fault : Fault) → asked ≡ request.Replay r by_threads
+  pub replay_stops : (asked : Request) (r : ReplayRequest) (by_threads names offsets : Bool) (fault : Fault) → asked ≡ request.Replay r by_threads names offsets
       → IsReplayRefused holds fails r by_threads fault → unwritten → IsStopped holds fails brought ended broke took unwritten unwritable asked fault
-  replay_stops asked r by_threads fault is refused kept =
+  replay_stops asked r by_threads names offsets fault is refused kept =
       subst (λ (q : Request). IsStopped holds fails brought ended broke took unwritten unwritable q fault) (sym is) (inl (refused, kept))

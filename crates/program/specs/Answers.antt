@@ -23,6 +23,7 @@ use Rattle.object_listing.specs.Chart.{IsChart}
 use Rattle.commands.specs.Texts.{fault_text}
 use Rattle.explanations.specs.Explained.{IsExplanation}
 use Rattle.commands.specs.Checks.{IsChecked, IsCheckRefused}
+use Rattle.commands.specs.Notes.{notes_by}
 use Rattle.commands.specs.Records.{AnswerAt, IsRecordAnswer, IsRecordRefused}
 use Rattle.commands.specs.Hunts.{IsHuntAnswer, IsHuntRefused}
 use Rattle.commands.specs.Replays.{IsReplayedText, IsReplayRefused}
@@ -158,7 +159,7 @@ module _ (holds : List ℕ → List ℕ → Type 0) (fails : List ℕ → Type 0
   IsDone counted said told (request.Check path) text = IsChecked (holds path.now) text × said []
   IsDone counted said told (request.Record r) text = (answer : AnswerAt) × IsRecordAnswer holds r answer × (text ≡ answer.text) × said answer.told
   IsDone counted said told (request.Hunt r) text = (answer : AnswerAt) × IsHuntAnswer holds r answer × (text ≡ answer.text) × told answer.told
-  IsDone counted said told (request.Replay r by_threads) text = IsReplayedText holds r text × said []
+  IsDone counted said told (request.Replay r by_threads names offsets) text = IsReplayedText holds r (notes_by names offsets) text × said []
   IsDone counted said told (request.View r) text = IsViewedText holds r text × said []
   IsDone counted said told (request.Trace r) text = IsTracedText holds r text × said []
 
@@ -168,7 +169,7 @@ module _ (holds : List ℕ → List ℕ → Type 0) (fails : List ℕ → Type 0
   IsRefused (request.Check path) fault = IsCheckRefused (holds path.now) (fails path.now) fault
   IsRefused (request.Record r) fault = IsRecordRefused holds fails r fault
   IsRefused (request.Hunt r) fault = IsHuntRefused holds fails r fault
-  IsRefused (request.Replay r by_threads) fault = IsReplayRefused holds fails r by_threads fault
+  IsRefused (request.Replay r by_threads names offsets) fault = IsReplayRefused holds fails r by_threads fault
   IsRefused (request.View r) fault = IsViewRefused holds fails r fault
   IsRefused (request.Trace r) fault = IsTraceRefused holds fails r fault
 

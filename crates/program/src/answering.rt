@@ -12,7 +12,7 @@ use crate::showing::{show, show_and_tell};
 use arrayvec::ArrayString;
 use byte_streams::{Sink, Source, write_all};
 use command_words::{Asked, Request, requested};
-use commands::{Fault, Files, check, hunt, record, replay, trace, view};
+use commands::{Fault, Files, check, hunt, notes_by, record, replay, trace, view};
 use itoa::Buffer;
 use log::Log;
 use std::alloc::Global;
@@ -74,10 +74,15 @@ fn perform<L: Log, T: Threads + Wait + Sync, F: Files, R: Source, W: Sink, E: Si
         Request::Replay {
             replay: request,
             by_threads,
-        } => match replay(rt, threads, alloc, files, request, *by_threads) {
-            Ok(text) => show(output, text.as_str().as_bytes()),
-            Err(fault) => Err(fault),
-        },
+            names,
+            offsets,
+        } => {
+            let asked = notes_by(*names, *offsets);
+            match replay(rt, threads, alloc, files, request, *by_threads, asked) {
+                Ok(text) => show(output, text.as_str().as_bytes()),
+                Err(fault) => Err(fault),
+            }
+        }
         Request::View(request) => match view(rt, alloc, files, request) {
             Ok(text) => show(output, text.as_str().as_bytes()),
             Err(fault) => Err(fault),

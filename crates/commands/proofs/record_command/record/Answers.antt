@@ -1,4 +1,4 @@
-use Rattle.std.proofs.Common.{inr, subst}
+use Rattle.std.proofs.Common.{inr}
 use Rattle.std.proofs.lemmas.Result.{IfOk-weaker, IfErr-weaker}
 use Rattle.commands.proofs.Earlier.{recorded_earlier, order_refused_earlier}
 use Rattle.commands.proofs.record_command.record.Goals as goal

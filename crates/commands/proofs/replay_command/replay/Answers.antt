@@ -15,7 +15,7 @@ returns-clause-replayed g c =
       plan = plan;
       log = log;
       input = c.in-Ok.ensures.found;
-      report = subst (λ (o : List ℕ). IsReplayReport m plan log o (string_bytes text)) c.deref.ensures.value h;
+      report = subst (λ (o : List ℕ). IsReplayReport m plan log o c.args.asked (string_bytes text)) c.deref.ensures.value h;
     }) c.replay_by.ensures.replayed
 
 pub returns-clause-refused : goal.returns-clause-refused

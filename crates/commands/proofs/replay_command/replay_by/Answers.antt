@@ -1,20 +1,15 @@
-use Rattle.std.proofs.Common.{Bool, sym, subst}
-use Rattle.std.proofs.lemmas.Result.{IfOk-weaker, IfErr-weaker}
-use Rattle.replica.specs.Log.{log_of}
-use Rattle.commands.specs.Replays.{IsRefusedBy}
 use Rattle.commands.proofs.replay_command.replay_by.Goals as goal
+use Rattle.commands.proofs.Wanting.{wants_by}
 
-pub returns-then-by_threads-clause-replayed : goal.returns-then-by_threads-clause-replayed
-returns-then-by_threads-clause-replayed g c = IfOk-weaker c.replay_at_once.result _ _ (λ text h. h c.args.order.now) c.replay_at_once.ensures.replayed
+pub returns-in-Ok-noted-clause-replayed : goal.returns-in-Ok-noted-clause-replayed
+returns-in-Ok-noted-clause-replayed g c = record {
+  of_run = c.in-Ok.ensures.of_run;
+  end = c.in-Ok.ended;
+  ends = c.in-Ok.ensures.ends;
+  notes = c.in-Ok-noted.ensures.0;
+  are_notes = c.in-Ok-noted.ensures.1;
+  is = c.in-Ok-noted.ensures.2;
+}
 
-pub returns-then-by_threads-clause-refused : goal.returns-then-by_threads-clause-refused
-returns-then-by_threads-clause-refused g c =
-    let input = c.args.input.now in
-    IfErr-weaker c.replay_at_once.result _ _
-    (λ fault h. subst (λ (b : Bool). IsRefusedBy b input.program.valid input.program.plan (log_of input.replica) c.args.order.now fault) (sym c.if-by_threads.true) h) c.replay_at_once.ensures.refused
-
-pub returns-else-by_threads-clause-refused : goal.returns-else-by_threads-clause-refused
-returns-else-by_threads-clause-refused g c =
-    let input = c.args.input.now in
-    IfErr-weaker c.replay_input.result _ _
-    (λ fault h. subst (λ (b : Bool). IsRefusedBy b input.program.valid input.program.plan (log_of input.replica) c.args.order.now fault) (sym c.if-by_threads.false) h) c.replay_input.ensures.refused
+pub returns-clause-refused : goal.returns-clause-refused
+returns-clause-refused g c = wants_by c.args.by_threads _ _ _ _

@@ -1,7 +1,7 @@
 use Rattle.std.proofs.Common.{◌≡◌, ◌⊎◌, ◌+◌, ◌++◌, ℕ, List, [], ◌∷◌, inl, rules, refl, subst, sym}
 use Rattle.commands.specs.Texts.{skipped_text}
 use Rattle.program.specs.Answers.{IsSaid}
-use Rattle.program.proofs.Stops.{none_said, shown_done, gathered_done, shown_stops, record_done, hunt_done, gathered_stops, replay_stops}
+use Rattle.program.proofs.Stops.{none_said, shown_done, gathered_done, shown_stops, record_done, hunt_done, gathered_stops, replay_stops, replayed_as}
 use Rattle.program.proofs.answering.perform.Goals as goal
 
 pub returns-in-Gather-clause-stopped : goal.returns-in-Gather-clause-stopped
@@ -47,7 +47,7 @@ returns-in-Ok-replay-clause-done g c =
     let took : List ℕ → Type 0 = λ text. g.W.Sink.takes c.args.output.now text c.show-in-Ok-replay.new.output in
     let tells : List ℕ → Type 0 = λ text. g.E.Sink.takes c.args.errors.now text c.args.errors.now ⊎ (g.E.Sink.failed c.args.errors.now ≡ g.E.Sink.failed c.args.errors.now + 1) in
     let none = none_said tells c.args.why (inl (g.met.E.Sink.takes_nothing c.args.errors.now)) in
-    shown_done _ (λ path. Unit {0}) _ _ (Unit {0}) took (Unit {0}) (Unit {0}) c.args.request.now _ c.as_bytes.result.now _ (λ skipped. tells (skipped_text skipped ++ 10 ∷ [])) (IsSaid tells c.args.why) tells c.show-in-Ok-replay.result c.in-Replay.is (search rules) (c.in-Ok-replay.ensures.replayed, none) c.show-in-Ok-replay.ensures.shown
+    shown_done _ (λ path. Unit {0}) _ _ (Unit {0}) took (Unit {0}) (Unit {0}) c.args.request.now _ c.as_bytes.result.now _ (λ skipped. tells (skipped_text skipped ++ 10 ∷ [])) (IsSaid tells c.args.why) tells c.show-in-Ok-replay.result c.in-Replay.is (search rules) (replayed_as _ _ _ _ _ c.notes_by-asked.ensures c.in-Ok-replay.ensures.replayed, none) c.show-in-Ok-replay.ensures.shown
 
 pub returns-in-Ok-view-clause-done : goal.returns-in-Ok-view-clause-done
 returns-in-Ok-view-clause-done g c =
@@ -68,7 +68,7 @@ returns-in-Ok-hunt-clause-stopped g c =
 
 pub returns-in-Ok-replay-clause-stopped : goal.returns-in-Ok-replay-clause-stopped
 returns-in-Ok-replay-clause-stopped g c =
-    shown_stops _ _ _ _ _ _ _ _ c.args.request.now _ c.as_bytes.result.now _ c.show-in-Ok-replay.result c.in-Replay.is (search rules) (c.in-Ok-replay.ensures.replayed, tt) c.show-in-Ok-replay.ensures.error c.show-in-Ok-replay.ensures.one_failed c.show-in-Ok-replay.ensures.begun
+    shown_stops _ _ _ _ _ _ _ _ c.args.request.now _ c.as_bytes.result.now _ c.show-in-Ok-replay.result c.in-Replay.is (search rules) (replayed_as _ _ _ _ _ c.notes_by-asked.ensures c.in-Ok-replay.ensures.replayed, tt) c.show-in-Ok-replay.ensures.error c.show-in-Ok-replay.ensures.one_failed c.show-in-Ok-replay.ensures.begun
 
 pub returns-in-Ok-view-clause-stopped : goal.returns-in-Ok-view-clause-stopped
 returns-in-Ok-view-clause-stopped g c =
@@ -76,7 +76,7 @@ returns-in-Ok-view-clause-stopped g c =
 
 pub returns-in-Err-replay-clause-stopped : goal.returns-in-Err-replay-clause-stopped
 returns-in-Err-replay-clause-stopped g c =
-    replay_stops _ _ _ _ _ _ _ _ c.args.request.now _ _ c.in-Err-replay.fault c.in-Replay.is c.in-Err-replay.ensures.refused refl
+    replay_stops _ _ _ _ _ _ _ _ c.args.request.now _ _ _ _ c.in-Err-replay.fault c.in-Replay.is c.in-Err-replay.ensures.refused refl
 
 pub returns-in-Ok-trace-clause-done : goal.returns-in-Ok-trace-clause-done
 returns-in-Ok-trace-clause-done g c =

@@ -1,8 +1,8 @@
-use Rattle.std.proofs.Common.{◌≡◌, ◌+◌, ◌-◌, ◌++◌, ℕ, Bool, true, false, subst, sym, rules}
-use Rattle.std.specs.Prelude.{Option, Some, None}
+use Rattle.std.proofs.Common.{◌≡◌, ◌+◌, true, false, subst, sym, rules}
+use Rattle.std.specs.Prelude.{None}
 use Rattle.commands.specs.Least.{IsLeastCaught}
 use Rattle.commands.specs.Hunts.{Comes}
-use Rattle.commands.proofs.Least.{least_add, least_stays, stays_or_adds}
+use Rattle.commands.proofs.Least.{least_add, stays_or_adds}
 use Rattle.commands.proofs.hunt_surveys.LeastCaughtSurvey.add.Goals.{else-is_none-via-then-is_none+in_ok-comes+else-branch, else-is_none-via-else-is_none}
 use Rattle.commands.proofs.hunt_surveys.LeastCaughtSurvey.add.Goals as goal
 

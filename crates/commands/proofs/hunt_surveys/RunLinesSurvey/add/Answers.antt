@@ -1,6 +1,5 @@
-use Rattle.std.proofs.Common.{rules, ◌≡◌, ◌∙◌, ap, string_bytes}
+use Rattle.std.proofs.Common.{rules, ◌≡◌, ap, string_bytes}
 use Rattle.std.proofs.lemmas.Result.{on_ok_weaker}
-use Rattle.wasm_types.specs.declared.outcome.Outcome.{Outcome}
 use Rattle.commands.specs.Hunts.{run_line}
 use Rattle.commands.specs.Hunts.{IsRunLine}
 use Rattle.commands.proofs.Least.{listed_add}
