@@ -1,0 +1,10 @@
+pub mod LegLists
+pub mod Counting
+pub mod RoundTurns
+pub mod Ways
+pub mod Totals
+pub mod LocalThread
+pub mod TurnAnswers
+pub mod Keeping
+pub mod Together
+pub mod GoingAgain

@@ -1,0 +1,5 @@
+pub mod Legs
+pub mod Ways
+pub mod OneWay
+pub mod Rounds
+pub mod Gone

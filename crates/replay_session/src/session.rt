@@ -1,0 +1,192 @@
+//! A replay that goes forward and back.
+
+ghost use Rattle.std.specs.Prelude.{◌≡◌, ◌⊎◌, ◌≤◌, ◌-◌, [], Some, IfOk, IfErr, OnOk, OnErr};
+ghost use Rattle.std.specs.Coded.{Coded-set};
+ghost use Rattle.event_core.specs.Threads.{all_steps};
+ghost use Rattle.event_core.specs.World.{world_of};
+ghost use Rattle.replay_laws.specs.Turns.{turn_of, world_after_turn};
+ghost use Rattle.replay_gate.specs.Shows.{ShowsRecorded};
+ghost use Rattle.replay_gate.specs.Turned.{answer_of_turn, TurnRefused, IsRightRefusal, IsFreeRefusal};
+ghost use Rattle.replay_gate.specs.declared.answers.ReplayFault.TheVariants as ReplayFault;
+ghost use Rattle.replay_breaks.specs.Stops.{StopsAt, StopsRight, StopsFree};
+ghost use Rattle.replay_session.specs.Gone.{steps_of_turn, CeasesSo};
+ghost use Rattle.replay_session.specs.Legs.{with_thread, with_rounds, without_last};
+ghost use Rattle.replay_session.specs.Ways.{ThreadLeads, WayLeads};
+
+use crate::going::go_way;
+use crate::gone::{Ceased, Gone};
+use crate::legs::{Leg, first_steps, put_rounds, put_thread, steps_of_way};
+use crate::sums::steps_of_world;
+use crate::threads::{go_thread, steps_of};
+use event_core::World;
+use replay_breaks::{Break, Stopped, run_to};
+use replay_gate::{OpenWorld, ReadLog, Replay, ReplayFault, Turned};
+use rw_objects::{Machine, ObjectSpace};
+use std::alloc::Global;
+use wasm_types::NoMemory;
+
+/// A replay, and the way that it has gone from the opening world: the world is the one to which the way leads.
+#[derive(Drop)]
+pub struct Session<M: Machine<S>, S: ObjectSpace, L: ReadLog, O: OpenWorld<M, S>> {
+    opens: O,
+    log: L,
+    replay: Replay<M, S, L, O>,
+    legs: Vec<Leg>,
+    ghost same_log: { replay.log ≡ log } by { Coded-set L.code replay.log log },
+    ghost same_opens: { replay.opens ≡ opens } by { Coded-set O.code replay.opens opens },
+    ghost leads: { ∥ WayLeads S.meaning M.code (L.log replay.log) legs.items (O.opened replay.opens) (world_of replay.world) ∥₁ },
+}
+
+impl<
+    M: Machine<S>,
+    S: ObjectSpace,
+    L: ReadLog + Copy + Drop,
+    O: OpenWorld<M, S> + Copy + Drop,
+> Session<M, S, L, O> {
+    /// A session before its first turn.
+    pub fn new(alloc: Global, opens: O, log: L) -> Result<Session<M, S, L, O>, NoMemory>
+        requires { O.suits opens }
+        ensures log { IfOk result (λ session. session.replay.log ≡ log) }
+        ensures opens { IfOk result (λ session. session.replay.opens ≡ opens) }
+        ensures legs { IfOk result (λ session. session.legs.items ≡ []) }
+        ensures world { IfOk result (λ session. world_of session.replay.world ≡ O.opened opens) }
+    {
+        match Replay::new(alloc, opens, log) {
+            Ok(replay) => Ok(Session {
+                opens,
+                log,
+                replay,
+                legs: Vec::new(alloc),
+            }),
+            Err(error) => Err(error),
+        }
+    }
+}
+
+impl<M: Machine<S>, S: ObjectSpace, L: ReadLog, O: OpenWorld<M, S>> Session<M, S, L, O> {
+    /// The world at which it stands, to which its way leads from the opening world. On a log below that of a run, its
+    /// values and threads are recorded ones alone.
+    pub fn world(&self) -> &World<M, S>
+        ensures same { result.now ≡ self.now.replay.world }
+        ensures recorded { ShowsRecorded S.meaning M.code (L.log self.now.replay.log) (O.opened self.now.replay.opens) (world_of result.now) }
+        ensures led { ∥ WayLeads S.meaning M.code (L.log self.now.replay.log) self.now.legs.items (O.opened self.now.replay.opens) (world_of result.now) ∥₁ }
+    {
+        self.replay.world()
+    }
+
+    /// The way that it has gone.
+    pub fn legs(&self) -> &[Leg]
+        ensures { result.now ≡ self.now.legs.items }
+    {
+        self.legs.as_slice()
+    }
+
+    /// A turn of a thread: its next step, where the log lets it pass, by which the way goes on. A refusal leaves all as
+    /// it was. On a log below that of a run nothing clashes and no thread diverges; on the whole log of a run it is
+    /// refused by a shut gate alone.
+    pub fn turn(&mut self, alloc: Global, thread: u32) -> Result<Turned, ReplayFault>
+        ensures log { self.new.replay.log ≡ self.old.replay.log }
+        ensures opens { self.new.replay.opens ≡ self.old.replay.opens }
+        ensures ok { IfOk result (λ turned. answer_of_turn (turn_of S.meaning M.code (L.log self.old.replay.log) (world_of self.old.replay.world) thread) ≡ Some turned) }
+        ensures world { OnOk result (world_of self.new.replay.world ≡ world_after_turn S.meaning M.code (world_of self.old.replay.world) thread (turn_of S.meaning M.code (L.log self.old.replay.log) (world_of self.old.replay.world) thread)) }
+        ensures legs { OnOk result (self.new.legs.items ≡ with_thread self.old.legs.items thread (steps_of_turn (turn_of S.meaning M.code (L.log self.old.replay.log) (world_of self.old.replay.world) thread))) }
+        ensures refused { IfErr result (λ f. (f ≡ ReplayFault.NoMemory) ⊎ TurnRefused S.meaning M.code (L.log self.old.replay.log) (world_of self.old.replay.world) thread f) }
+        ensures right { IfErr result (IsRightRefusal S.meaning M.code (L.log self.old.replay.log) (O.opened self.old.replay.opens)) }
+        ensures free { IfErr result (IsFreeRefusal S.meaning M.code (L.log self.old.replay.log) (O.opened self.old.replay.opens)) }
+        ensures unchanged { OnErr result (world_of self.new.replay.world ≡ world_of self.old.replay.world) }
+        ensures kept { OnErr result (self.new.legs.items ≡ self.old.legs.items) }
+    {
+        let Ok(()) = self.legs.reserve(1) else {
+            return Err(ReplayFault::NoMemory);
+        };
+        match self.replay.turn(alloc, thread) {
+            Err(fault) => Err(fault),
+            Ok(turned) => {
+                put_thread(&mut self.legs, thread, steps_of(turned));
+                Ok(turned)
+            }
+        }
+    }
+
+    /// Turns of a thread, one behind the other, until so many steps were made, or a turn makes none: the thread is
+    /// done, or the turn is refused. The way goes on by the steps that were made.
+    pub fn thread_steps(&mut self, alloc: Global, thread: u32, most: u64) -> Gone
+        ensures log { self.new.replay.log ≡ self.old.replay.log }
+        ensures opens { self.new.replay.opens ≡ self.old.replay.opens }
+        ensures few { result.steps ≤ most }
+        ensures leads { ThreadLeads S.meaning M.code (L.log self.old.replay.log) thread result.steps (world_of self.old.replay.world) (world_of self.new.replay.world) }
+        ensures legs { self.new.legs.items ≡ with_thread self.old.legs.items thread result.steps }
+        ensures ceased { CeasesSo S.meaning M.code (L.log self.old.replay.log) thread result.steps most (world_of self.new.replay.world) result.ceased }
+    {
+        match self.legs.reserve(1) {
+            Err(_) => Gone {
+                steps: 0,
+                ceased: Ceased::Fault(ReplayFault::NoMemory),
+            },
+            Ok(()) => {
+                let gone = go_thread(alloc, &mut self.replay, thread, most);
+                put_thread(&mut self.legs, thread, gone.steps);
+                gone
+            }
+        }
+    }
+}
+
+impl<M: Machine<S> + Drop, S: ObjectSpace, L: ReadLog, O: OpenWorld<M, S>> Session<M, S, L, O> {
+    /// Goes on up to a break, as `run_to` does by no order. The way goes on by the steps that all threads made.
+    pub fn run_on(&mut self, alloc: Global, breaks: &[Break]) -> Result<Stopped, NoMemory>
+        ensures log { self.new.replay.log ≡ self.old.replay.log }
+        ensures opens { self.new.replay.opens ≡ self.old.replay.opens }
+        ensures stops { IfOk result (λ stopped. StopsAt S.meaning M.code (L.log self.old.replay.log) (world_of self.old.replay.world) [] breaks.now (world_of self.new.replay.world) stopped) }
+        ensures right { IfOk result (StopsRight S.meaning M.code (L.log self.old.replay.log) (O.opened self.old.replay.opens)) }
+        ensures free { IfOk result (StopsFree S.meaning M.code (L.log self.old.replay.log) (O.opened self.old.replay.opens)) }
+        ensures legs { OnOk result (self.new.legs.items ≡ with_rounds self.old.legs.items (all_steps M.code (world_of self.new.replay.world).threads - all_steps M.code (world_of self.old.replay.world).threads)) }
+        ensures unchanged { OnErr result (world_of self.new.replay.world ≡ world_of self.old.replay.world) }
+        ensures kept { OnErr result (self.new.legs.items ≡ self.old.legs.items) }
+    {
+        match self.legs.reserve(1) {
+            Err(_) => Err(NoMemory),
+            Ok(()) => {
+                let before = steps_of_world(self.replay.world());
+                let stopped = run_to(alloc, &mut self.replay, &[], breaks);
+                let after = steps_of_world(self.replay.world());
+                put_rounds(&mut self.legs, after - before);
+                Ok(stopped)
+            }
+        }
+    }
+}
+
+impl<
+    M: Machine<S> + Drop,
+    S: ObjectSpace + Drop,
+    L: ReadLog + Copy + Drop,
+    O: OpenWorld<M, S> + Copy + Drop,
+> Session<M, S, L, O> {
+    /// Goes back by so many steps, or to the opening world where there are fewer: opens the world again, and goes the
+    /// rest of the way. Where memory could not be had all is as it was.
+    pub fn back(&mut self, alloc: Global, steps: u64) -> Result<(), NoMemory>
+        requires { O.suits self.old.opens }
+        ensures log { self.new.replay.log ≡ self.old.replay.log }
+        ensures opens { self.new.replay.opens ≡ self.old.replay.opens }
+        ensures legs { OnOk result (self.new.legs.items ≡ without_last steps self.old.legs.items) }
+        ensures unchanged { OnErr result (world_of self.new.replay.world ≡ world_of self.old.replay.world) }
+        ensures kept { OnErr result (self.new.legs.items ≡ self.old.legs.items) }
+    {
+        let all = steps_of_way(self.legs.as_slice());
+        let Ok(legs) = first_steps(alloc, self.legs.as_slice(), all.saturating_sub(steps)) else {
+            return Err(NoMemory);
+        };
+        let Ok(mut replay) = Replay::new(alloc, self.opens, self.log) else {
+            return Err(NoMemory);
+        };
+        match go_way(alloc, &mut replay, legs.as_slice()) {
+            Err(error) => Err(error),
+            Ok(()) => {
+                self.legs = legs;
+                self.replay = replay;
+                Ok(())
+            }
+        }
+    }
+}
