@@ -8,7 +8,8 @@ The commands are those of `crates/worked_rows/data/commands` that have one of th
 same each time; without a word those of the counter's first run, those of five waiting threads, those of two that trap, a hunt, and these recordings. A small library, made by the C compiler and loaded before the system's, answers
 one of the program's calls for memory with none: the first, then the second, and so on until a run asks for no more. Each time
 the program must do one of two things: exactly what it does with ample memory, or exit with 1, the output empty, and on
-standard error one line `refused N NoMemory`, with `--why` and one more line. Behind each such run the same command is run again with ample memory and must
+standard error one line `refused N NoMemory`, with `--why` and one more line. A dialogue with `debug` that was opened goes on: one of its
+answers says that memory was wanting, and the others are as where that command was not given, or was made so far. Behind each such run the same command is run again with ample memory and must
 write the same bytes as before. Of `wreplay_bench` it is the run of a thread alone, which ends with another status than 0, the output
 empty, where memory was wanted. It prints, for each command, how many growths were refused and with which lines.
 """
@@ -107,6 +108,40 @@ def is_refusal(words, usual, answer):
     return bool(known) and re.fullmatch(rb"[^\n]+: [^\n]+\n", rest) is not None
 
 
+def steps_in(text):
+    """How many steps all threads have made, by their lines."""
+    return sum(int(steps) for steps in re.findall(rb"^thread \d+ steps (\d+) places", text, re.MULTILINE))
+
+
+def wanting_answers(answers, lines, behind, end):
+    """What a dialogue may be where memory was wanting for one command. `answers` is what is answered to lines with ample memory, `behind`
+    the number of the lines before that command, and `end` what was written from its answer on."""
+    before, line, after = lines[:behind], lines[behind], lines[behind + 1 :]
+    front, whole = answers(before), answers(before + [line])
+    head = whole[len(front) :].partition(b"\n")[0] + b"\n"
+    # All is as it was; or the command was made, and memory was wanting for the lines behind the first.
+    yield front + b"error: memory\n" + answers(before + after)[len(front) :]
+    yield front + head + b"error: memory\n" + answers(lines)[len(whole) :]
+    made = re.match(rb"stepped (\d+) memory\n", end)
+    if made and line.startswith(b"step "):
+        fewer = before + [b"step " + line.split(b" ")[1] + b" " + made[1]]
+        yield front + made[0] + answers(fewer + after)[len(front) + len(b"stepped \n" + made[1]) :]
+    if end.startswith(b"stopped memory\n") and line == b"continue":
+        # Rounds of fewer steps are those of all, and back.
+        stood = answers(before + [b"threads"])[len(front) :]
+        lacking = steps_in(whole[len(front) :]) - steps_in(b"\n".join(end.split(b"\n")[1 : 1 + stood.count(b"\n")]))
+        fewer = before + [line, b"back %d" % lacking]
+        yield front + b"stopped memory\n" + answers(fewer + after)[len(whole) + len(b"back\n") :]
+
+
+def is_wanting_dialogue(answers, lines, written):
+    """Whether a dialogue was made but for one command, for which memory was wanting."""
+    fronts = [answers(lines[:n]) for n in range(len(lines))]
+    front = max((front for front in fronts if written.startswith(front)), key=len)
+    places = (n for n in range(len(lines)) if fronts[n] == front)
+    return any(written in wanting_answers(answers, lines, n, written[len(front) :]) for n in places)
+
+
 def run(path, library, folder, words, source, growth):
     """What a command does where one growth is refused, and whether that growth came."""
     told, tell = os.pipe()
@@ -121,8 +156,26 @@ def run(path, library, folder, words, source, growth):
     return (done.returncode, done.stdout, done.stderr), came
 
 
+class Dialogue:
+    """The lines of a dialogue, and what is answered to others in their place with ample memory."""
+
+    def __init__(self, path, folder, words, source):
+        self.path, self.folder, self.words, self.known = path, folder, words, {}
+        self.lines = []
+        if source:
+            with open(os.path.join(folder, source), "rb") as file:
+                self.lines = file.read().splitlines()
+
+    def answers(self, lines):
+        text = b"".join(line + b"\n" for line in lines)
+        if text not in self.known:
+            self.known[text] = subprocess.run([self.path, *self.words], cwd=self.folder, input=text, capture_output=True, check=False).stdout
+        return self.known[text]
+
+
 def refuse_each(path, library, folder, line, words, source):
     usual, _ = run(path, library, folder, words, source, 0)
+    dialogue = Dialogue(path, folder, words, source)
     answers = collections.Counter()
     growth = 1
     while True:
@@ -134,6 +187,8 @@ def refuse_each(path, library, folder, line, words, source):
             answers["as with ample memory"] += 1
         elif is_refusal(words, usual, answer):
             answers[errors.decode().strip().replace("\n", " | ")] += 1
+        elif words[0] == "debug" and (status, errors) == (0, b"") and is_wanting_dialogue(dialogue.answers, dialogue.lines, output):
+            answers["memory wanting for a command"] += 1
         else:
             sys.exit(f"{line}: growth {growth}: status {status}, errors {errors!r}")
         again, _ = run(path, library, folder, words, source, 0)

@@ -1,8 +1,9 @@
 """Writes the commands of crates/worked_rows, the files that they read, and what they must write: by the model, for the
-recordings of profile 1 by what was recorded apart, and for the hunt by what is kept with it."""
+recordings of profile 1 by what was recorded apart, and for the hunt by what is kept with it and in `queue`."""
 import os, struct, sys
-from model import Module, World, digest, schedule_text, shrunk
+from model import Module, Words, World, digest, schedule_text, shrunk
 from charts import chart, EMPTY
+from debugs import TALKS, drawn_talk, talk
 from objects import by_object
 from views import stop, trace, view
 
@@ -48,6 +49,8 @@ def run_of(name, module, plan, schedule, block=64, steps=1000000):
     world.run(schedule, steps)
     return world
 
+# of each file of pieces the module and the plan, and its lines
+logs = {}
 def recorded(name, module_file, module, plan_file, plan, schedule, block=64, steps=None, size=None, orders=('',), run=None):
     """Records, reports, gathers and replays one schedule; answers the model's run."""
     keep(name + '.schedule', schedule)
@@ -66,6 +69,7 @@ def recorded(name, module_file, module, plan_file, plan, schedule, block=64, ste
     for order in orders:
         command('replay %s %s.pieces%s' % (files, name, ' --order ' + order if order else ''), world.report())
     command('replay %s %s.pieces --threads' % (files, name), world.report())
+    logs[name] = module_file, module, plan_file, plan, world.lines(d, number, 4096)
     entries = {(t.n, p): e for t in world.threads for p, e in enumerate(t.entries)}
     ends = {t.n: (t.steps, len(t.entries), world.outcome(t)) for t in world.threads}
     for n, order in enumerate(orders):
@@ -579,6 +583,7 @@ def noted(name, module_file, module, plan_file, plan, schedule, orders=('',), st
         for notes in (NAMES, OFFSETS): command('record %s --threads --report%s' % (files, flags(notes)), world.report(*are(notes)))
     pieces = '%s > %s.pieces' % (recording, name)
     if pieces not in script: command(pieces)
+    logs[name] = module_file, module, plan_file, plan, world.lines(digest(module, plan), 0, 4096)
     replay = 'replay %s %s.pieces' % (files, name)
     for order in orders:
         for notes in (NAMES, BOTH) if order == orders[0] else (OFFSETS,): command(replay + (' --order ' + order if order else '') + flags(notes), world.report(*are(notes)))
@@ -669,6 +674,53 @@ for notes in NOTES:
     for turns in ('', ' --threads'):
         for pieces, text in (('missing', '53 Missing 1 0'), ('clash', '52 Clash 0 0'), ('version', '57 Stuck'), ('kind', '55 Diverged 0 0'), ('absent', '44 SourceFailed')):
             command('replay counter.wasm counter.plan %s.pieces%s%s' % (pieces, turns, flags(notes)), '', 'refused %s\n' % text, 1)
+
+# ---- dialogues with a debugger
+
+def debugged(name, *talks, more=''):
+    """What is answered to lines that come, over the replay of a log."""
+    module_file, module, plan_file, plan, pieces = logs[name]
+    for it in talks:
+        keep(it + '.lines', TALKS[it])
+        command('debug %s %s %s.pieces%s < %s.lines' % (module_file, plan_file, name, more, it), talk(module, plan, pieces, TALKS[it]))
+for name in ('missing', 'hole', 'clash', 'version', 'object', 'kind', 'longer', 'shorter', 'noend', 'twoends', 'stray', 'pastend', 'old', 'otherorder'):
+    logs[name] = 'counter.wasm', COUNTER, 'counter.plan', TWO, kept[name + '.pieces'].decode()
+logs['whole'] = 'counter.wasm', COUNTER, 'counter.plan', TWO, FIRST.lines(D, 0, 4096)
+EVERY = ('opening', 'through', 'alone', 'nobody', 'places', 'writes', 'elsewhere', 'first', 'legs', 'rounds', 'ranges', 'help', 'bad', 'long', 'blank', 'unended', 'last', 'behind', 'only')
+debugged('whole', *EVERY)
+debugged('whole', 'unended', more=' --why')
+command('debug counter.wasm counter.plan whole.pieces')
+command('debug counter.wasm counter.plan whole.pieces < empty')
+for name in ('second', 'third', 'fourth'): debugged(name, 'alone', 'legs', 'rounds', 'places')
+for name in ('hole', 'missing', 'clash', 'version', 'object', 'kind', 'longer', 'shorter', 'noend', 'twoends'): debugged(name, 'through', 'alone')
+for name in ('stray', 'pastend', 'old', 'otherorder', 'bounded', 'nothing'): debugged(name, 'through')
+command('debug counter.wasm counter.plan empty < through.lines', talk(COUNTER, TWO, '', TALKS['through']))
+debugged('readers', 'crossed', 'writes', 'places')
+debugged('border64', 'border', 'through'); debugged('border4096', 'border'); debugged('past64', 'alone'); debugged('page4096', 'border')
+debugged('reader', 'grown', 'pair'); debugged('grower', 'grown', 'rounds')
+for name in ('limited1', 'limited2', 'endless1'): debugged(name, 'pair', 'through')
+debugged('five', 'crossed', 'through', 'rounds', 'places'); debugged('ever', 'alone'); debugged('alone', 'through'); debugged('traps', 'through', 'alone'); debugged('exchangef', 'writes')
+for name in ('named', 'midst', 'halted', 'unbegun', 'begun1', 'begins2'): debugged(name, 'standing')
+logs['deep'] = 'stands.wasm', STANDS, 'deep.plan', plan_of('deep', 'seven'), DEEP.lines(digest(STANDS, plan_of('deep', 'seven')), 0, 4096)
+debugged('deep', 'deep')
+for number, name in enumerate(('first', 'third', 'fourth', 'readers', 'five', 'limited1', 'limited2', 'grower', 'hole', 'version', 'midst', 'begins1')):
+    TALKS['drawn%d' % number] = drawn_talk(Words(number).below, len(World(logs[name][1], logs[name][3]).threads), 20)
+    debugged(name, 'drawn%d' % number)
+# over the run of the hunt, whose module the model can't run: answers of an interpreter that was made apart
+QUEUE = os.path.join(os.path.dirname(os.path.abspath(__file__)), 'queue')
+for name in ('lock', 'item'):
+    for kind in ('lines', 'answers'):
+        with open(os.path.join(QUEUE, '%s.%s' % (name, kind)), 'rb') as file:
+            if kind == 'lines': keep(name + '.lines', file.read())
+            else: command('debug queue.wasm queue.plan queue_whole.pieces < %s.lines' % name, file.read().decode())
+# refusals before the first command is read
+for files, text in (
+        ('readers.wasm readers.plan whole.pieces', '51 OtherRun'), ('counter.wasm counter.plan otherrun.pieces', '41 OtherRun 2'),
+        ('large.wasm counter.plan large.pieces', '58 OldProfile'), ('counter.wasm counter.plan absent.pieces', '44 SourceFailed'),
+        ('bad.wasm bad.plan absent.pieces', '1 Refused 33')):
+    refused('debug ' + files, text)
+    command('debug %s < alone.lines' % files, '', 'refused %s\n' % text, 1)
+for more in (' --threads', ' --names'): unexpected('debug counter.wasm counter.plan first.pieces' + more, more[1:], 'debug <MODULE> <PLAN> <PIECES>', True)
 
 keep('commands', '\n'.join(script) + '\n')
 with open(os.path.join(TARGET, 'stdout'), 'w') as file: file.write(''.join(expected))

@@ -40,14 +40,19 @@ def stop(world, entries, ends, order, place=None, step=None, write=None):
 def thread_line(world, t, names, offsets):
     return 'thread %d steps %d places %d %s%s\n' % (t.n, t.steps, len(t.entries), world.outcome(t), world.note(t, names, offsets))
 
-def view(stopped, world, start, length, names=False, offsets=False):
-    out = stopped + '\n'
-    for t in world.threads: out += thread_line(world, t, names, offsets)
+def bytes_shown(world, start, length):
+    """The blocks that hold a byte of a range, and its bytes."""
+    out = ''
     for b in world.blocks(start, length) if length else []:
         out += 'object %d version %d reads %d\n' % (1 + 2 * b, world.version.get(1 + 2 * b, 0), world.reads.get(1 + 2 * b, 0))
     for a in range(start, start + length, 16):
         out += '%08x %s\n' % (a, world.mem[a:min(a + 16, start + length)].hex())
     return out
+
+def view(stopped, world, start, length, names=False, offsets=False):
+    out = stopped + '\n'
+    for t in world.threads: out += thread_line(world, t, names, offsets)
+    return out + bytes_shown(world, start, length)
 
 # ---- traces
 

@@ -8,7 +8,7 @@ use Rattle.wasm_types.specs.declared.sizes.TheConstants.{MOST_STEPS}
 use Rattle.command_words.specs.Words.{number_up_to, in_front, order_in, pair_in, may_begin}
 use Rattle.command_words.specs.Commands.{program}
 use Rattle.command_words.specs.declared.requests.Request.{Request}
-use Rattle.command_words.specs.declared.requests.Request.TheVariants.{Gather, Check, Record, Hunt, Replay, View, Trace}
+use Rattle.command_words.specs.declared.requests.Request.TheVariants.{Gather, Check, Record, Hunt, Replay, View, Trace, Debug}
 use Rattle.command_words.specs.declared.requests.GatherForm.{GatherForm}
 use Rattle.command_words.specs.declared.requests.GatherForm.TheVariants as written
 use Rattle.command_words.specs.declared.requests.RecordOrder.{RecordOrder}
@@ -140,11 +140,15 @@ pub record IsHuntAsked (rows : List Row) (r : HuntRequest) : Type 0 where
   pub has_form : IsFormAsked rows r.form r.shrinks
   pub has_by_threads : IsByThreadsAsked rows r.by_threads
 
--- the values that a parser found ask for this replay
-pub record IsReplayAsked (rows : List Row) (r : ReplayRequest) : Type 0 where
+-- the values that a parser found name these files of a replay
+pub record AreFilesAsked (rows : List Row) (r : ReplayRequest) : Type 0 where
   pub has_module : first_of (codes "MODULE") rows ≡ Some r.«module».now
   pub has_plan : first_of (codes "PLAN") rows ≡ Some r.plan.now
   pub has_pieces : first_of (codes "PIECES") rows ≡ Some r.pieces.now
+
+-- the values that a parser found ask for this replay
+pub record IsReplayAsked (rows : List Row) (r : ReplayRequest) : Type 0 where
+  pub has_files : AreFilesAsked rows r
   pub has_order : order_of (first_of (codes "order") rows) ≡ Some r.order.items
 
 -- and say whether the threads replay at once, which no order does
@@ -206,6 +210,7 @@ IsAsked name rows (Replay r by_threads names offsets) =
     (name ≡ codes "replay") × IsReplayAsked rows r × IsTurnsAsked rows by_threads × (names ≡ has_flag (codes "names") rows) × (offsets ≡ has_flag (codes "offsets") rows)
 IsAsked name rows (View v) = (name ≡ codes "view") × IsViewAsked rows v
 IsAsked name rows (Trace t) = (name ≡ codes "trace") × IsTraceAsked rows t
+IsAsked name rows (Debug r) = (name ≡ codes "debug") × AreFilesAsked rows r × (r.order.items ≡ [])
 
 -- the same of a command and its values that a parser found
 abbrev pub IsFoundBy : Option (Text × List Row) → Request → Type 0

@@ -85,9 +85,13 @@ with_forms a = with_rule (with_rule (with_rule a (flag_rule (codes "shrink"))) (
 abbrev pub hunting : App
 hunting = with_why (with_forms (with_sizes (with_range_of_runs (with_signs (on_program (new_app (codes "hunt")))))))
 
--- a replay's files, and its order
+-- a replay's files
+abbrev pub on_log : App → App
+on_log a = with_rule (on_program a) (file_rule (codes "PIECES"))
+
+-- and its order
 abbrev pub on_pieces : App → App
-on_pieces a = with_rule (with_rule (on_program a) (file_rule (codes "PIECES"))) (option_rule (codes "order"))
+on_pieces a = with_rule (on_log a) (option_rule (codes "order"))
 
 abbrev pub replaying : App
 replaying = with_why (with_names (with_rule (on_pieces (new_app (codes "replay"))) (flag_rule (codes "threads"))))
@@ -109,10 +113,16 @@ with_events a = with_rule (with_rule (with_rule (with_rule a (option_rule (codes
 abbrev pub tracing : App
 tracing = with_why (with_offsets (with_events (on_pieces (new_app (codes "trace")))))
 
+abbrev pub debugging : App
+debugging = with_why (on_log (new_app (codes "debug")))
+
 -- the program before its commands, one of which is required
 abbrev pub above : App
 above = record { top = record (new_app (codes "wreplay")).top { has_version = true; subcommand_required = true }; subs = [] }
 
 abbrev pub program : App
 program = with_subcommand
-    (with_subcommand (with_subcommand (with_subcommand (with_subcommand (with_subcommand (with_subcommand (with_subcommand above check.top) recording.top) hunting.top) replaying.top) viewing.top) tracing.top) gather.top) chart.top
+    (with_subcommand
+    (with_subcommand (with_subcommand (with_subcommand (with_subcommand (with_subcommand (with_subcommand (with_subcommand above check.top) recording.top) hunting.top) replaying.top) viewing.top) tracing.top) debugging.top)
+    gather.top)
+    chart.top

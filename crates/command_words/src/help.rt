@@ -11,7 +11,8 @@ pieces of one run may come from several machines, in any order, with repeats,
 and some may be lost. `wreplay gather` joins them into the one log that they
 claim, and `wreplay chart` draws that. `wreplay replay` makes the run again,
 `wreplay view` stops it where a thread has come so far, or where a byte is
-written, and `wreplay trace` writes a line for each access.";
+written, `wreplay trace` writes a line for each access, and `wreplay debug` goes
+forward and back in it.";
 
 /// How the program ends.
 pub(crate) const STATUSES: &str = "\
@@ -453,3 +454,40 @@ Example:
   wreplay trace examples/lost.wasm examples/lost.plan examples/lost.pieces
   wreplay trace examples/lost.wasm examples/lost.plan examples/lost.pieces \\
       --bytes 0+4 --from 1.1 --to 0.1";
+
+/// What `debug` reads and writes.
+pub(crate) const DEBUG_ABOUT: &str = "\
+Opens the replay of a log, as `wreplay replay` makes it, reads commands from
+standard input, one in each line, and answers each on standard output:
+
+  step T [N]      go on with thread T alone, by N steps, or by 1
+  continue        go on with all threads, up to a break
+  back [N]        go back by N steps, or by 1, of whichever threads made them
+  place T P       break behind the event of thread T after which it has made P
+  write FROM LEN  break behind a write of a block that holds one of these bytes
+  delete          forget all breaks
+  threads         how each thread stands, and where
+  bytes FROM LEN  these bytes, and the versions of their blocks
+  way             the steps made so far, from the beginning on
+  help            these commands
+  quit            end; so does the end of the input
+
+A step is one instruction. A thread waits at each access until the objects have
+the versions that the log names, so where it cannot go on other threads have to
+go on before. The same steps lead to the same state, however often they are
+made.";
+
+/// How `debug` refuses.
+pub(crate) const DEBUG_REFUSALS: &str = "\
+Refusals (exit status 1), the first of them in this order:
+  refused 1, 2, 3, 11, 12      MODULE, as `wreplay check` refuses it
+  refused 12 to 17             PLAN, as `wreplay record` refuses it
+  refused 41 to 43, 51, 58     PIECES, as `wreplay replay` refuses them
+  refused 56 NoMemory          the replay does not fit into memory
+  refused 23 NoMemory          a file does not fit into memory
+  refused 44 SourceFailed      a file or the commands can't be read
+  refused 45 SinkFailed        writing failed; a beginning was written
+
+Example:
+  printf 'step 0 5\\nthreads\\nback 2\\n' | wreplay debug examples/lost.wasm \\
+      examples/lost.plan examples/lost.pieces";

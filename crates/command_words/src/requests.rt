@@ -189,4 +189,6 @@ pub enum Request<'a> {
     View(ViewRequest<'a>),
     /// A trace of a replay, a line for each event.
     Trace(TraceRequest<'a>),
+    /// A replay that goes forward and back as commands say; it has no order.
+    Debug(ReplayRequest<'a>),
 }

@@ -15,6 +15,7 @@ pub(crate) enum Subcommand {
     Replay,
     View,
     Trace,
+    Debug,
     Gather,
     Chart,
 }
@@ -27,6 +28,7 @@ pub(crate) static SUBCOMMANDS: &[Subcommand] = &[
     Subcommand::Replay,
     Subcommand::View,
     Subcommand::Trace,
+    Subcommand::Debug,
     Subcommand::Gather,
     Subcommand::Chart,
 ];
@@ -317,6 +319,9 @@ static OF_TRACE: &[ArgumentRow] = &[
     WHY,
 ];
 
+/// The arguments of `debug`.
+static OF_DEBUG: &[ArgumentRow] = &[MODULE, PLAN, PIECES, WHY];
+
 const SKIP: ArgumentRow = ArgumentRow {
     name: "skip",
     takes: Takes::Nothing,
@@ -387,6 +392,7 @@ impl Subcommand {
             Subcommand::Replay => "replay",
             Subcommand::View => "view",
             Subcommand::Trace => "trace",
+            Subcommand::Debug => "debug",
             Subcommand::Gather => "gather",
             Subcommand::Chart => "chart",
         }
@@ -403,6 +409,7 @@ impl Subcommand {
             Subcommand::Replay => "Make a recorded run again, and write what it came to",
             Subcommand::View => "Stop a replay where it matters, and show it",
             Subcommand::Trace => "Replay a run, and write a line for each access",
+            Subcommand::Debug => "Go forward and back in a recorded run",
             Subcommand::Gather => "Join piece lines into one log, and list it",
             Subcommand::Chart => "Join piece lines into one log, and draw its accesses",
         }
@@ -417,6 +424,7 @@ impl Subcommand {
             Subcommand::Replay => help::REPLAY_ABOUT,
             Subcommand::View => help::VIEW_ABOUT,
             Subcommand::Trace => help::TRACE_ABOUT,
+            Subcommand::Debug => help::DEBUG_ABOUT,
             Subcommand::Gather => help::GATHER_ABOUT,
             Subcommand::Chart => help::CHART_ABOUT,
         }
@@ -431,6 +439,7 @@ impl Subcommand {
             Subcommand::Replay => help::REPLAY_REFUSALS,
             Subcommand::View => help::VIEW_REFUSALS,
             Subcommand::Trace => help::TRACE_REFUSALS,
+            Subcommand::Debug => help::DEBUG_REFUSALS,
             Subcommand::Gather => help::GATHER_REFUSALS,
             Subcommand::Chart => help::CHART_REFUSALS,
         }
@@ -447,6 +456,7 @@ impl Subcommand {
             Subcommand::Replay => OF_REPLAY,
             Subcommand::View => OF_VIEW,
             Subcommand::Trace => OF_TRACE,
+            Subcommand::Debug => OF_DEBUG,
             Subcommand::Gather => OF_GATHER,
             Subcommand::Chart => OF_CHART,
         }

@@ -4,7 +4,7 @@ ghost use Rattle.std.specs.Prelude.{◌≡◌, ℕ, Bool, Option, codes, map, So
 ghost use Rattle.clap.specs.Words.{Row, rows_of, first_of};
 ghost use Rattle.clap.specs.Matches.{found_of};
 ghost use Rattle.command_words.specs.Words.{pair_in};
-ghost use Rattle.command_words.specs.Asked.{IsAsked, AreSizesAsked, IsByThreadsAsked, IsFormAsked, IsOrderAsked, IsRecordFormAsked, IsRecordAsked, IsHuntAsked, IsRangeOfRuns, IsJobsAsked, IsReplayAsked, IsTurnsAsked, IsViewAsked, IsTraceAsked, IsCountAsked, IsRangeAsked, IsGatherAsked, IsBlockOf, has_flag, order_of, is_text, number_of, pair_of_option, ranges_of, texts_of};
+ghost use Rattle.command_words.specs.Asked.{IsAsked, AreSizesAsked, IsByThreadsAsked, IsFormAsked, IsOrderAsked, IsRecordFormAsked, IsRecordAsked, IsHuntAsked, IsRangeOfRuns, IsJobsAsked, AreFilesAsked, IsReplayAsked, IsTurnsAsked, IsViewAsked, IsTraceAsked, IsCountAsked, IsRangeAsked, IsGatherAsked, IsBlockOf, has_flag, order_of, is_text, number_of, pair_of_option, ranges_of, texts_of};
 ghost use Rattle.command_words.specs.declared.requests.Request.{Request};
 ghost use Rattle.command_words.specs.declared.requests.Request.TheVariants as requests;
 ghost use Rattle.command_words.specs.declared.requests.RecordOrder.{RecordOrder};
@@ -410,6 +410,29 @@ fn number_list(
     }
 }
 
+/// The replay in that order of the files that the values of a command name.
+fn replay_in<'a>(matches: &ArgMatches<'a>, order: Vec<u32>) -> Wanted<ReplayRequest<'a>>
+    ensures asked { IfOk result (AreFilesAsked (rows_of (found_of matches.now))) }
+    ensures order { IfOk result (λ r. r.order ≡ order) }
+    ensures none { OnErr result ((r : ReplayRequest) → AreFilesAsked (rows_of (found_of matches.now)) r → ⊥) }
+{
+    let Some(module) = value(matches, "MODULE") else {
+        return Err(MISSING);
+    };
+    let Some(plan) = value(matches, "PLAN") else {
+        return Err(MISSING);
+    };
+    let Some(pieces) = value(matches, "PIECES") else {
+        return Err(MISSING);
+    };
+    Ok(ReplayRequest {
+        module,
+        plan,
+        pieces,
+        order,
+    })
+}
+
 /// The replay that the values of `replay`, `view` or `trace` ask for.
 fn replay_of<'a>(
     alloc: Global,
@@ -418,24 +441,10 @@ fn replay_of<'a>(
     ensures asked { IfOk result (λ wanted. IfOk wanted (IsReplayAsked (rows_of (found_of matches.now)))) }
     ensures none { IfOk result (λ wanted. OnErr wanted ((r : ReplayRequest) → IsReplayAsked (rows_of (found_of matches.now)) r → ⊥)) }
 {
-    let Some(module) = value(matches, "MODULE") else {
-        return Ok(Err(MISSING));
-    };
-    let Some(plan) = value(matches, "PLAN") else {
-        return Ok(Err(MISSING));
-    };
-    let Some(pieces) = value(matches, "PIECES") else {
-        return Ok(Err(MISSING));
-    };
     let Some(order) = number_list(alloc, matches, "order")? else {
         return Ok(Err(BAD_ORDER));
     };
-    Ok(Ok(ReplayRequest {
-        module,
-        plan,
-        pieces,
-        order,
-    }))
+    Ok(replay_in(matches, order))
 }
 
 /// Whether threads replay at once, as the values of `replay` say; None where they name an order, too.
@@ -701,6 +710,10 @@ pub(crate) fn request_of<'a>(
         },
         "trace" => match trace_of(alloc, matches)? {
             Ok(trace) => Ok(Ok(Request::Trace(trace))),
+            Err(wrong) => Ok(Err(wrong)),
+        },
+        "debug" => match replay_in(matches, Vec::new(alloc)) {
+            Ok(replay) => Ok(Ok(Request::Debug(replay))),
             Err(wrong) => Ok(Err(wrong)),
         },
         "chart" => match chart_of(alloc, matches)? {

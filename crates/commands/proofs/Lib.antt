@@ -10,3 +10,4 @@ pub mod Rest
 pub mod Forms
 pub mod Wanting
 pub mod Delivering
+pub mod Debugged

@@ -11,4 +11,5 @@ pub mod Hunts
 pub mod Replays
 pub mod Views
 pub mod Traces
+pub mod Debugs
 pub mod Answered

@@ -1,11 +1,14 @@
-//! What the commands make of the files that they name: summaries, recordings, caught runs, reports, views and traces.
+//! What the commands make of the files that they name: summaries, recordings, caught runs, reports, views, traces and
+//! dialogues.
 //!
 //! `check`, `record`, `hunt`, `replay`, `view` and `trace` answer what is so of the bytes that the files hold
 //! (`checked`, `recorded`, `hunted`, `replayed`, `viewed`, `traced`), or the first fault in the order of the files
-//! (`refused`); `Fault::text` is its line. Through `Files` they read; `MemoryFiles` are exact ones.
+//! (`refused`); `Fault::text` is its line. `debug` writes such answers as commands come (`done`, `stopped`). Through
+//! `Files` they read; `MemoryFiles` are exact ones.
 #![tactic(auto)]
 
 mod check_command;
+mod debug_command;
 mod fault;
 mod files;
 mod gathered;
@@ -29,6 +32,7 @@ mod trace_command;
 mod view_command;
 
 pub use check_command::check;
+pub use debug_command::debug;
 pub use fault::Fault;
 pub use files::{FileFault, FileState, Files, InputFile};
 pub use gathered::{ReplayInput, read_replay_input};

@@ -1,7 +1,7 @@
 //! What a world shows: the report of its end, its bytes, versions and threads, and the view of a replay.
 //!
-//! `report`, `view`, `thread_view`, `versions` and `bytes`: each by its definition; `fault`: the range passes the
-//! memory, or memory is wanting. `view_log`: the view of the world at which the replay stops; on a log below a run's it
+//! `report`, `view`, `thread_view`, `note_of`, `versions` and `bytes`: each by its definition; `fault`: the range
+//! passes the memory, or memory is wanting. `view_log`: the view of the world at which the replay stops; on a log below a run's it
 //! has recorded values alone (`shown`). `trace_log`: a line for each event on the way, told by worlds that have recorded
 //! values alone, and that view (`traced`).
 #![tactic(auto)]
@@ -33,10 +33,11 @@ pub use ending::notes_of_end;
 pub use event_core::Ended;
 pub use fault::ViewFault;
 pub use memory_space::MemorySpace;
-pub use notes::Notes;
+pub use notes::{Notes, note_of};
+pub use places::PlaceWriter;
 pub use replay_breaks::Break;
 pub use report_text::{noted_report, put_row, report};
-pub use text::view;
+pub use text::{stop_words, view, write_objects, write_rows, write_thread};
 pub use threads::{ThreadView, thread_view};
 pub use trace_choice::TraceChoice;
 pub use tracing::{TraceFault, trace_log};

@@ -48,8 +48,8 @@ fn write_frame(
     places.write(text, place)
 }
 
-/// Where a thread stands.
-fn note_of(
+/// The note of where a thread stands: the functions that it is in. One that has ended is in none.
+pub fn note_of(
     alloc: Global,
     places: &PlaceWriter<'_>,
     thread: &ThreadState<'_>,
@@ -84,8 +84,8 @@ fn note_at_step(
     }
 }
 
-/// Where a thread of a world at which a replay stopped stands; of one that trapped, where it stood before the last of its
-/// steps.
+/// Where a thread of a world at which a replay stopped stands; of one that trapped, where it stood before the last of
+/// its steps.
 fn note_of_thread(
     alloc: Global,
     places: &PlaceWriter<'_>,

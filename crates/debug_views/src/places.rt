@@ -18,7 +18,7 @@ use wasm_types::NoMemory;
 /// Writes places in the code of a module: functions by the names in its bytes, and instructions with their offsets,
 /// where these are asked for. Contracts see the module's bytes, and whether they are.
 #[derive(Drop)]
-pub(crate) struct PlaceWriter<'a> {
+pub struct PlaceWriter<'a> {
     source: &'a [u8],
     names: FunctionNames,
     offsets: Option<InstructionOffsets>,
@@ -66,7 +66,7 @@ fn write_offset(text: &mut String, offset: Option<usize>) -> Result<(), NoMemory
 
 impl<'a> PlaceWriter<'a> {
     /// A writer of places in the module of these bytes.
-    pub(crate) fn new(
+    pub fn new(
         alloc: Global,
         source: &'a [u8],
         has_offsets: bool,

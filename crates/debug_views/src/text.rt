@@ -61,8 +61,8 @@ fn first_line(alloc: Global, stopped: Stopped, breaks: &[Break]) -> Result<Strin
     Ok(format!(in alloc; "{words}\n")?)
 }
 
-// Where a replay stopped.
-fn stop_words(stopped: Stopped, breaks: &[Break]) -> &'static str
+/// Where a replay stopped, in words: `stopped place`, `stopped step`, `stopped write`, `finished` or `stuck`.
+pub fn stop_words(stopped: Stopped, breaks: &[Break]) -> &'static str
     requires { IsShown stopped breaks.now }
     ensures { result.now ≡ stop_words stopped breaks.now }
 {
@@ -95,8 +95,8 @@ fn write_threads<M: Machine<S>, S: ObjectSpace>(
     Ok(())
 }
 
-// Writes how a thread stands, and its note.
-fn write_thread(
+/// Writes how a thread stands, and its note, as a line.
+pub fn write_thread(
     text: &mut String,
     thread: usize,
     view: ThreadView,
@@ -114,8 +114,12 @@ fn write_thread(
     Ok(())
 }
 
-// Writes the versions and the read totals of blocks.
-fn write_objects(text: &mut String, versions: &Versions, blocks: BlockRange) -> Result<(), NoMemory>
+/// Writes the versions and the read totals of blocks, a line for each.
+pub fn write_objects(
+    text: &mut String,
+    versions: &Versions,
+    blocks: BlockRange,
+) -> Result<(), NoMemory>
     requires order { blocks.first ≤ blocks.past }
     requires few { blocks.past ≤ 2 ^ 27 }
     ensures { OnOk result (string_bytes text.new ≡ string_bytes text.old ++ objects_text (count_at versions.now) blocks.first (blocks.past - blocks.first)) }
@@ -138,8 +142,8 @@ fn write_object(text: &mut String, object: u32, count: Count) -> Result<(), NoMe
     Ok(())
 }
 
-// Writes bytes that stand from an address on, in rows.
-fn write_rows(text: &mut String, from: u32, bytes: &[u8]) -> Result<(), NoMemory>
+/// Writes bytes that stand from an address on, in rows of 16.
+pub fn write_rows(text: &mut String, from: u32, bytes: &[u8]) -> Result<(), NoMemory>
     requires { length bytes.now < 2 ^ 32 }
     ensures { OnOk result (string_bytes text.new ≡ string_bytes text.old ++ rows_text from bytes.now ((length bytes.now + 15) / 16)) }
 {

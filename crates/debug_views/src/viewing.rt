@@ -84,7 +84,8 @@ fn show(
 /// Replays a log that was gathered, in this order, up to the first break that holds, or until no thread goes on, and
 /// shows the world at which it stops. On a log below that of a run of the module and plan, the values and threads of
 /// that world are recorded ones alone. Where it is asked for, behind the line of each thread stands where it is, by the
-/// module's bytes, or of one that trapped, where it was before the last of its steps. That the range passes that world's memory is said before any want of memory for its view.
+/// module's bytes, or of one that trapped, where it was before the last of its steps. That the range passes that world's
+/// memory is said before any want of memory for its view.
 pub fn view_log(
     alloc: Global,
     valid: &Valid,

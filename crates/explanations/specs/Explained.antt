@@ -2,7 +2,7 @@
 -- differs in its key. Its other words are open.
 use Rattle.std.specs.Prelude.{◌≡◌, ◌++◌, ℕ, List, codes, Some}
 use Rattle.command_words.specs.declared.requests.Request.{Request}
-use Rattle.command_words.specs.declared.requests.Request.TheVariants.{Gather, Check, Record, Hunt, Replay, View, Trace}
+use Rattle.command_words.specs.declared.requests.Request.TheVariants.{Gather, Check, Record, Hunt, Replay, View, Trace, Debug}
 use Rattle.command_words.specs.declared.requests.RecordOrder.{RecordOrder}
 use Rattle.command_words.specs.declared.requests.RecordOrder.TheVariants as order
 use Rattle.binary_decoder.specs.declared.fault.DecodeFault.{DecodeFault}
@@ -26,24 +26,30 @@ use Rattle.commands.specs.declared.fault.Fault.{Fault}
 use Rattle.commands.specs.declared.fault.Fault.TheVariants as fault
 use Rattle.explanations.specs.Places.{at_byte, at_line, at_instruction, at_event}
 
+-- what stands in the place of a file where bytes come from standard input
+abbrev pub standard_input : List ℕ
+standard_input = codes "standard input"
+
 -- the files that a request names; what it gathers comes from standard input
 abbrev pub module_path : Request → List ℕ
-module_path (Gather skips form) = codes "standard input"
+module_path (Gather skips form) = standard_input
 module_path (Check path) = path.now
 module_path (Record r) = r.«module».now
 module_path (Hunt r) = r.«module».now
 module_path (Replay r by_threads names offsets) = r.«module».now
 module_path (View v) = v.replay.«module».now
 module_path (Trace t) = t.replay.«module».now
+module_path (Debug r) = r.«module».now
 
 abbrev pub plan_path : Request → List ℕ
-plan_path (Gather skips form) = codes "standard input"
+plan_path (Gather skips form) = standard_input
 plan_path (Check path) = path.now
 plan_path (Record r) = r.plan.now
 plan_path (Hunt r) = r.plan.now
 plan_path (Replay r by_threads names offsets) = r.plan.now
 plan_path (View v) = v.replay.plan.now
 plan_path (Trace t) = t.replay.plan.now
+plan_path (Debug r) = r.plan.now
 
 abbrev pub schedule_of : RecordOrder → List ℕ
 schedule_of (order.Schedule path) = path.now
@@ -58,7 +64,8 @@ abbrev pub pieces_path : Request → List ℕ
 pieces_path (Replay r by_threads names offsets) = r.pieces.now
 pieces_path (View v) = v.replay.pieces.now
 pieces_path (Trace t) = t.replay.pieces.now
-pieces_path r = codes "standard input"
+pieces_path (Debug r) = r.pieces.now
+pieces_path r = standard_input
 
 abbrev pub path_of : Request → InputFile → List ℕ
 path_of r input.Module = module_path r
@@ -84,9 +91,11 @@ abbrev pub in_schedule : List ℕ → ScheduleFault → List ℕ
 in_schedule file (scheduling.BadLine line cause) = at_line file line
 in_schedule file fault = file
 
+-- a file that can't be read is told as such; so what can't be read here is standard input
 abbrev pub in_lines : List ℕ → GatherFault → List ℕ
 in_lines file (gathering.OtherRun line own first) = at_line file line
 in_lines file (gathering.BadLine line reason) = at_line file line
+in_lines file gathering.SourceFailed = standard_input
 in_lines file fault = file
 
 abbrev pub in_events : List ℕ → ReplayFault → List ℕ

@@ -4,7 +4,7 @@ ghost use Rattle.std.specs.Prelude.{◌≡◌, IfOk, string_bytes};
 ghost use Rattle.explanations.specs.Places.{place_text};
 ghost use Rattle.explanations.specs.Explained.{IsExplanation, BeginsWith, in_module, in_functions, in_plan, in_schedule, in_lines, in_events, in_log};
 
-use crate::paths::{module_path, path_of, pieces_path, plan_path, schedule_path};
+use crate::paths::{STANDARD_INPUT, module_path, path_of, pieces_path, plan_path, schedule_path};
 use crate::place::FilePlace;
 use crate::reasons::reason_of;
 use binary_decoder::DecodeFault;
@@ -74,6 +74,7 @@ fn in_lines<'a>(file: &'a str, fault: &GatherFault) -> FilePlace<'a>
     match *fault {
         GatherFault::OtherRun { line, .. } => FilePlace::Line { file, line },
         GatherFault::BadLine { line, .. } => FilePlace::Line { file, line },
+        GatherFault::SourceFailed => FilePlace::Whole(STANDARD_INPUT),
         _ => FilePlace::Whole(file),
     }
 }

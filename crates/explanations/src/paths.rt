@@ -6,8 +6,8 @@ ghost use Rattle.explanations.specs.Explained.{module_path, plan_path, schedule_
 use command_words::{RecordOrder, Request};
 use commands::InputFile;
 
-/// What is said in place of a file where the lines come from standard input.
-const STANDARD_INPUT: &str = "standard input";
+/// What is said in place of a file where bytes come from standard input.
+pub(crate) const STANDARD_INPUT: &str = "standard input";
 
 /// The file of the module.
 pub(crate) fn module_path<'a>(request: &Request<'a>) -> &'a str
@@ -21,6 +21,7 @@ pub(crate) fn module_path<'a>(request: &Request<'a>) -> &'a str
         Request::Replay { replay, .. } => replay.module,
         Request::View(view) => view.replay.module,
         Request::Trace(trace) => trace.replay.module,
+        Request::Debug(replay) => replay.module,
     }
 }
 
@@ -36,6 +37,7 @@ pub(crate) fn plan_path<'a>(request: &Request<'a>) -> &'a str
         Request::Replay { replay, .. } => replay.plan,
         Request::View(view) => view.replay.plan,
         Request::Trace(trace) => trace.replay.plan,
+        Request::Debug(replay) => replay.plan,
     }
 }
 
@@ -68,6 +70,7 @@ pub(crate) fn pieces_path<'a>(request: &Request<'a>) -> &'a str
         Request::Replay { replay, .. } => replay.pieces,
         Request::View(view) => view.replay.pieces,
         Request::Trace(trace) => trace.replay.pieces,
+        Request::Debug(replay) => replay.pieces,
         _ => STANDARD_INPUT,
     }
 }

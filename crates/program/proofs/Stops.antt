@@ -12,12 +12,14 @@ use Rattle.command_words.specs.declared.requests.ReplayRequest.{ReplayRequest}
 use Rattle.commands.specs.Records.{AnswerAt, IsRecordAnswer}
 use Rattle.commands.specs.Hunts.{IsHuntAnswer}
 use Rattle.commands.specs.Replays.{IsReplayedText, IsReplayRefused}
+use Rattle.commands.specs.Debugs.{IsShownDebug, IsDebugStopped}
+use Rattle.commands.proofs.Debugged.{unwritten_of}
 use Rattle.replica.specs.declared.skipping.Skipped.{Skipped}
 use Rattle.debug_views.specs.declared.notes.Notes.{Notes}
 use Rattle.command_words.specs.declared.requests.Request.TheVariants as request
 use Rattle.commands.specs.declared.fault.Fault.{Fault}
 use Rattle.commands.specs.declared.fault.Fault.TheVariants.{SinkFailed}
-use Rattle.program.specs.Answers.{IsInForm, IsGatheredText, IsNotGathered, IsTextStopped, IsShown, IsSaid, IsDone, IsStopped}
+use Rattle.program.specs.Answers.{IsInForm, IsGatheredText, IsNotGathered, IsTextStopped, IsShown, IsSaid, IsDone, IsRefused, IsStopped}
 
 -- what the words ask for, where that is a request
 pub as_requested : (words : List Text) (found : Asked) (r : Request) (why : Bool) → found ≡ asked.Request r why → IsRequested words found → Asks words r × (why ≡ asks_why words)
@@ -32,14 +34,27 @@ none_said tells false h = h
 pub replayed_as : (holds : List ℕ → List ℕ → Type 0) (r : ReplayRequest) (asked wanted : Notes) (text : List ℕ) → asked ≡ wanted → IsReplayedText holds r asked text → IsReplayedText holds r wanted text
 replayed_as holds r asked wanted text same replayed = subst (λ (a : Notes). IsReplayedText holds r a text) same replayed
 
+-- a dialogue is asked for, which writes more than one text
+abbrev pub is_dialogue : Request → Bool
+is_dialogue (request.Debug r) = true
+is_dialogue r = false
+
 module _ (holds : List ℕ → List ℕ → Type 0) (fails brought : List ℕ → Type 0) (ended broke : Type 0) (took : List ℕ → Type 0) (unwritten unwritable : Type 0) where
+  -- any other command stops where its text does
+  text_stops : (asks : Request) (fault : Fault) → is_dialogue asks ≡ false
+      → IsTextStopped (IsRefused holds fails brought ended broke asks) (IsDone holds fails brought ended broke (λ skipped. Unit {0}) (λ line. Unit {0}) (λ line. Unit {0}) asks) took unwritten unwritable fault
+      → IsStopped holds fails brought ended broke took unwritten unwritable asks fault
+  text_stops (request.Debug r) fault other h = absurd (cc)
+  text_stops asks fault other h = h
+
   -- what was to be shown stops where the output fails
-  pub shown_stops : (asked asks : Request) (text items : List ℕ) {T : Type 0} (result : Result T Fault) → asked ≡ asks → text ≡ items → IsDone holds fails brought ended broke (λ skipped. Unit {0}) (λ line. Unit {0}) (λ line. Unit {0}) asks items
+  pub shown_stops : (asked asks : Request) (text items : List ℕ) {T : Type 0} (result : Result T Fault) → asked ≡ asks → is_dialogue asks ≡ false → text ≡ items → IsDone holds fails brought ended broke (λ skipped. Unit {0}) (λ line. Unit {0}) (λ line. Unit {0}) asks items
       → IfErr result (λ fault. fault ≡ SinkFailed) → OnErr result unwritable → OnErr result ((part rest : List ℕ) × (text ≡ part ++ rest) × took part)
       → IfErr result (IsStopped holds fails brought ended broke took unwritten unwritable asked)
-  shown_stops asked asks text items (Ok x) is same done e u b = tt
-  shown_stops asked asks text items (Err fault) is same done e u b =
-      inr (e, u, (text, b.0, b.1, subst (λ (r : Request). IsDone holds fails brought ended broke (λ skipped. Unit {0}) (λ line. Unit {0}) (λ line. Unit {0}) r text) (sym is) (subst (IsDone holds fails brought ended broke (λ skipped. Unit {0}) (λ line. Unit {0}) (λ line. Unit {0}) asks) (sym same) done), b.2, b.3))
+  shown_stops asked asks text items (Ok x) is other same done e u b = tt
+  shown_stops asked asks text items (Err fault) is other same done e u b =
+      subst (λ (r : Request). IsStopped holds fails brought ended broke took unwritten unwritable r fault) (sym is)
+      (text_stops asks fault other (inr (e, u, (text, b.0, b.1, subst (IsDone holds fails brought ended broke (λ skipped. Unit {0}) (λ line. Unit {0}) (λ line. Unit {0}) asks) (sym same) done, b.2, b.3))))
 
   -- what was to be shown is done where the output took it
   pub shown_done : (asked asks : Request) (text items : List ℕ) (counted : Skipped → Type 0) (said told : List ℕ → Type 0) {T : Type 0} (result : Result T Fault) → asked ≡ asks → text ≡ items
@@ -89,3 +104,16 @@ module _ (holds : List ℕ → List ℕ → Type 0) (fails brought : List ℕ �
       → IsReplayRefused holds fails r by_threads fault → unwritten → IsStopped holds fails brought ended broke took unwritten unwritable asked fault
   replay_stops asked r by_threads names offsets fault is refused kept =
       subst (λ (q : Request). IsStopped holds fails brought ended broke took unwritten unwritable q fault) (sym is) (inl (refused, kept))
+
+  -- a dialogue is done where the output took its answers
+  pub debug_done : (asked : Request) (r : ReplayRequest) (counted : Skipped → Type 0) (said told : List ℕ → Type 0) {T : Type 0} (result : Result T Fault) → asked ≡ request.Debug r
+      → said [] → OnOk result (IsShownDebug brought ended holds took r) → OnOk result (IsShown took (IsDone holds fails brought ended broke counted said told asked))
+  debug_done asked r counted said told (Ok x) is none shown =
+      subst (λ (q : Request). IsShown took (IsDone holds fails brought ended broke counted said told q)) (sym is) (shown.0, (shown.1, none), shown.2)
+  debug_done asked r counted said told (Err fault) is none shown = tt
+
+  pub debug_stops : (unused : Type 0) → (unused → unwritten) → (asked : Request) (r : ReplayRequest) {T : Type 0} (result : Result T Fault) → asked ≡ request.Debug r
+      → IfErr result (IsDebugStopped brought ended took holds fails unused broke unwritable r) → IfErr result (IsStopped holds fails brought ended broke took unwritten unwritable asked)
+  debug_stops unused less asked r (Ok x) is stopped = tt
+  debug_stops unused less asked r (Err fault) is stopped =
+      subst (λ (q : Request). IsStopped holds fails brought ended broke took unwritten unwritable q fault) (sym is) (unwritten_of brought ended took holds r fails unused unwritten broke unwritable less fault stopped)

@@ -26,9 +26,10 @@ use Rattle.commands.specs.Checks.{IsChecked, IsCheckRefused}
 use Rattle.commands.specs.Notes.{notes_by}
 use Rattle.commands.specs.Records.{AnswerAt, IsRecordAnswer, IsRecordRefused}
 use Rattle.commands.specs.Hunts.{IsHuntAnswer, IsHuntRefused}
-use Rattle.commands.specs.Replays.{IsReplayedText, IsReplayRefused}
+use Rattle.commands.specs.Replays.{IsInputRefused, IsReplayedText, IsReplayRefused}
 use Rattle.commands.specs.Views.{IsViewedText, IsViewRefused}
 use Rattle.commands.specs.Traces.{IsTracedText, IsTraceRefused}
+use Rattle.commands.specs.Debugs.{IsDebugText, IsDebugBroken}
 use Rattle.commands.specs.declared.fault.Fault.{Fault}
 use Rattle.commands.specs.declared.fault.Fault.TheVariants.{Gather, NoMemory, SinkFailed}
 
@@ -162,8 +163,9 @@ module _ (holds : List ℕ → List ℕ → Type 0) (fails : List ℕ → Type 0
   IsDone counted said told (request.Replay r by_threads names offsets) text = IsReplayedText holds r (notes_by names offsets) text × said []
   IsDone counted said told (request.View r) text = IsViewedText holds r text × said []
   IsDone counted said told (request.Trace r) text = IsTracedText holds r text × said []
+  IsDone counted said told (request.Debug r) text = IsDebugText brought ended holds r text × said []
 
-  -- when each fault is answered
+  -- when each fault is answered before anything is written
   abbrev pub IsRefused : Request → Fault → Type 0
   IsRefused (request.Gather skips form) fault = IsNotGathered brought ended broke skips fault
   IsRefused (request.Check path) fault = IsCheckRefused (holds path.now) (fails path.now) fault
@@ -172,12 +174,15 @@ module _ (holds : List ℕ → List ℕ → Type 0) (fails : List ℕ → Type 0
   IsRefused (request.Replay r by_threads names offsets) fault = IsReplayRefused holds fails r by_threads fault
   IsRefused (request.View r) fault = IsViewRefused holds fails r fault
   IsRefused (request.Trace r) fault = IsTraceRefused holds fails r fault
+  IsRefused (request.Debug r) fault = IsInputRefused holds fails r fault
 
   -- Which texts the output took from first to last, and whether it took nothing, or failed.
   module _ (took : List ℕ → Type 0) (unwritten unwritable : Type 0) where
-    -- a command stops: it is refused, and nothing was written; or the output failed
+    -- a command stops: it is refused, and nothing was written; or the output failed; or a dialogue, which writes before
+    -- its source comes to its end, stops before that
     abbrev pub IsStopped : Request → Fault → Type 0
-    IsStopped r = IsTextStopped (IsRefused r) (IsDone (λ skipped. Unit {0}) (λ line. Unit {0}) (λ line. Unit {0}) r) took unwritten unwritable
+    IsStopped (request.Debug r) fault = (IsRefused (request.Debug r) fault × unwritten) ⊎ IsDebugBroken brought ended took holds unwritten broke unwritable r fault
+    IsStopped r fault = IsTextStopped (IsRefused r) (IsDone (λ skipped. Unit {0}) (λ line. Unit {0}) (λ line. Unit {0}) r) took unwritten unwritable fault
 
     -- Whether numbers of lines were told, which texts were told from first to last, and whether no file and no input
     -- was read.

@@ -12,7 +12,7 @@ use crate::showing::{show, show_and_tell};
 use arrayvec::ArrayString;
 use byte_streams::{Sink, Source, write_all};
 use command_words::{Asked, Request, requested};
-use commands::{Fault, Files, check, hunt, notes_by, record, replay, trace, view};
+use commands::{Fault, Files, check, debug, hunt, notes_by, record, replay, trace, view};
 use itoa::Buffer;
 use log::Log;
 use std::alloc::Global;
@@ -91,6 +91,7 @@ fn perform<L: Log, T: Threads + Wait + Sync, F: Files, R: Source, W: Sink, E: Si
             Ok(text) => show(output, text.as_str().as_bytes()),
             Err(fault) => Err(fault),
         },
+        Request::Debug(request) => debug(rt, alloc, files, request, source, output),
     }
 }
 
@@ -150,8 +151,8 @@ pub fn run<L: Log, T: Threads + Wait + Sync, F: Files, R: Source, W: Sink, E: Si
     // Done: the output took the very text of the command that the words ask for, and `errors` took the line of the
     // numbers of lines that were passed over, which run is caught, or where the words ask for it the line of the threads
     // that stopped, or else nothing; or it failed. Refused: `errors` took the line of the fault, and where the words ask
-    // for it one more line, of the reason, or failed; and nothing was written but by a failing output. Not understood:
-    // nothing was read or written.
+    // for it one more line, of the reason, or failed; and nothing was written but by a failing output, or by a dialogue
+    // whose source failed. Not understood: nothing was read or written.
     ensures answered { IsAnswered (F.holds files.old) (F.fails files.old)
         (λ text. R.brings source.old text source.new) (R.ended source.new) (R.failed source.new ≡ R.failed source.old + 1)
         (λ text. W.takes output.old text output.new) (output.new ≡ output.old) (W.failed output.new ≡ W.failed output.old + 1)

@@ -498,6 +498,7 @@ const HELP: &[&[&str]] = &[
     &["wreplay", "replay", "--help"],
     &["wreplay", "view", "--help"],
     &["wreplay", "trace", "--help"],
+    &["wreplay", "debug", "--help"],
     &["wreplay", "chart", "--help"],
 ];
 

@@ -8,3 +8,4 @@ pub mod TurnAnswers
 pub mod Keeping
 pub mod Together
 pub mod GoingAgain
+pub mod Refusals

@@ -36,6 +36,12 @@ is_want_of_memory (fault.Diverged thread place) = false
 is_want_of_memory fault.NoMemory = true
 is_want_of_memory fault.Stuck = false
 
+-- where it was a fault by which no further turn was made, this is said of it
+abbrev pub IfFault : Ceased → (ReplayFault → Type 0) → Type 0
+IfFault ceased.All P = Unit {0}
+IfFault ceased.Done P = Unit {0}
+IfFault (ceased.Fault f) P = P f
+
 module _ {State Op Reply Value Fixed : Type 0} (space : Space Op Reply Value Fixed) (code : Code State Op Reply Fixed) (log : Log) where
   -- why of so many steps of thread t, up to world v, no more were made
   abbrev pub CeasesSo : (t steps most : ℕ) → WorldAt State Value Fixed → Ceased → Type 0

@@ -9,7 +9,7 @@ ghost use Rattle.replay_gate.specs.Shows.{ShowsRecorded};
 ghost use Rattle.replay_gate.specs.Turned.{answer_of_turn, TurnRefused, IsRightRefusal, IsFreeRefusal};
 ghost use Rattle.replay_gate.specs.declared.answers.ReplayFault.TheVariants as ReplayFault;
 ghost use Rattle.replay_breaks.specs.Stops.{StopsAt, StopsRight, StopsFree};
-ghost use Rattle.replay_session.specs.Gone.{steps_of_turn, CeasesSo};
+ghost use Rattle.replay_session.specs.Gone.{steps_of_turn, CeasesSo, IfFault};
 ghost use Rattle.replay_session.specs.Legs.{with_thread, with_rounds, without_last};
 ghost use Rattle.replay_session.specs.Ways.{ThreadLeads, WayLeads};
 
@@ -44,17 +44,17 @@ impl<
     O: OpenWorld<M, S> + Copy + Drop,
 > Session<M, S, L, O> {
     /// A session before its first turn.
-    pub fn new(alloc: Global, opens: O, log: L) -> Result<Session<M, S, L, O>, NoMemory>
-        requires { O.suits opens }
-        ensures log { IfOk result (λ session. session.replay.log ≡ log) }
-        ensures opens { IfOk result (λ session. session.replay.opens ≡ opens) }
+    pub fn new(alloc: Global, opens: &O, log: &L) -> Result<Session<M, S, L, O>, NoMemory>
+        requires { O.suits opens.now }
+        ensures log { IfOk result (λ session. session.replay.log ≡ log.now) }
+        ensures opens { IfOk result (λ session. session.replay.opens ≡ opens.now) }
         ensures legs { IfOk result (λ session. session.legs.items ≡ []) }
-        ensures world { IfOk result (λ session. world_of session.replay.world ≡ O.opened opens) }
+        ensures world { IfOk result (λ session. world_of session.replay.world ≡ O.opened opens.now) }
     {
-        match Replay::new(alloc, opens, log) {
+        match Replay::new(alloc, *opens, *log) {
             Ok(replay) => Ok(Session {
-                opens,
-                log,
+                opens: *opens,
+                log: *log,
                 replay,
                 legs: Vec::new(alloc),
             }),
@@ -109,7 +109,8 @@ impl<M: Machine<S>, S: ObjectSpace, L: ReadLog, O: OpenWorld<M, S>> Session<M, S
     }
 
     /// Turns of a thread, one behind the other, until so many steps were made, or a turn makes none: the thread is
-    /// done, or the turn is refused. The way goes on by the steps that were made.
+    /// done, or the turn is refused. The way goes on by the steps that were made. On a log below that of a run nothing
+    /// clashes and no thread diverges; on the whole log of a run a turn is refused by a shut gate alone.
     pub fn thread_steps(&mut self, alloc: Global, thread: u32, most: u64) -> Gone
         ensures log { self.new.replay.log ≡ self.old.replay.log }
         ensures opens { self.new.replay.opens ≡ self.old.replay.opens }
@@ -117,6 +118,8 @@ impl<M: Machine<S>, S: ObjectSpace, L: ReadLog, O: OpenWorld<M, S>> Session<M, S
         ensures leads { ThreadLeads S.meaning M.code (L.log self.old.replay.log) thread result.steps (world_of self.old.replay.world) (world_of self.new.replay.world) }
         ensures legs { self.new.legs.items ≡ with_thread self.old.legs.items thread result.steps }
         ensures ceased { CeasesSo S.meaning M.code (L.log self.old.replay.log) thread result.steps most (world_of self.new.replay.world) result.ceased }
+        ensures right { IfFault result.ceased (IsRightRefusal S.meaning M.code (L.log self.old.replay.log) (O.opened self.old.replay.opens)) }
+        ensures free { IfFault result.ceased (IsFreeRefusal S.meaning M.code (L.log self.old.replay.log) (O.opened self.old.replay.opens)) }
     {
         match self.legs.reserve(1) {
             Err(_) => Gone {

@@ -18,4 +18,6 @@ mod replays;
 #[cfg(test)]
 mod resting;
 #[cfg(test)]
+mod sessions;
+#[cfg(test)]
 mod turns;

@@ -11,7 +11,7 @@ use rw_objects::Entry;
 use std::array;
 
 /// A log that was gathered from pieces.
-#[derive(Drop)]
+#[derive(Clone, Copy)]
 pub struct Gathered<'a> {
     pub(crate) log: &'a Log,
 }

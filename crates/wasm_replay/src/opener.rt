@@ -9,7 +9,7 @@ use wasm_types::{NoMemory, Profile};
 use wasm_world::{Plan, SharedSpace, ThreadState, Valid, open_world};
 
 /// A module, a plan of it, and the profile of their runs.
-#[derive(Drop)]
+#[derive(Clone, Copy)]
 pub struct Opener<'a> {
     pub(crate) valid: &'a Valid,
     pub(crate) plan: &'a Plan,

@@ -1,7 +1,7 @@
 use Rattle.std.proofs.Common.{◌≡◌, ◌⊎◌, ◌+◌, ◌++◌, ℕ, List, [], ◌∷◌, inl, rules, refl, subst, sym}
 use Rattle.commands.specs.Texts.{skipped_text}
 use Rattle.program.specs.Answers.{IsSaid}
-use Rattle.program.proofs.Stops.{none_said, shown_done, gathered_done, shown_stops, record_done, hunt_done, gathered_stops, replay_stops, replayed_as}
+use Rattle.program.proofs.Stops.{none_said, shown_done, gathered_done, shown_stops, record_done, hunt_done, gathered_stops, replay_stops, replayed_as, debug_done, debug_stops}
 use Rattle.program.proofs.answering.perform.Goals as goal
 
 pub returns-in-Gather-clause-stopped : goal.returns-in-Gather-clause-stopped
@@ -19,7 +19,7 @@ returns-in-Gather-clause-done g c =
 
 pub returns-in-Ok-clause-stopped : goal.returns-in-Ok-clause-stopped
 returns-in-Ok-clause-stopped g c =
-    shown_stops _ _ _ _ _ _ _ _ c.args.request.now _ c.deref.result.now c.in-Ok.text.items c.show.result c.in-Check.is c.deref.ensures.value (c.in-Ok.ensures.checked, tt) c.show.ensures.error c.show.ensures.one_failed c.show.ensures.begun
+    shown_stops _ _ _ _ _ _ _ _ c.args.request.now _ c.deref.result.now c.in-Ok.text.items c.show.result c.in-Check.is refl c.deref.ensures.value (c.in-Ok.ensures.checked, tt) c.show.ensures.error c.show.ensures.one_failed c.show.ensures.begun
 
 pub returns-in-Ok-record-clause-done : goal.returns-in-Ok-record-clause-done
 returns-in-Ok-record-clause-done g c =
@@ -59,20 +59,20 @@ returns-in-Ok-view-clause-done g c =
 pub returns-in-Ok-record-clause-stopped : goal.returns-in-Ok-record-clause-stopped
 returns-in-Ok-record-clause-stopped g c =
     let a = c.in-Ok-record.answer in
-    shown_stops _ _ _ _ _ _ _ _ c.args.request.now _ a.text a.text c.show_and_tell.result c.in-Record.is refl (a, c.in-Ok-record.ensures.recorded, refl, tt) c.show_and_tell.ensures.error c.show_and_tell.ensures.one_failed c.show_and_tell.ensures.begun
+    shown_stops _ _ _ _ _ _ _ _ c.args.request.now _ a.text a.text c.show_and_tell.result c.in-Record.is refl refl (a, c.in-Ok-record.ensures.recorded, refl, tt) c.show_and_tell.ensures.error c.show_and_tell.ensures.one_failed c.show_and_tell.ensures.begun
 
 pub returns-in-Ok-hunt-clause-stopped : goal.returns-in-Ok-hunt-clause-stopped
 returns-in-Ok-hunt-clause-stopped g c =
     let a = c.in-Ok-hunt.answer in
-    shown_stops _ _ _ _ _ _ _ _ c.args.request.now _ a.text a.text c.show_and_tell-in-Ok-hunt.result c.in-Hunt.is refl (a, c.in-Ok-hunt.ensures.hunted, refl, tt) c.show_and_tell-in-Ok-hunt.ensures.error c.show_and_tell-in-Ok-hunt.ensures.one_failed c.show_and_tell-in-Ok-hunt.ensures.begun
+    shown_stops _ _ _ _ _ _ _ _ c.args.request.now _ a.text a.text c.show_and_tell-in-Ok-hunt.result c.in-Hunt.is refl refl (a, c.in-Ok-hunt.ensures.hunted, refl, tt) c.show_and_tell-in-Ok-hunt.ensures.error c.show_and_tell-in-Ok-hunt.ensures.one_failed c.show_and_tell-in-Ok-hunt.ensures.begun
 
 pub returns-in-Ok-replay-clause-stopped : goal.returns-in-Ok-replay-clause-stopped
 returns-in-Ok-replay-clause-stopped g c =
-    shown_stops _ _ _ _ _ _ _ _ c.args.request.now _ c.as_bytes.result.now _ c.show-in-Ok-replay.result c.in-Replay.is (search rules) (replayed_as _ _ _ _ _ c.notes_by-asked.ensures c.in-Ok-replay.ensures.replayed, tt) c.show-in-Ok-replay.ensures.error c.show-in-Ok-replay.ensures.one_failed c.show-in-Ok-replay.ensures.begun
+    shown_stops _ _ _ _ _ _ _ _ c.args.request.now _ c.as_bytes.result.now _ c.show-in-Ok-replay.result c.in-Replay.is refl (search rules) (replayed_as _ _ _ _ _ c.notes_by-asked.ensures c.in-Ok-replay.ensures.replayed, tt) c.show-in-Ok-replay.ensures.error c.show-in-Ok-replay.ensures.one_failed c.show-in-Ok-replay.ensures.begun
 
 pub returns-in-Ok-view-clause-stopped : goal.returns-in-Ok-view-clause-stopped
 returns-in-Ok-view-clause-stopped g c =
-    shown_stops _ _ _ _ _ _ _ _ c.args.request.now _ c.as_bytes-in-Ok-view.result.now _ c.show-in-Ok-view.result c.in-View.is (search rules) (c.in-Ok-view.ensures.viewed, tt) c.show-in-Ok-view.ensures.error c.show-in-Ok-view.ensures.one_failed c.show-in-Ok-view.ensures.begun
+    shown_stops _ _ _ _ _ _ _ _ c.args.request.now _ c.as_bytes-in-Ok-view.result.now _ c.show-in-Ok-view.result c.in-View.is refl (search rules) (c.in-Ok-view.ensures.viewed, tt) c.show-in-Ok-view.ensures.error c.show-in-Ok-view.ensures.one_failed c.show-in-Ok-view.ensures.begun
 
 pub returns-in-Err-replay-clause-stopped : goal.returns-in-Err-replay-clause-stopped
 returns-in-Err-replay-clause-stopped g c =
@@ -87,4 +87,23 @@ returns-in-Ok-trace-clause-done g c =
 
 pub returns-in-Ok-trace-clause-stopped : goal.returns-in-Ok-trace-clause-stopped
 returns-in-Ok-trace-clause-stopped g c =
-    shown_stops _ _ _ _ _ _ _ _ c.args.request.now _ c.as_bytes-in-Ok-trace.result.now _ c.show-in-Ok-trace.result c.in-Trace.is (search rules) (c.in-Ok-trace.ensures.traced, tt) c.show-in-Ok-trace.ensures.error c.show-in-Ok-trace.ensures.one_failed c.show-in-Ok-trace.ensures.begun
+    shown_stops _ _ _ _ _ _ _ _ c.args.request.now _ c.as_bytes-in-Ok-trace.result.now _ c.show-in-Ok-trace.result c.in-Trace.is refl (search rules) (c.in-Ok-trace.ensures.traced, tt) c.show-in-Ok-trace.ensures.error c.show-in-Ok-trace.ensures.one_failed c.show-in-Ok-trace.ensures.begun
+
+pub returns-in-Debug-clause-done : goal.returns-in-Debug-clause-done
+returns-in-Debug-clause-done g c =
+    let took : List ℕ → Type 0 = λ text. g.W.Sink.takes c.args.output.now text c.debug.new.output in
+    let brought : List ℕ → Type 0 = λ text. g.R.Source.brings c.args.source.now text c.debug.new.source in
+    let tells : List ℕ → Type 0 = λ text. g.E.Sink.takes c.args.errors.now text c.args.errors.now ⊎ (g.E.Sink.failed c.args.errors.now ≡ g.E.Sink.failed c.args.errors.now + 1) in
+    let none = none_said tells c.args.why (inl (g.met.E.Sink.takes_nothing c.args.errors.now)) in
+    debug_done (g.F.Files.holds c.args.files.now) (λ path. Unit {0}) brought (g.R.Source.ended c.debug.new.source) (Unit {0}) took (Unit {0}) (Unit {0}) c.args.request.now c.in-Debug.request (λ skipped. tells (skipped_text skipped ++ 10 ∷ [])) (IsSaid tells c.args.why) tells
+    c.debug.result (cc (c.in-Debug.is)) none c.debug.ensures.done
+
+pub returns-in-Debug-clause-stopped : goal.returns-in-Debug-clause-stopped
+returns-in-Debug-clause-stopped g c =
+    let took : List ℕ → Type 0 = λ text. g.W.Sink.takes c.args.output.now text c.debug.new.output in
+    let brought : List ℕ → Type 0 = λ text. g.R.Source.brings c.args.source.now text c.debug.new.source in
+    let broke : Type 0 = g.R.Source.failed c.debug.new.source ≡ g.R.Source.failed c.args.source.now + 1 in
+    let unwritten : Type 0 = c.debug.new.output ≡ c.args.output.now in
+    let unwritable : Type 0 = g.W.Sink.failed c.debug.new.output ≡ g.W.Sink.failed c.args.output.now + 1 in
+    debug_stops (g.F.Files.holds c.args.files.now) (g.F.Files.fails c.args.files.now) brought (g.R.Source.ended c.debug.new.source) broke took unwritten unwritable
+    ((c.debug.new.source ≡ c.args.source.now) × unwritten) (λ unused. unused.1) c.args.request.now c.in-Debug.request c.debug.result (cc (c.in-Debug.is)) c.debug.ensures.stopped

@@ -2,6 +2,7 @@ use Rattle.std.proofs.Common.{ap, ◌∙◌, arith}
 use Rattle.event_core.specs.World.{world_of}
 use Rattle.replay_session.specs.Legs.{steps_of_way, with_thread}
 use Rattle.replay_session.proofs.Keeping.{few_more, with_steps}
+use Rattle.replay_session.proofs.Refusals.{same_leads, right_cease, free_cease}
 use Rattle.replay_session.proofs.session.Session.thread_steps.Goals as goal
 
 pub put_thread-requires-clause-few : goal.put_thread-requires-clause-few
@@ -32,3 +33,25 @@ invariant_of-self-in-Ok g c =
       leads = with_steps g.S.ObjectSpace.meaning g.M.Machine.code g.met.S.ObjectSpace.laws g.met.M.Machine.laws log (g.L.ReadLog.log c.go_thread-gone.new.replay.log) opened (g.O.OpenWorld.opened c.go_thread-gone.new.replay.opens) w v ls c.put_thread.new.legs.items t n
           (ap g.L.ReadLog.log c.go_thread-gone.ensures.log) (ap g.O.OpenWorld.opened c.go_thread-gone.ensures.opens) put c.go_thread-gone.ensures.leads c.args.self.now.leads;
     }
+
+pub returns-in-Ok-clause-right : goal.returns-in-Ok-clause-right
+returns-in-Ok-clause-right g c =
+    let space = g.S.ObjectSpace.meaning in
+    let code = g.M.Machine.code in
+    let log = g.L.ReadLog.log c.args.self.now.replay.log in
+    let opened = g.O.OpenWorld.opened c.args.self.now.replay.opens in
+    let after = c.go_thread-gone.new.replay in
+    let v = world_of after.world in
+    let leads = same_leads space code log (g.L.ReadLog.log after.log) opened (g.O.OpenWorld.opened after.opens) v (ap g.L.ReadLog.log c.go_thread-gone.ensures.log) (ap g.O.OpenWorld.opened c.go_thread-gone.ensures.opens) after.leads in
+    right_cease space code g.met.S.ObjectSpace.laws g.met.M.Machine.laws log opened v c.args.self.now.replay.opening leads c.args.thread c.go_thread-gone.result.steps c.args.most c.go_thread-gone.result.ceased c.go_thread-gone.ensures.ceased
+
+pub returns-in-Ok-clause-free : goal.returns-in-Ok-clause-free
+returns-in-Ok-clause-free g c =
+    let space = g.S.ObjectSpace.meaning in
+    let code = g.M.Machine.code in
+    let log = g.L.ReadLog.log c.args.self.now.replay.log in
+    let opened = g.O.OpenWorld.opened c.args.self.now.replay.opens in
+    let after = c.go_thread-gone.new.replay in
+    let v = world_of after.world in
+    let leads = same_leads space code log (g.L.ReadLog.log after.log) opened (g.O.OpenWorld.opened after.opens) v (ap g.L.ReadLog.log c.go_thread-gone.ensures.log) (ap g.O.OpenWorld.opened c.go_thread-gone.ensures.opens) after.leads in
+    free_cease space code g.met.S.ObjectSpace.laws g.met.M.Machine.laws log opened v c.args.self.now.replay.opening leads c.args.thread c.go_thread-gone.result.steps c.args.most c.go_thread-gone.result.ceased c.go_thread-gone.ensures.ceased

@@ -1,0 +1,242 @@
+"""Dialogues with a debugger of a replay, by the model. The world behind each step of the way is kept, so going back takes worlds off."""
+import re
+from model import World
+from views import bytes_shown, thread_line
+
+# ---- gathered logs
+
+CLASH = object()
+KINDS = ('access', 'woken', 'timedout')
+
+class Cursor:
+    def __init__(self, content): self.content, self.at = content, 0
+    def take(self, size): self.at += size; return self.content[self.at - size:self.at]
+    def number(self, size): return int.from_bytes(self.take(size), 'little')
+
+def found_in(piece):
+    number = piece.number(4)
+    if piece.number(1) == 0: return 'r%d@%d' % (number, piece.number(8))
+    return 'w%d@%d/%d' % (number, piece.number(8), piece.number(8))
+
+def outcome_in(piece):
+    kind = piece.number(1)
+    if kind in (3, 4):
+        size = 4 if kind == 3 else 8
+        return 'i%d %d' % (8 * size, int.from_bytes(piece.take(size), 'little', signed=True))
+    return 'trap %d' % piece.number(1) if kind == 5 else ('running', 'waiting', 'none')[kind]
+
+class Gathered:
+    """What lines of pieces claim: the entries of threads at places, and their ends. What is claimed in two ways is a clash."""
+    def __init__(self, lines):
+        self.entries, self.ends, self.block = {}, {}, 64
+        for line in lines.splitlines(): self.put(Cursor(bytes.fromhex(line)))
+    def claim(self, claims, at, item): claims[at] = item if claims.get(at, item) == item else CLASH
+    def put(self, piece):
+        form = piece.take(4)
+        piece.take(32 + 8)
+        if form == b'IRP\2': self.block = 1 << piece.number(1)
+        thread, first, count, ends = piece.number(1), piece.number(4), piece.number(2), piece.number(1)
+        for place in range(first, first + count):
+            kind, touched = piece.number(1), piece.number(1)
+            self.claim(self.entries, (thread, place), (KINDS[kind], [found_in(piece) for _ in range(touched)]))
+        if ends: self.claim(self.ends, thread, (piece.number(4), piece.number(4), outcome_in(piece)))
+
+# ---- turns, by their tests in order
+
+def touch(word): return word.split('@')[0]
+
+def is_met(world, word):
+    number, found = word[1:].split('@')
+    version, _, reads = found.partition('/')
+    o = int(number)
+    return world.version.get(o, 0) == int(version) and (not reads or world.reads.get(o, 0) == int(reads))
+
+def stands(world, t):
+    outcome = world.outcome(t).split(' ')
+    return t.steps, len(t.entries), ' '.join(outcome[:2])
+
+def turn(world, log, n):
+    """What a turn of a thread does: a local step, an event, or none; and the world behind it."""
+    if n >= len(world.threads): return 'done', world
+    t, end = world.threads[n], log.ends.get(n)
+    if end is None or end is CLASH: return 'missing' if end is None else 'clash', world
+    if t.steps >= end[0]: return 'done' if stands(world, t) == end else 'diverged', world
+    if t.out is not None: return 'diverged', world
+    after = world.copied()
+    if t.sleep is None:
+        after.pick(n, True, 10**9)
+        if len(after.threads[n].entries) == len(t.entries): return 'local', after
+        touched = [touch(word) for word in after.threads[n].entries[-1][1]]
+    else: touched = ['w%d' % (2 + 2 * (t.sleep[0] // world.block))]
+    entry = log.entries.get((n, len(t.entries)))
+    if len(t.entries) >= end[1]: return 'diverged', world
+    if entry is None or entry is CLASH: return 'missing' if entry is None else 'clash', world
+    kind, found = entry
+    if (kind == 'access') != (t.sleep is None) or [touch(word) for word in found] != touched: return 'diverged', world
+    if not all(is_met(world, word) for word in found): return 'shut', world
+    if t.sleep is not None and not after.pick(n, kind == 'woken', 10**9): return 'diverged', world
+    return 'event', after
+
+# ---- a debugger
+
+UNKNOWN = 'error: no such command, try help\n'
+HELP = '''\
+step T [N]      go on with thread T alone, by N steps (1)
+continue        go on with all threads, up to a break
+back [N]        go back by N steps (1), of whichever threads made them
+place T P       break behind the event of thread T after which it has made P
+write FROM LEN  break behind a write of a block that holds one of these bytes
+delete          forget all breaks
+threads         how each thread stands, and where
+bytes FROM LEN  these bytes, and the versions of their blocks
+way             the steps made so far, from the beginning on
+help            these commands
+quit            end
+'''
+
+def number(word):
+    return int(word) if re.fullmatch(b'0|[1-9][0-9]*', word) and int(word) < 2**32 else None
+
+class Debugger:
+    def __init__(self, module, plan, log):
+        self.log, self.passed, self.legs, self.breaks = log, [World(module, plan, log.block)], [], []
+        self.forms = {(b'step', 1): lambda n: self.step(n, 1), (b'step', 2): self.step, (b'continue', 0): self.run_on,
+                      (b'back', 0): lambda: self.back(1), (b'back', 1): self.back, (b'place', 2): self.place, (b'write', 2): self.write,
+                      (b'delete', 0): self.delete, (b'threads', 0): self.threads, (b'bytes', 2): self.bytes, (b'way', 0): self.way,
+                      (b'help', 0): lambda: HELP}
+    world = property(lambda self: self.passed[-1])
+    def answer(self, line):
+        """What is answered to a line that is not `quit`."""
+        if not line: return ''
+        word, *numbers = line.split(b' ')
+        numbers = [number(n) for n in numbers]
+        form = self.forms.get((word, len(numbers)))
+        return UNKNOWN if len(line) > 1024 or form is None or None in numbers else form(*numbers)
+    def talk(self, text):
+        """What is answered to the lines that come."""
+        answers = ''
+        for line in text.split(b'\n'):
+            if line == b'quit': break
+            answers += self.answer(line)
+        return answers
+    def threads(self): return ''.join(thread_line(self.world, t, False, t.out is None) for t in self.world.threads)
+    def step(self, n, most):
+        made, why = 0, ''
+        while made < most and not why:
+            did, after = turn(self.world, self.log, n)
+            if did in ('local', 'event'): self.passed.append(after); made += 1
+            else: why = ' ' + did
+        if made and self.legs and self.legs[-1][0] == n: self.legs[-1][1] += made
+        elif made: self.legs.append([n, made])
+        return 'stepped %d%s\n' % (made, why) + self.threads()
+    def held(self, n, did, before, after):
+        """The kind of the first break that holds behind a step."""
+        for kind, first, second in self.breaks:
+            if kind == 'place' and did == 'event' and (n, len(after.threads[n].entries)) == (first, second): return kind
+            blocks = range(first // self.log.block, (first + second - 1) // self.log.block + 1) if kind == 'write' and second else ()
+            changed = {(o - 1) // 2 for o, version in after.version.items() if o % 2 and version != before.version.get(o, 0)}
+            if any(block in blocks for block in changed): return kind
+    def rounds(self):
+        """Turns of all threads, again and again; answers where that ends."""
+        while True:
+            begun = self.world
+            for n in range(len(begun.threads)):
+                before = self.world
+                did, after = turn(before, self.log, n)
+                if did == 'diverged': return 'stopped diverged'
+                if did not in ('local', 'event'): continue
+                self.passed.append(after)
+                kind = self.held(n, did, before, after)
+                if kind: return 'stopped ' + kind
+            if self.world is begun: return 'finished' if all(stands(begun, t) == self.log.ends.get(t.n) for t in begun.threads) else 'stuck'
+    def run_on(self):
+        before = len(self.passed)
+        stopped = self.rounds()
+        if len(self.passed) > before: self.legs.append(['rounds', len(self.passed) - before])
+        return stopped + '\n' + self.threads()
+    def back(self, steps):
+        steps = min(steps, len(self.passed) - 1)
+        del self.passed[len(self.passed) - steps:]
+        while steps:
+            off = min(steps, self.legs[-1][1])
+            self.legs[-1][1] -= off; steps -= off
+            if not self.legs[-1][1]: self.legs.pop()
+        return 'back\n' + self.threads()
+    def put_break(self, *one):
+        self.breaks.append(one)
+        return 'break %d\n' % (len(self.breaks) - 1)
+    def place(self, n, place): return self.put_break('place', n, place)
+    def write(self, start, length): return self.put_break('write', start, length)
+    def delete(self):
+        self.breaks = []
+        return 'no breaks\n'
+    def bytes(self, start, length):
+        return bytes_shown(self.world, start, length) if start + length <= self.world.length else 'error: the memory ends before\n'
+    def way(self): return ''.join('%s steps %d\n' % (name if name == 'rounds' else 'thread %d' % name, steps) for name, steps in self.legs)
+
+def talk(module, plan, lines, text):
+    """The answers to what comes, where these pieces were gathered."""
+    return Debugger(module, plan, Gathered(lines)).talk(text)
+
+# ---- lines that come
+
+def lines(*words): return ''.join(line + '\n' for line in words).encode()
+
+TALKS = {
+    'opening': lines('threads', 'way', 'back', 'back 7', 'back 0', 'way', 'bytes 0 16'),
+    'through': lines('continue', 'way', 'continue', 'way', 'bytes 0 4', 'back', 'way', 'back 4', 'way', 'step 1 2', 'way', 'continue', 'way',
+                     'back 4294967295', 'way', 'back', 'continue'),
+    'alone': lines('step 0', 'step 0 2', 'step 1 3', 'step 0 4294967295', 'step 1 4294967295', 'step 0 99', 'way', 'bytes 0 4'),
+    'nobody': lines('step 2', 'step 7 0', 'step 4294967295 4294967295', 'step 0 0', 'way'),
+    'pair': lines('step 0 99', 'step 1 99', 'step 0 99', 'step 1 99', 'way', 'bytes 0 8', 'back 3', 'way', 'continue', 'back 99', 'step 1 3'),
+    'crossed': lines(*['step %d 99' % n for n in range(5)], 'way', 'step 0 99', 'step 1 99', 'step 2 99', 'way', 'bytes 0 8', 'continue', 'way',
+                     'back 3', 'way', 'continue', 'back 99', 'step 1 3'),
+    'places': lines('place 0 1', 'place 1 2', 'place 1 1', 'place 1 0', 'place 7 1', 'continue', 'continue', 'continue', 'continue', 'way', 'back 3',
+                    'way', 'continue', 'way', 'back 9', 'continue', 'delete', 'place 1 1', 'continue', 'way'),
+    'writes': lines('write 3 1', 'write 0 0', 'continue', 'bytes 0 4', 'continue', 'bytes 0 4', 'back', 'bytes 0 4', 'continue', 'bytes 3 1', 'way',
+                    'continue', 'continue', 'continue', 'way'),
+    'elsewhere': lines('write 64 64', 'write 4294967295 4294967295', 'write 4294967295 0', 'place 0 9', 'continue', 'way'),
+    'first': lines('place 0 1', 'write 0 1', 'continue', 'back 1', 'delete', 'write 0 1', 'place 0 1', 'continue', 'delete', 'write 0 4294967295',
+                   'continue', 'way'),
+    'legs': lines('step 1', 'step 1 1', 'step 0', 'step 1', 'way', 'back', 'way', 'step 0', 'way', 'write 0 4', 'continue', 'way', 'step 0', 'way',
+                  'back 2', 'way', 'continue', 'way', 'back 3', 'way', 'step 1 9', 'way', 'step 7', 'step 0 0', 'way', 'back 99', 'way'),
+    'rounds': lines('step 1', 'write 0 64', 'continue', 'back', 'continue', 'way', 'back 4', 'way', 'continue', 'continue', 'way', 'back 5', 'way',
+                    'threads', 'delete', 'continue', 'way', 'back 12', 'way', 'threads'),
+    'ranges': lines('step 0 3', *['bytes %d %d' % at for at in (
+        (0, 0), (0, 1), (0, 16), (0, 17), (60, 8), (63, 2), (64, 64), (4092, 8), (65520, 16), (65520, 17), (65535, 1), (65536, 0), (65536, 1), (65537, 0),
+        (131072, 0), (131073, 0), (4294967295, 0), (4294967295, 4294967295), (0, 4294967295))]),
+    'grown': lines('bytes 65532 8', 'bytes 131072 0', 'step 0 1', 'step 0 1', 'bytes 65532 8', 'bytes 131068 4', 'bytes 131069 4', 'back', 'bytes 65532 8',
+                   'write 65536 4', 'continue', 'bytes 65536 0', 'step 1 3', 'way'),
+    'border': lines('write 64 1', 'continue', 'bytes 56 16', 'bytes 4092 8', 'back', 'bytes 63 2', 'delete', 'write 63 1', 'place 0 1', 'continue', 'continue',
+                    'way'),
+    'standing': lines('step 2 5', 'step 2 9', 'back', 'way', 'continue', 'back', 'way', 'step 0 99'),
+    'deep': lines('step 0 255', 'step 0 9', 'step 0', 'back 255', 'step 1 9', 'way'),
+    'help': lines('help', 'help ', 'way'),
+    'bad': lines(
+        ' ', '  ', 'step', 'step ', ' step 0', 'step  0', 'step 0 ', 'step 0 1 ', 'step 0 1 2', 'step 00', 'step 01', 'step 0 01', 'step -1', 'step -0', 'step 0 -1',
+        'step +1', 'step x', 'step 0x1', 'step 1.0', 'step 4294967296', 'step 0 4294967296', 'step 0 18446744073709551617', 'Step 0', 'steps 0', 'step\t0',
+        'continue 1', 'continue ', 'cont', 'back ', 'back 00', 'back -1', 'back 1 2', 'back 4294967296', 'place', 'place 0', 'place 0 1 2', 'place 0.1', 'place a 0',
+        'place 0 4294967296', 'write', 'write 0', 'write 0+4', 'write 0 4 1', 'write 4294967296 0', 'delete 0', 'threads 0', 'threads\r', '\r', 'bytes', 'bytes 0',
+        'bytes 0 4 4', 'bytes 0x0 4', 'bytes 0 04', 'way 1', 'help me', 'help\r', 'quit 0', 'quit\r', ' quit', 'quit ', 'Quit', '0', '# way', 'way;way')
+           + b'\xff\xfe\nstep 0\0\nthr\xc3\xa9ads\nthreads\nway\nwrite 0 4',
+    'long': b'x' * 1024 + b'\n' + b'x' * 1025 + b'\nway' + b' ' * 1021 + b'\n' + b'x' * 1024 + b'threads\nthreads',
+    'blank': b'\n\nthreads\n\n\nstep 1\n\n',
+    'unended': b'step 0\nthreads',
+    'last': b'step 1 2\nquit',
+    'behind': b'step 1 2\n\nquit\nthreads\nstep 0\nquit\n',
+    'only': b'\n',
+}
+
+def drawn_talk(words, threads, count):
+    """Lines that numbers draw: `words` answers a number below another."""
+    def some(most): return (0, 1, 2, 3, words(most + 1), words(most + 1))[words(6)]
+    def line():
+        kind, n = words(16), words(threads + 1)
+        if kind < 5: return 'step %d' % n + (' %d' % some(9) if words(3) else '')
+        if kind < 8: return 'continue'
+        if kind < 11: return 'back' + (' %d' % some(12) if words(3) else '')
+        if kind == 11: return 'place %d %d' % (n, some(4))
+        if kind == 12: return 'write %d %d' % ((0, 4, 60, 64)[words(4)], (0, 1, 4, 8)[words(4)])
+        if kind == 13: return ('delete', 'threads', 'steps', 'bytes 0 4')[words(4)]
+        return ('way', 'bytes %d %d' % (some(70), some(8)))[kind - 14]
+    return lines(*[line() for _ in range(count)], 'way')

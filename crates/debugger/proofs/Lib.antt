@@ -1,0 +1,5 @@
+pub mod MoreLines
+pub mod Writing
+pub mod Closing
+pub mod Lists
+pub mod ShownBytes

@@ -1,0 +1,7 @@
+pub mod Lines
+pub mod Kept
+pub mod Answers
+pub mod Talks
+pub mod Replies
+pub mod At
+pub mod Dialogue

@@ -1,0 +1,87 @@
+-- What lines ask a debugger for.
+use Rattle.std.specs.Prelude.{◌≢◌, ℕ, Bool, false, true, List, [], ◌∷◌, ◌++◌, All, Option, Some, None, codes, length, nat_le, if◌then◌else◌}
+use Rattle.std.specs.List.{flat_map}
+use Rattle.std.specs.Str.{bytes_eq}
+use Rattle.std.specs.Str.Parse.{signed_digits_value, starts_with_minus}
+use Rattle.text_lines.specs.Integers.{is_decimal, bits_of}
+use Rattle.text_lines.specs.Parts.{words}
+use Rattle.debugger.specs.declared.command.Command.{Command}
+use Rattle.debugger.specs.declared.command.Command.TheVariants.{Step, Continue, Back, Place, Write, Delete, Threads, Bytes, Way, Help, Quit}
+use Rattle.debugger.specs.declared.command.Line.{Line}
+use Rattle.debugger.specs.declared.command.Line.TheVariants as line
+
+-- the number from 0 to 2 ^ 32 - 1 that a word is in decimal
+abbrev pub number_of : List ℕ → Option ℕ
+number_of word = if starts_with_minus word then None else (if is_decimal word then bits_of 32 (signed_digits_value 10 word) else None)
+
+-- the command of one word
+abbrev pub alone : List ℕ → Option Command
+alone word =
+    if bytes_eq word (codes "continue") then Some Continue else (
+    if bytes_eq word (codes "back") then Some (Back 1) else (
+    if bytes_eq word (codes "delete") then Some Delete else (
+    if bytes_eq word (codes "threads") then Some Threads else (
+    if bytes_eq word (codes "way") then Some Way else (
+    if bytes_eq word (codes "help") then Some Help else (
+    if bytes_eq word (codes "quit") then Some Quit else None))))))
+
+-- the command of a word and a number
+abbrev pub with_one : List ℕ → Option ℕ → Option Command
+with_one word None = None
+with_one word (Some n) =
+    if bytes_eq word (codes "step") then Some (Step n 1) else (
+    if bytes_eq word (codes "back") then Some (Back n) else None)
+
+-- the command of a word and two numbers
+abbrev pub with_two : List ℕ → Option ℕ → Option ℕ → Option Command
+with_two word None second = None
+with_two word (Some n) None = None
+with_two word (Some n) (Some k) =
+    if bytes_eq word (codes "step") then Some (Step n k) else (
+    if bytes_eq word (codes "place") then Some (Place n k) else (
+    if bytes_eq word (codes "write") then Some (Write (record { from = n; len = k })) else (
+    if bytes_eq word (codes "bytes") then Some (Bytes (record { from = n; len = k })) else None)))
+
+-- the command of these words
+abbrev pub command_of : List (List ℕ) → Option Command
+command_of [] = None
+command_of (word ∷ []) = alone word
+command_of (word ∷ first ∷ []) = with_one word (number_of first)
+command_of (word ∷ first ∷ second ∷ []) = with_two word (number_of first) (number_of second)
+command_of (word ∷ first ∷ second ∷ more ∷ others) = None
+
+abbrev pub line_by : Option Command → Line
+line_by None = line.Unknown
+line_by (Some command) = line.Command command
+
+-- what a line without its end is; one of more than 1,024 bytes is no command
+abbrev pub line_of : List ℕ → Line
+line_of [] = line.Empty
+line_of (b ∷ bs) = if nat_le (length (b ∷ bs)) 1024 then line_by (command_of (words (b ∷ bs))) else line.Unknown
+
+-- whether a line asks for the end
+abbrev pub ends : Command → Bool
+ends (Step thread steps) = false
+ends Continue = false
+ends (Back steps) = false
+ends (Place thread place) = false
+ends (Write range) = false
+ends Delete = false
+ends Threads = false
+ends (Bytes range) = false
+ends Way = false
+ends Help = false
+ends Quit = true
+
+abbrev pub is_end : Line → Bool
+is_end line.Empty = false
+is_end (line.Command command) = ends command
+is_end line.Unknown = false
+
+-- no byte is a line end
+abbrev pub HasNoEnd : List ℕ → Type 0
+HasNoEnd text = All (λ b. b ≢ 10) text
+
+-- lines with their ends
+abbrev pub text_of : List (List ℕ) → List ℕ
+text_of lines = flat_map (λ line. line ++ 10 ∷ []) lines

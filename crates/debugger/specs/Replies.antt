@@ -1,0 +1,217 @@
+-- What a debugger of a replay answers to its commands.
+use Rattle.std.specs.Prelude.{◌≡◌, ◌⊎◌, ℕ, ◌+◌, ◌-◌, ◌/◌, ◌<◌, ◌≤◌, List, [], ◌∷◌, ◌++◌, codes, length}
+use Rattle.std.specs.List.{flat_map}
+use Rattle.std.specs.Fmt.{decimal}
+use Rattle.wasm_types.specs.declared.range.ByteRange.{ByteRange}
+use Rattle.wasm_types.specs.declared.modules.Module.{Module}
+use Rattle.wasm_types.specs.Memories.{block_power}
+use Rattle.block_objects.specs.SharedMemory.{shared_memory}
+use Rattle.event_core.specs.Threads.{ThreadAt, all_steps}
+use Rattle.wasm_world.specs.Opening.{WasmWorld}
+use Rattle.wasm_world.specs.Plans.{PlanValue}
+use Rattle.wasm_world.specs.ThreadCode.{thread_code, ThreadAt as CodeThread}
+use Rattle.replica.specs.declared.log.Log.{Log as GatheredLog}
+use Rattle.replica.specs.Log.{key_of}
+use Rattle.replay_gate.specs.declared.answers.ReplayFault.{ReplayFault}
+use Rattle.replay_gate.specs.declared.answers.ReplayFault.TheVariants as fault
+use Rattle.replay_gate.specs.Shows.{ShowsRecorded}
+use Rattle.replay_gate.specs.Turned.{IsRightRefusal, IsFreeRefusal}
+use Rattle.replay_breaks.specs.declared.breaks.Break.{Break}
+use Rattle.replay_breaks.specs.declared.breaks.Break.TheVariants as break
+use Rattle.replay_breaks.specs.declared.breaks.Stopped.{Stopped}
+use Rattle.replay_breaks.specs.declared.breaks.Stopped.TheVariants as stopped
+use Rattle.replay_breaks.specs.Stops.{StopsAt, StopsRight, StopsFree}
+use Rattle.replay_session.specs.declared.legs.Leg.{Leg}
+use Rattle.replay_session.specs.declared.legs.Leg.TheVariants as leg
+use Rattle.replay_session.specs.declared.gone.Ceased.{Ceased}
+use Rattle.replay_session.specs.declared.gone.Ceased.TheVariants as ceased
+use Rattle.replay_session.specs.declared.gone.Gone.{Gone}
+use Rattle.replay_session.specs.Gone.{CeasesSo, IfFault}
+use Rattle.replay_session.specs.Legs.{with_thread, with_rounds, without_last}
+use Rattle.replay_session.specs.Ways.{ThreadLeads, WayLeads}
+use Rattle.wasm_replay.specs.Replays.{Opens, gathered_log}
+use Rattle.debug_views.specs.Blocks.{AreHolding}
+use Rattle.debug_views.specs.declared.blocks.BlockRange.{BlockRange}
+use Rattle.debug_views.specs.Standing.{PlaceForm, note_of}
+use Rattle.debug_views.specs.Text.{thread_text, objects_text, rows_text, stop_words}
+use Rattle.debug_views.specs.Threads.{view_of_thread}
+use Rattle.debug_views.specs.Values.{memory_bytes, bytes_of_range}
+use Rattle.debug_views.specs.Writes.{IsWriteOfRange}
+use Rattle.debugger.specs.Answers.{memory_line}
+use Rattle.debugger.specs.declared.command.Command.{Command}
+use Rattle.debugger.specs.declared.command.Command.TheVariants.{Step, Continue, Back, Place, Write, Delete, Threads, Bytes, Way, Help, Quit}
+
+-- where a debugger stands: the log, how places in code are written, blocks of 2 ^ power bytes and the opening world,
+-- which stay; the way that it has gone, the world to which that leads, and its breaks
+pub record DebugAt : Type 0 where
+  pub log : GatheredLog
+  pub form : PlaceForm
+  pub power : ℕ
+  pub opening : WasmWorld
+  pub legs : List Leg
+  pub world : WasmWorld
+  pub breaks : List Break
+
+-- before the first command
+pub record IsOpening (m : Module) (plan : PlanValue) (log : GatheredLog) (s : DebugAt) : Type 0 where
+  pub log_is : s.log ≡ log
+  pub source : s.form.source ≡ m.source
+  pub power : s.power ≡ block_power (key_of log).profile
+  pub opens : Opens m plan log s.opening
+  pub world : s.world ≡ s.opening
+  pub legs : s.legs ≡ []
+  pub breaks : s.breaks ≡ []
+
+-- elsewhere on the way; with other breaks
+abbrev pub moved : DebugAt → List Leg → WasmWorld → DebugAt
+moved s legs world = record s { legs = legs; world = world }
+
+abbrev pub with_breaks : DebugAt → List Break → DebugAt
+with_breaks s breaks = record s { breaks = breaks }
+
+-- threads that are numbered from `thread` on: how each stands, and in which functions
+abbrev pub thread_line : PlaceForm → ℕ → ThreadAt CodeThread → List ℕ
+thread_line form thread t = thread_text thread (view_of_thread thread_code t) (note_of form t.state)
+
+abbrev pub thread_lines : PlaceForm → ℕ → List (ThreadAt CodeThread) → List ℕ
+thread_lines form thread [] = []
+thread_lines form thread (t ∷ ts) = thread_line form thread t ++ thread_lines form (thread + 1) ts
+
+abbrev pub standing_text : PlaceForm → WasmWorld → List ℕ
+standing_text form w = thread_lines form 0 w.threads
+
+-- a way, leg by leg
+abbrev pub leg_line : Leg → List ℕ
+leg_line (leg.Thread thread steps) = codes "thread " ++ (decimal thread ++ (codes " steps " ++ (decimal steps ++ 10 ∷ [])))
+leg_line (leg.Rounds steps) = codes "rounds steps " ++ (decimal steps ++ 10 ∷ [])
+
+abbrev pub way_text : List Leg → List ℕ
+way_text legs = flat_map leg_line legs
+
+-- the range's blocks, and its bytes
+abbrev pub bytes_text : WasmWorld → BlockRange → ByteRange → List ℕ
+bytes_text w blocks r = objects_text w.memory.counts blocks.first (blocks.past - blocks.first) ++ rows_text r.from (bytes_of_range (memory_bytes shared_memory w) r.from r.len) ((length (bytes_of_range (memory_bytes shared_memory w) r.from r.len) + 15) / 16)
+
+abbrev pub fault_words : ReplayFault → List ℕ
+fault_words (fault.Clash thread place) = codes " clash\n"
+fault_words (fault.Missing thread place) = codes " missing\n"
+fault_words fault.Shut = codes " shut\n"
+fault_words (fault.Diverged thread place) = codes " diverged\n"
+fault_words fault.NoMemory = codes " memory\n"
+fault_words fault.Stuck = codes " stuck\n"
+
+abbrev pub ceased_words : Ceased → List ℕ
+ceased_words ceased.All = codes "\n"
+ceased_words ceased.Done = codes " done\n"
+ceased_words (ceased.Fault f) = fault_words f
+
+-- how many steps of a thread were made, and why no more
+abbrev pub gone_line : Gone → List ℕ
+gone_line gone = codes "stepped " ++ (decimal gone.steps ++ ceased_words gone.ceased)
+
+-- where all threads stopped
+abbrev pub stopped_line : Stopped → List Break → List ℕ
+stopped_line (stopped.Break index) breaks = stop_words (stopped.Break index) breaks ++ 10 ∷ []
+stopped_line stopped.Finished breaks = codes "finished\n"
+stopped_line stopped.Stuck breaks = codes "stuck\n"
+stopped_line (stopped.Fault f) breaks = codes "stopped" ++ fault_words f
+
+-- a stop at a break of the list, or at none
+abbrev pub IsStopOf : Stopped → List Break → Type 0
+IsStopOf (stopped.Break index) breaks = index < length breaks
+IsStopOf stopped.Finished breaks = Unit {0}
+IsStopOf stopped.Stuck breaks = Unit {0}
+IsStopOf (stopped.Fault f) breaks = Unit {0}
+
+abbrev pub back_line : List ℕ
+back_line = codes "back\n"
+
+-- a break by its number, from 0
+abbrev pub break_line : ℕ → List ℕ
+break_line number = codes "break " ++ (decimal number ++ 10 ∷ [])
+
+abbrev pub no_breaks : List ℕ
+no_breaks = codes "no breaks\n"
+
+abbrev pub no_bytes : List ℕ
+no_bytes = codes "error: the memory ends before\n"
+
+-- these lines, or that memory could not be had for them
+abbrev pub IsBody : List ℕ → List ℕ → Type 0
+IsBody lines body = (body ≡ lines) ⊎ (body ≡ memory_line)
+
+-- a line, and how threads stand behind it
+pub record IsMove (line : List ℕ) (form : PlaceForm) (w : WasmWorld) (text : List ℕ) : Type 0 where
+  pub body : List ℕ
+  pub is_body : IsBody (standing_text form w) body
+  pub is : text ≡ line ++ body
+
+-- the way leads there from the opening world; on a log below that of a run, its values and threads are recorded ones
+-- alone
+pub record IsLed (s : DebugAt) : Type 0 where
+  pub leads : ∥ WayLeads shared_memory thread_code (gathered_log s.log) s.legs s.opening s.world ∥₁
+  pub recorded : ShowsRecorded shared_memory thread_code (gathered_log s.log) s.opening s.world
+
+-- a move to state u, of which the text says what the line says
+pub record Moves (s : DebugAt) (line text : List ℕ) (u : DebugAt) : Type 0 where
+  pub same : u ≡ moved s u.legs u.world
+  pub led : IsLed u
+  pub is : IsMove line s.form u.world text
+
+-- steps of a thread, at most so many: on a log below that of a run nothing clashes and no thread diverges, and on the
+-- whole log of a run a shut gate alone stops them
+pub record Steps (s : DebugAt) (thread most : ℕ) (text : List ℕ) (u : DebugAt) : Type 0 where
+  pub gone : Gone
+  pub few : gone.steps ≤ most
+  pub leads : ThreadLeads shared_memory thread_code (gathered_log s.log) thread gone.steps s.world u.world
+  pub ceased : CeasesSo shared_memory thread_code (gathered_log s.log) thread gone.steps most u.world gone.ceased
+  pub right : IfFault gone.ceased (IsRightRefusal shared_memory thread_code (gathered_log s.log) s.opening)
+  pub free : IfFault gone.ceased (IsFreeRefusal shared_memory thread_code (gathered_log s.log) s.opening)
+  pub legs : u.legs ≡ with_thread s.legs thread gone.steps
+  pub moves : Moves s (gone_line gone) text u
+
+-- turns of all threads in rounds, up to a break: on a log below that of a run no thread diverges, and on the whole log
+-- of a run they are never stuck
+pub record Continues (s : DebugAt) (text : List ℕ) (u : DebugAt) : Type 0 where
+  pub stopped : Stopped
+  pub stops : StopsAt shared_memory thread_code (gathered_log s.log) s.world [] s.breaks u.world stopped
+  pub right : StopsRight shared_memory thread_code (gathered_log s.log) s.opening stopped
+  pub free : StopsFree shared_memory thread_code (gathered_log s.log) s.opening stopped
+  pub legs : u.legs ≡ with_rounds s.legs (all_steps thread_code u.world.threads - all_steps thread_code s.world.threads)
+  pub moves : Moves s (stopped_line stopped s.breaks) text u
+
+-- the way without its last steps
+pub record GoesBack (s : DebugAt) (steps : ℕ) (text : List ℕ) (u : DebugAt) : Type 0 where
+  pub legs : u.legs ≡ without_last steps s.legs
+  pub moves : Moves s back_line text u
+
+-- one more break
+pub record Breaks (s : DebugAt) (b : Break) (text : List ℕ) (u : DebugAt) : Type 0 where
+  pub is : text ≡ break_line (length s.breaks)
+  pub more : u ≡ with_breaks s (s.breaks ++ b ∷ [])
+
+-- the range is shown, as far as memory can be had; or it passes the memory's end
+pub record AreShown (s : DebugAt) (r : ByteRange) (text : List ℕ) : Type 0 where
+  pub within : r.from + r.len ≤ length (memory_bytes shared_memory s.world)
+  pub is : ((blocks : BlockRange) × AreHolding s.power r.from r.len blocks × (text ≡ bytes_text s.world blocks r)) ⊎ (text ≡ memory_line)
+
+pub record ArePast (s : DebugAt) (r : ByteRange) (text : List ℕ) : Type 0 where
+  pub past : length (memory_bytes shared_memory s.world) < r.from + r.len
+  pub is : text ≡ no_bytes
+
+-- memory could not be had, and nothing changed
+abbrev pub Wants : DebugAt → List ℕ → DebugAt → Type 0
+Wants s text u = (text ≡ memory_line) × (u ≡ s)
+
+abbrev pub Replies : Command → DebugAt → List ℕ → DebugAt → Type 0
+Replies (Step thread steps) s text u = Steps s thread steps text u
+Replies Continue s text u = Continues s text u ⊎ Wants s text u
+Replies (Back steps) s text u = GoesBack s steps text u ⊎ Wants s text u
+Replies (Place thread place) s text u = Breaks s (break.Place thread place) text u ⊎ Wants s text u
+Replies (Write range) s text u = ((b : Break) × IsWriteOfRange s.power range.from range.len b × Breaks s b text u) ⊎ Wants s text u
+Replies Delete s text u = (text ≡ no_breaks) × (u ≡ with_breaks s [])
+Replies Threads s text u = IsBody (standing_text s.form s.world) text × (u ≡ s)
+Replies (Bytes range) s text u = (AreShown s range text ⊎ ArePast s range text) × (u ≡ s)
+Replies Way s text u = IsBody (way_text s.legs) text × (u ≡ s)
+Replies Help s text u = u ≡ s
+Replies Quit s text u = ⊥

@@ -1,0 +1,44 @@
+//! What is answered to a line.
+
+ghost use Rattle.std.specs.Prelude.{◌≡◌, ℕ, ◌+◌, ◌-◌, ◌^◌, ◌<◌, List, ◌++◌, OnOk, OnErr};
+ghost use Rattle.debugger.specs.Answers.{answer_text, body_text, memory_line};
+
+use arrayvec::ArrayString;
+use byte_streams::{Failed, Sink, write_all};
+use wasm_types::NoMemory;
+
+/// What is said where memory could not be had.
+const NO_MEMORY: &str = "error: memory\n";
+
+/// What is answered to a line: a line that takes no memory, perhaps of no bytes, and lines for which memory is wanted.
+#[derive(Drop)]
+pub struct Answer {
+    pub head: ArrayString<64>,
+    pub body: Result<String, NoMemory>,
+}
+
+impl Answer {
+    /// The lines behind the first, or that memory could not be had for them.
+    fn body(&self) -> &str
+        ensures { result.now ≡ body_text self.now.body }
+    {
+        match &self.body {
+            Ok(text) => text.as_str(),
+            Err(_) => NO_MEMORY,
+        }
+    }
+
+    /// Writes it.
+    pub(crate) fn write<W: Sink>(&self, output: &mut W) -> Result<(), Failed>
+        requires { W.failed output.old < 2 ^ 64 - 1 }
+        ensures taken { OnOk result (W.takes output.old (answer_text self.now) output.new) }
+        ensures none_failed { OnOk result (W.failed output.new ≡ W.failed output.old) }
+        ensures begun { OnErr result ((part rest : List ℕ) × (answer_text self.now ≡ part ++ rest) × W.takes output.old part output.new) }
+        ensures one_failed { OnErr result (W.failed output.new ≡ W.failed output.old + 1) }
+    {
+        match write_all(output, self.head.as_str().as_bytes()) {
+            Ok(()) => write_all(output, self.body().as_bytes()),
+            Err(Failed) => Err(Failed),
+        }
+    }
+}

@@ -1,0 +1,15 @@
+//! A debugger of the replay of a gathered log.
+
+use crate::opening::WasmSession;
+use debug_views::PlaceWriter;
+use replay_breaks::Break;
+use wasm_types::Block;
+
+/// A debugger of the replay of a gathered log of a module and a plan. Contracts see by `at_of` where it stands.
+#[derive(Drop)]
+pub struct Debugger<'a> {
+    pub(crate) session: WasmSession<'a>,
+    pub(crate) places: PlaceWriter<'a>,
+    pub(crate) block: Block,
+    pub(crate) breaks: Vec<Break>,
+}

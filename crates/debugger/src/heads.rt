@@ -1,0 +1,90 @@
+//! The lines of answers that take no memory.
+
+ghost use Rattle.std.specs.Prelude.{◌≡◌, ◌≤◌, length};
+ghost use Rattle.debugger.specs.Replies.{back_line, fault_words, ceased_words, gone_line, stopped_line, break_line, IsStopOf};
+
+use arrayvec::ArrayString;
+use debug_views::stop_words;
+use itoa::Buffer;
+use replay_breaks::{Break, Stopped};
+use replay_session::{Ceased, Gone};
+use wasm_replay::ReplayFault;
+
+/// Why a replay does not go on, in words.
+fn fault_words(fault: ReplayFault) -> &'static str
+    ensures words { result.now ≡ fault_words fault }
+    ensures short { length result.now ≤ 16 }
+{
+    match fault {
+        ReplayFault::Clash { .. } => " clash\n",
+        ReplayFault::Missing { .. } => " missing\n",
+        ReplayFault::Shut => " shut\n",
+        ReplayFault::Diverged { .. } => " diverged\n",
+        ReplayFault::NoMemory => " memory\n",
+        ReplayFault::Stuck => " stuck\n",
+    }
+}
+
+/// Why no more steps of a thread were made.
+fn ceased_words(ceased: Ceased) -> &'static str
+    ensures words { result.now ≡ ceased_words ceased }
+    ensures short { length result.now ≤ 16 }
+{
+    match ceased {
+        Ceased::All => "\n",
+        Ceased::Done => " done\n",
+        Ceased::Fault(fault) => fault_words(fault),
+    }
+}
+
+/// How many steps of a thread were made, and why no more.
+pub(crate) fn gone_line(gone: Gone) -> ArrayString<64>
+    ensures { result.bytes ≡ gone_line gone }
+{
+    let mut number = Buffer::new();
+    let mut line = ArrayString::<64>::new();
+    line.push_str("stepped ");
+    line.push_str(number.format(gone.steps));
+    line.push_str(ceased_words(gone.ceased));
+    line
+}
+
+/// Where all threads stopped.
+pub(crate) fn stopped_line(stopped: Stopped, breaks: &[Break]) -> ArrayString<64>
+    requires { IsStopOf stopped breaks.now }
+    ensures { result.bytes ≡ stopped_line stopped breaks.now }
+{
+    let mut line = ArrayString::<64>::new();
+    match stopped {
+        Stopped::Break(_) | Stopped::Finished | Stopped::Stuck => {
+            line.push_str(stop_words(stopped, breaks));
+            line.push_str("\n");
+        }
+        Stopped::Fault(fault) => {
+            line.push_str("stopped");
+            line.push_str(fault_words(fault));
+        }
+    }
+    line
+}
+
+/// A break, by its number from 0.
+pub(crate) fn break_line(number: usize) -> ArrayString<64>
+    ensures { result.bytes ≡ break_line number }
+{
+    let mut digits = Buffer::new();
+    let mut line = ArrayString::<64>::new();
+    line.push_str("break ");
+    line.push_str(digits.format(number));
+    line.push_str("\n");
+    line
+}
+
+/// What is said of a move back.
+pub(crate) fn back_line() -> ArrayString<64>
+    ensures { result.bytes ≡ back_line }
+{
+    let mut line = ArrayString::<64>::new();
+    line.push_str("back\n");
+    line
+}

@@ -1,0 +1,29 @@
+//! A debugger of recorded runs: commands, one a line, and what each answers.
+//!
+//! `talk`: each line that comes is answered, up to one that asks for the end, or to the end of what comes (`done`); where
+//! lines can't be had, or answers not written, what was read and taken is said (`broken`). `Debugger` answers by
+//! `Replies`: each command leads to a state, of which the answer tells. `debug_log` is both, from the opening world of a
+//! gathered log on.
+#![tactic(auto)]
+
+mod answer;
+mod command;
+mod debugger;
+mod debugging;
+mod heads;
+mod help;
+mod kept;
+mod lines;
+mod moves;
+mod opening;
+mod reading;
+mod shown_bytes;
+mod standing;
+mod talking;
+mod way;
+
+pub use answer::Answer;
+pub use command::{Command, Line};
+pub use debugger::Debugger;
+pub use debugging::{DebugFault, debug_log};
+pub use talking::{Respond, TalkFault, talk};

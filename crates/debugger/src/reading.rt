@@ -1,0 +1,144 @@
+//! Commands out of lines.
+
+ghost use Rattle.std.specs.Prelude.{◌≡◌, ◌≤◌, ◌∷◌, [], length};
+ghost use Rattle.text_lines.specs.Parts.{words};
+ghost use Rattle.debugger.specs.Lines.{number_of, alone, with_one, with_two, command_of, line_of};
+
+use crate::command::{Command, Line};
+use text_lines::{Parts, bits_32, is_integer};
+use wasm_types::ByteRange;
+
+/// The words that commands begin with.
+const STEP: &[u8] = b"step";
+
+const CONTINUE: &[u8] = b"continue";
+
+const BACK: &[u8] = b"back";
+
+const PLACE: &[u8] = b"place";
+
+const WRITE: &[u8] = b"write";
+
+const DELETE: &[u8] = b"delete";
+
+const THREADS: &[u8] = b"threads";
+
+const BYTES: &[u8] = b"bytes";
+
+const WAY: &[u8] = b"way";
+
+const HELP: &[u8] = b"help";
+
+const QUIT: &[u8] = b"quit";
+
+/// The number from 0 to 4294967295 that a word is in decimal.
+fn number(word: &[u8]) -> Option<u32>
+    ensures { result ≡ number_of word.now }
+{
+    match word {
+        [b'-', ..] => None,
+        _ if is_integer(word) => bits_32(word),
+        _ => None,
+    }
+}
+
+/// The command of one word.
+fn alone(word: &[u8]) -> Option<Command>
+    ensures { result ≡ alone word.now }
+{
+    if word == CONTINUE {
+        Some(Command::Continue)
+    } else if word == BACK {
+        Some(Command::Back { steps: 1 })
+    } else if word == DELETE {
+        Some(Command::Delete)
+    } else if word == THREADS {
+        Some(Command::Threads)
+    } else if word == WAY {
+        Some(Command::Way)
+    } else if word == HELP {
+        Some(Command::Help)
+    } else if word == QUIT {
+        Some(Command::Quit)
+    } else {
+        None
+    }
+}
+
+/// The command of a word and a number.
+fn with_one(word: &[u8], first: &[u8]) -> Option<Command>
+    ensures { result ≡ with_one word.now (number_of first.now) }
+{
+    let number = number(first)?;
+    if word == STEP {
+        Some(Command::Step {
+            thread: number,
+            steps: 1,
+        })
+    } else if word == BACK {
+        Some(Command::Back { steps: number })
+    } else {
+        None
+    }
+}
+
+/// The command of a word and two numbers.
+fn with_two(word: &[u8], first: &[u8], second: &[u8]) -> Option<Command>
+    ensures { result ≡ with_two word.now (number_of first.now) (number_of second.now) }
+{
+    let first = number(first)?;
+    let second = number(second)?;
+    let range = ByteRange {
+        from: first,
+        len: second,
+    };
+    if word == STEP {
+        Some(Command::Step {
+            thread: first,
+            steps: second,
+        })
+    } else if word == PLACE {
+        Some(Command::Place {
+            thread: first,
+            place: second,
+        })
+    } else if word == WRITE {
+        Some(Command::Write(range))
+    } else if word == BYTES {
+        Some(Command::Bytes(range))
+    } else {
+        None
+    }
+}
+
+/// The command of the words of a line.
+fn command_of(line: &[u8]) -> Option<Command>
+    ensures { result ≡ command_of (words line.now) }
+{
+    let mut parts = Parts::new(line, b' ');
+    let word = parts.take_part()?;
+    let Some(first) = parts.take_part() else {
+        return alone(word);
+    };
+    let Some(second) = parts.take_part() else {
+        return with_one(word, first);
+    };
+    match parts.take_part() {
+        None => with_two(word, first, second),
+        Some(_) => None,
+    }
+}
+
+/// What a line of at most 1,024 bytes is.
+pub(crate) fn line_of(line: &[u8]) -> Line
+    requires { length line.now ≤ 1024 }
+    ensures { result ≡ line_of line.now }
+{
+    match line {
+        [] => Line::Empty,
+        [_, ..] => match command_of(line) {
+            Some(command) => Line::Command(command),
+            None => Line::Unknown,
+        },
+    }
+}

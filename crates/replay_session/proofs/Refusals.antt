@@ -1,0 +1,31 @@
+-- What a refusal behind turns of a thread tells of the log.
+use Rattle.std.proofs.Common.{◌≡◌, ℕ, subst, inl, inr}
+use Rattle.rw_objects.specs.Space.{Space, SpaceLaws}
+use Rattle.rw_objects.specs.Code.{Code, CodeLaws}
+use Rattle.event_core.specs.Opening.{IsOpeningWorld}
+use Rattle.event_core.specs.World.{WorldAt}
+use Rattle.replay_laws.specs.Log.{Log}
+use Rattle.replay_gate.specs.Leads.{Leads}
+use Rattle.replay_gate.specs.Turned.{IsRightRefusal, IsFreeRefusal}
+use Rattle.replay_gate.proofs.Refusing.{right_merely, free_merely}
+use Rattle.replay_session.specs.declared.gone.Ceased.{Ceased}
+use Rattle.replay_session.specs.declared.gone.Ceased.TheVariants as ceased
+use Rattle.replay_session.specs.Gone.{CeasesSo, IfFault}
+
+module _ {State Op Reply Value Fixed : Type 0} (space : Space Op Reply Value Fixed) (code : Code State Op Reply Fixed) where
+  -- a gated run from the same log and opening world
+  pub same_leads : (log log' : Log) (opened opened' v : WorldAt State Value Fixed) → log' ≡ log → opened' ≡ opened → ∥ Leads space code log' opened' v ∥₁ → ∥ Leads space code log opened v ∥₁
+  same_leads log log' opened opened' v a b h = subst (λ l. ∥ Leads space code l opened v ∥₁) a (subst (λ o. ∥ Leads space code log' o v ∥₁) b h)
+
+  module _ (laws : SpaceLaws space) (rules : CodeLaws space code) (log : Log) (opened v : WorldAt State Value Fixed) (o : ∥ IsOpeningWorld code opened ∥₁) (leads : ∥ Leads space code log opened v ∥₁) (t steps most : ℕ) where
+    pub right_cease : (x : Ceased) → CeasesSo space code log t steps most v x → IfFault x (IsRightRefusal space code log opened)
+    right_cease ceased.All h = tt
+    right_cease ceased.Done h = tt
+    right_cease (ceased.Fault f) (inl e) = right_merely space code laws rules log opened v t f o leads (inl e)
+    right_cease (ceased.Fault f) (inr h) = right_merely space code laws rules log opened v t f o leads (inr h.1)
+
+    pub free_cease : (x : Ceased) → CeasesSo space code log t steps most v x → IfFault x (IsFreeRefusal space code log opened)
+    free_cease ceased.All h = tt
+    free_cease ceased.Done h = tt
+    free_cease (ceased.Fault f) (inl e) = free_merely space code laws rules log opened v t f o leads (inl e)
+    free_cease (ceased.Fault f) (inr h) = free_merely space code laws rules log opened v t f o leads (inr h.1)
