@@ -164,7 +164,7 @@ class Dialogue:
         self.lines = []
         if source:
             with open(os.path.join(folder, source), "rb") as file:
-                self.lines = file.read().splitlines()
+                self.lines = file.read().removesuffix(b"\n").split(b"\n")
 
     def answers(self, lines):
         text = b"".join(line + b"\n" for line in lines)
