@@ -175,6 +175,25 @@ fn take_turn<M: Machine<S>, S: ObjectSpace, L: ReadLog, O: OpenWorld<M, S>, W: W
     }
 }
 
+/// A turn of a thread, and the test of the breaks behind its step: what it did where no break holds, else which one
+/// holds. Nobody watches.
+pub fn turn_to<M: Machine<S>, S: ObjectSpace, L: ReadLog, O: OpenWorld<M, S>>(
+    alloc: Global,
+    replay: &mut Replay<M, S, L, O>,
+    reader: &mut L::Reader,
+    thread: u32,
+    breaks: &[Break],
+) -> Result<Taken, Stopped>
+    requires { L.reads replay.old.log reader.old }
+    ensures reads { L.reads replay.new.log reader.new }
+    ensures log { replay.new.log ≡ replay.old.log }
+    ensures opens { replay.new.opens ≡ replay.old.opens }
+    ensures takes { IfOk result (TurnTakes S.meaning M.code (L.log replay.old.log) (world_of replay.old.world) thread breaks.now (world_of replay.new.world)) }
+    ensures stops { IfErr result (TurnStopsAt S.meaning M.code (L.log replay.old.log) (world_of replay.old.world) thread breaks.now (world_of replay.new.world)) }
+{
+    take_turn(alloc, replay, reader, thread, breaks, &mut Nobody)
+}
+
 /// Makes the step by which a thread goes on, where one is free and the log lets it pass, and tests the breaks behind
 /// it. Behind a free local step none holds.
 #[inline(always)]

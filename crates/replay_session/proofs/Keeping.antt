@@ -49,6 +49,13 @@ module _ {State Op Reply Value Fixed : Type 0} (space : Space Op Reply Value Fix
         let m = steps_most space code v.threads v.memory sound in
         omega (arith, c, d, m))
 
+    -- no thread makes many
+    pub few_leads : (log : Log) → HasLimits log → (w v : WorldAt State Value Fixed) (t n : ℕ) → IsSound code v.threads v.memory → ThreadLeads space code log t n w v → n ≤ 16000000000
+    few_leads log limits w v t n sound lead =
+        let d = thread_counts space code rules log laws limits t n w v lead in
+        let m = steps_most space code v.threads v.memory sound in
+        omega (arith, d, m)
+
     -- the first steps lead somewhere
     pub goes_again : (log log' : Log) (opened opened' start w : WorldAt State Value Fixed) (ls : List Leg) (n : ℕ) → log' ≡ log → opened' ≡ opened → start ≡ opened'
         → ∥ WayLeads space code log ls opened w ∥₁ → ∥ ((v : WorldAt State Value Fixed) × WayLeads space code log' (first_steps ls n) start v) ∥₁

@@ -2,6 +2,7 @@ pub mod LegLists
 pub mod Counting
 pub mod RoundTurns
 pub mod Ways
+pub mod EventCounts
 pub mod Totals
 pub mod LocalThread
 pub mod TurnAnswers
@@ -9,3 +10,7 @@ pub mod Keeping
 pub mod Together
 pub mod GoingAgain
 pub mod Refusals
+pub mod Reaching
+pub mod LastHits
+pub mod StepsOfWays
+pub mod Reversing

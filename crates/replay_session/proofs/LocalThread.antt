@@ -21,7 +21,9 @@ use Rattle.replay_gate.specs.Local.{steps_left_of}
 use Rattle.replay_gate.proofs.LeftSteps.{leads_locally}
 use Rattle.replay_gate.proofs.LocalTurns.{turns_locally}
 use Rattle.replay_gate.proofs.RunsAlone.{left_within}
+use Rattle.replay_session.specs.Events.{event_count, events_on}
 use Rattle.replay_session.specs.Ways.{ThreadLeads}
+use Rattle.replay_session.proofs.EventCounts.{events_joined}
 use Rattle.replay_session.proofs.Ways.{one_turn, no_thread_turns, thread_joined}
 
 same_lists : {A : Type 0} (xs ys : List A) → length xs ≡ length ys → ((i : ℕ) (x y : A) → slice_get xs i ≡ Some x → slice_get ys i ≡ Some y → x ≡ y) → xs ≡ ys
@@ -50,8 +52,12 @@ module _ {State Op Reply Value Fixed : Type 0} (space : Space Op Reply Value Fix
   none_lead : (w v : WorldAt State Value Fixed) → GoesAlone code t 0 w v → ThreadLeads space code log t 0 w v
   none_lead w v a = subst (ThreadLeads space code log t 0 w) (sym (same_world w v a)) (no_thread_turns space code rules log t w)
 
-  go_on : (n : ℕ) (w v : WorldAt State Value Fixed) (th : ThreadAt State) (end : End) → slice_get w.threads t ≡ Some th → log.end t ≡ Some (flat.Known end) → code.steps th.state + n ≤ end.steps → GoesAlone code t n w v → ThreadLeads space code log t n w v
-  go_on zero w v th end is ends few a = none_lead w v a
+  -- steps of the thread lead on, and none of them is an event
+  abbrev LeadsQuietly : ℕ → WorldAt State Value Fixed → WorldAt State Value Fixed → Type 0
+  LeadsQuietly n w v = ThreadLeads space code log t n w v × (events_on space code log t w n ≡ 0)
+
+  go_on : (n : ℕ) (w v : WorldAt State Value Fixed) (th : ThreadAt State) (end : End) → slice_get w.threads t ≡ Some th → log.end t ≡ Some (flat.Known end) → code.steps th.state + n ≤ end.steps → GoesAlone code t n w v → LeadsQuietly n w v
+  go_on zero w v th end is ends few a = (none_lead w v a, refl)
   go_on (suc n) w v th end is ends few a =
       let o = a.own th is in
       let local : turn_of space code log w t ≡ turn.Local = turns_locally space code log w t (record { thread = th; exists = is; end = end; is_known = ends; below = omega (arith, few); next = o.1.0 }) in
@@ -68,8 +74,17 @@ module _ {State Op Reply Value Fixed : Type 0} (space : Space Op Reply Value Fix
             let z : x ≡ thread_after_local code th = same_Some x (thread_after_local code th) (sym e ∙ there) in
             subst (λ y. (s : State) × Rattle.rw_objects.specs.LocalRun.GoesLocally code n y.state s × (slice_get v.threads t ≡ Some (thread_in s y))) (sym z) (o.0, o.1.2, o.2);
       } in
-      subst (λ m. ThreadLeads space code log t m w v) (let z : 1 + n ≡ suc n = omega arith in z)
-      (thread_joined space code rules log t 1 n w u v first (go_on n u v (thread_after_local code th) end there ends (omega (arith, few, one)) rest))
+      let on = go_on n u v (thread_after_local code th) end there ends (omega (arith, few, one)) rest in
+      let z : 1 + n ≡ suc n = omega arith in
+      let all = ap (events_on space code log t w) z in
+      let joined = events_joined space code rules log t 1 n w in
+      let none : event_count (turn_of space code log w t) ≡ 0 = ap event_count local in
+      let here : events_on space code log t w 1 ≡ 0 = omega (arith, none) in
+      let behind = ap (λ x. events_on space code log t x n) first.leads in
+      let quiet = on.1 in (
+        subst (λ m. ThreadLeads space code log t m w v) z (thread_joined space code rules log t 1 n w u v first on.0),
+        omega (arith, all, joined, here, behind, quiet),
+      )
 
   left_there : (o : Option (Flat End)) (x : Option (ThreadAt State)) (n : ℕ) → 0 < n → n ≤ steps_left_of code o x → (th : ThreadAt State) × (x ≡ Some th)
   left_there None x n some few = absurd (omega (arith, some, few))
@@ -77,11 +92,17 @@ module _ {State Op Reply Value Fixed : Type 0} (space : Space Op Reply Value Fix
   left_there (Some (flat.Known e)) None n some few = absurd (omega (arith, some, few))
   left_there (Some (flat.Known e)) (Some th) n some few = (th, refl)
 
-  pub alone_leads : (n most : ℕ) (w v : WorldAt State Value Fixed) → n ≤ most → most ≤ steps_left_of code (log.end t) (slice_get w.threads t) → GoesAlone code t n w v → ThreadLeads space code log t n w v
-  alone_leads zero most w v l few a = none_lead w v a
-  alone_leads (suc n) most w v l few a =
+  alone : (n most : ℕ) (w v : WorldAt State Value Fixed) → n ≤ most → most ≤ steps_left_of code (log.end t) (slice_get w.threads t) → GoesAlone code t n w v → LeadsQuietly n w v
+  alone zero most w v l few a = (none_lead w v a, refl)
+  alone (suc n) most w v l few a =
       let all : suc n ≤ steps_left_of code (log.end t) (slice_get w.threads t) = omega (arith, l, few) in
       let some : 0 < suc n = omega arith in
       let th = left_there (log.end t) (slice_get w.threads t) (suc n) some all in
       let k = left_within space code log t (suc n) w th.0 th.1 some all in
       go_on (suc n) w v th.0 k.end th.1 k.is_known k.within a
+
+  pub alone_leads : (n most : ℕ) (w v : WorldAt State Value Fixed) → n ≤ most → most ≤ steps_left_of code (log.end t) (slice_get w.threads t) → GoesAlone code t n w v → ThreadLeads space code log t n w v
+  alone_leads n most w v l few a = (alone n most w v l few a).0
+
+  pub alone_quiet : (n most : ℕ) (w v : WorldAt State Value Fixed) → n ≤ most → most ≤ steps_left_of code (log.end t) (slice_get w.threads t) → GoesAlone code t n w v → events_on space code log t w n ≡ 0
+  alone_quiet n most w v l few a = (alone n most w v l few a).1

@@ -10,6 +10,7 @@ use Rattle.replay_gate.specs.Turned.{IsRightRefusal, IsFreeRefusal}
 use Rattle.replay_gate.proofs.Refusing.{right_merely, free_merely}
 use Rattle.replay_session.specs.declared.gone.Ceased.{Ceased}
 use Rattle.replay_session.specs.declared.gone.Ceased.TheVariants as ceased
+use Rattle.replay_session.specs.Events.{EventsCease}
 use Rattle.replay_session.specs.Gone.{CeasesSo, IfFault}
 
 module _ {State Op Reply Value Fixed : Type 0} (space : Space Op Reply Value Fixed) (code : Code State Op Reply Fixed) where
@@ -29,3 +30,15 @@ module _ {State Op Reply Value Fixed : Type 0} (space : Space Op Reply Value Fix
     free_cease ceased.Done h = tt
     free_cease (ceased.Fault f) (inl e) = free_merely space code laws rules log opened v t f o leads (inl e)
     free_cease (ceased.Fault f) (inr h) = free_merely space code laws rules log opened v t f o leads (inr h.1)
+
+    pub right_events : (w : WorldAt State Value Fixed) (x : Ceased) → EventsCease space code log t steps most w v x → IfFault x (IsRightRefusal space code log opened)
+    right_events w ceased.All h = tt
+    right_events w ceased.Done h = tt
+    right_events w (ceased.Fault f) (inl e) = right_merely space code laws rules log opened v t f o leads (inl e)
+    right_events w (ceased.Fault f) (inr h) = right_merely space code laws rules log opened v t f o leads (inr h.1)
+
+    pub free_events : (w : WorldAt State Value Fixed) (x : Ceased) → EventsCease space code log t steps most w v x → IfFault x (IsFreeRefusal space code log opened)
+    free_events w ceased.All h = tt
+    free_events w ceased.Done h = tt
+    free_events w (ceased.Fault f) (inl e) = free_merely space code laws rules log opened v t f o leads (inl e)
+    free_events w (ceased.Fault f) (inr h) = free_merely space code laws rules log opened v t f o leads (inr h.1)

@@ -20,7 +20,7 @@ use Rattle.replay_session.proofs.RoundTurns.{turns_once, turns_shorter, no_turns
 module _ {State Op Reply Value Fixed : Type 0} (space : Space Op Reply Value Fixed) (code : Code State Op Reply Fixed) (rules : CodeLaws space code) (log : Log) where
   -- ---- turns of one thread
 
-  further : (w : WorldAt State Value Fixed) (t m n : ℕ) → thread_world space code log w t (m + n) ≡ thread_world space code log (thread_world space code log w t m) t n
+  pub further : (w : WorldAt State Value Fixed) (t m n : ℕ) → thread_world space code log w t (m + n) ≡ thread_world space code log (thread_world space code log w t m) t n
   further w t m zero = ap (thread_world space code log w t) (let z : m + 0 ≡ m = omega arith in z)
   further w t m (suc n) =
       ap (thread_world space code log w t) (let z : m + suc n ≡ suc (m + n) = omega arith in z)

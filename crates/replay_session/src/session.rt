@@ -9,13 +9,18 @@ ghost use Rattle.replay_gate.specs.Shows.{ShowsRecorded};
 ghost use Rattle.replay_gate.specs.Turned.{answer_of_turn, TurnRefused, IsRightRefusal, IsFreeRefusal};
 ghost use Rattle.replay_gate.specs.declared.answers.ReplayFault.TheVariants as ReplayFault;
 ghost use Rattle.replay_breaks.specs.Stops.{StopsAt, StopsRight, StopsFree};
+ghost use Rattle.replay_session.specs.Events.{events_on, EventsCease};
 ghost use Rattle.replay_session.specs.Gone.{steps_of_turn, CeasesSo, IfFault};
-ghost use Rattle.replay_session.specs.Legs.{with_thread, with_rounds, without_last};
+ghost use Rattle.replay_session.specs.Legs.{steps_of_way, with_thread, with_rounds, without_last};
+ghost use Rattle.replay_session.specs.Reaching.{is_break, GoesTo};
+ghost use Rattle.replay_session.specs.Reverse.{StepOfWay, IsLastHit, GoesBackTo};
 ghost use Rattle.replay_session.specs.Ways.{ThreadLeads, WayLeads};
 
+use crate::events::go_events;
 use crate::going::go_way;
 use crate::gone::{Ceased, Gone};
 use crate::legs::{Leg, first_steps, put_rounds, put_thread, steps_of_way};
+use crate::reverse::{Hit, last_hit};
 use crate::sums::steps_of_world;
 use crate::threads::{go_thread, steps_of};
 use event_core::World;
@@ -24,6 +29,16 @@ use replay_gate::{OpenWorld, ReadLog, Replay, ReplayFault, Turned};
 use rw_objects::{Machine, ObjectSpace};
 use std::alloc::Global;
 use wasm_types::NoMemory;
+
+/// Whether a break stopped a run.
+fn is_break(stopped: Stopped) -> bool
+    ensures { result ≡ is_break stopped }
+{
+    match stopped {
+        Stopped::Break(_) => true,
+        Stopped::Finished | Stopped::Stuck | Stopped::Fault(_) => false,
+    }
+}
 
 /// A replay, and the way that it has gone from the opening world: the world is the one to which the way leads.
 #[derive(Drop)]
@@ -72,6 +87,13 @@ impl<M: Machine<S>, S: ObjectSpace, L: ReadLog, O: OpenWorld<M, S>> Session<M, S
         ensures led { ∥ WayLeads S.meaning M.code (L.log self.now.replay.log) self.now.legs.items (O.opened self.now.replay.opens) (world_of result.now) ∥₁ }
     {
         self.replay.world()
+    }
+
+    /// The log that it follows.
+    pub fn log(&self) -> &L
+        ensures { result.now ≡ self.now.replay.log }
+    {
+        &self.log
     }
 
     /// The way that it has gone.
@@ -128,6 +150,33 @@ impl<M: Machine<S>, S: ObjectSpace, L: ReadLog, O: OpenWorld<M, S>> Session<M, S
             },
             Ok(()) => {
                 let gone = go_thread(alloc, &mut self.replay, thread, most);
+                put_thread(&mut self.legs, thread, gone.steps);
+                gone
+            }
+        }
+    }
+
+    /// Turns of a thread, one behind the other, until so many events were made, or a turn makes no step: the thread is
+    /// done, or the turn is refused. The last step is an event where all were made. The way goes on by the steps that
+    /// were made. On a log below that of a run nothing clashes and no thread diverges; on the whole log of a run a turn
+    /// is refused by a shut gate alone.
+    pub fn thread_events(&mut self, alloc: Global, thread: u32, most: u32) -> Gone
+        ensures log { self.new.replay.log ≡ self.old.replay.log }
+        ensures opens { self.new.replay.opens ≡ self.old.replay.opens }
+        ensures few { events_on S.meaning M.code (L.log self.old.replay.log) thread (world_of self.old.replay.world) result.steps ≤ most }
+        ensures leads { ThreadLeads S.meaning M.code (L.log self.old.replay.log) thread result.steps (world_of self.old.replay.world) (world_of self.new.replay.world) }
+        ensures legs { self.new.legs.items ≡ with_thread self.old.legs.items thread result.steps }
+        ensures ceased { EventsCease S.meaning M.code (L.log self.old.replay.log) thread result.steps most (world_of self.old.replay.world) (world_of self.new.replay.world) result.ceased }
+        ensures right { IfFault result.ceased (IsRightRefusal S.meaning M.code (L.log self.old.replay.log) (O.opened self.old.replay.opens)) }
+        ensures free { IfFault result.ceased (IsFreeRefusal S.meaning M.code (L.log self.old.replay.log) (O.opened self.old.replay.opens)) }
+    {
+        match self.legs.reserve(1) {
+            Err(_) => Gone {
+                steps: 0,
+                ceased: Ceased::Fault(ReplayFault::NoMemory),
+            },
+            Ok(()) => {
+                let gone = go_events(alloc, &mut self.replay, thread, most);
                 put_thread(&mut self.legs, thread, gone.steps);
                 gone
             }
@@ -190,6 +239,97 @@ impl<
                 self.replay = replay;
                 Ok(())
             }
+        }
+    }
+
+    /// Goes to a break: opens the world again and goes on from there up to a break, as `run_to` does by no order. Only
+    /// where a break stops it does it stand there then, and its way is the steps that all threads made; else all is as
+    /// it was.
+    pub fn go_to(&mut self, alloc: Global, breaks: &[Break]) -> Result<Stopped, NoMemory>
+        requires { O.suits self.old.opens }
+        ensures log { self.new.replay.log ≡ self.old.replay.log }
+        ensures opens { self.new.replay.opens ≡ self.old.replay.opens }
+        ensures stops { IfOk result (GoesTo S.meaning M.code (L.log self.old.replay.log) (O.opened self.old.replay.opens) breaks.now (world_of self.old.replay.world) (world_of self.new.replay.world) self.old.legs.items self.new.legs.items) }
+        ensures right { IfOk result (StopsRight S.meaning M.code (L.log self.old.replay.log) (O.opened self.old.replay.opens)) }
+        ensures free { IfOk result (StopsFree S.meaning M.code (L.log self.old.replay.log) (O.opened self.old.replay.opens)) }
+        ensures unchanged { OnErr result (world_of self.new.replay.world ≡ world_of self.old.replay.world) }
+        ensures kept { OnErr result (self.new.legs.items ≡ self.old.legs.items) }
+    {
+        let mut legs = Vec::new(alloc);
+        let Ok(()) = legs.reserve(1) else {
+            return Err(NoMemory);
+        };
+        let Ok(mut replay) = Replay::new(alloc, self.opens, self.log) else {
+            return Err(NoMemory);
+        };
+        let before = steps_of_world(replay.world());
+        let stopped = run_to(alloc, &mut replay, &[], breaks);
+        if is_break(stopped) {
+            put_rounds(&mut legs, steps_of_world(replay.world()) - before);
+            self.legs = legs;
+            self.replay = replay;
+        }
+        Ok(stopped)
+    }
+
+    /// The last step of its way, before the one that led to its world, behind which a break holds.
+    fn last_break(&self, alloc: Global, breaks: &[Break]) -> Result<Option<Hit>, NoMemory>
+        requires { O.suits self.now.opens }
+        ensures { IfOk result (IsLastHit S.meaning M.code (L.log self.now.replay.log) breaks.now (StepOfWay S.meaning M.code (L.log self.now.replay.log) self.now.legs.items (O.opened self.now.replay.opens)) (steps_of_way self.now.legs.items - 1)) }
+    {
+        let all = steps_of_way(self.legs.as_slice());
+        let Ok(legs) = first_steps(alloc, self.legs.as_slice(), all.saturating_sub(1)) else {
+            return Err(NoMemory);
+        };
+        let Ok(mut replay) = Replay::new(alloc, self.opens, self.log) else {
+            return Err(NoMemory);
+        };
+        last_hit(alloc, &mut replay, legs.as_slice(), breaks)
+    }
+
+    /// Goes back to the opening world.
+    fn restart(&mut self, alloc: Global) -> Result<(), NoMemory>
+        requires { O.suits self.old.opens }
+        ensures log { self.new.replay.log ≡ self.old.replay.log }
+        ensures opens { self.new.replay.opens ≡ self.old.replay.opens }
+        ensures legs { OnOk result (self.new.legs.items ≡ []) }
+        ensures unchanged { OnErr result (world_of self.new.replay.world ≡ world_of self.old.replay.world) }
+        ensures kept { OnErr result (self.new.legs.items ≡ self.old.legs.items) }
+    {
+        match Replay::new(alloc, self.opens, self.log) {
+            Err(error) => Err(error),
+            Ok(replay) => {
+                self.legs = Vec::new(alloc);
+                self.replay = replay;
+                Ok(())
+            }
+        }
+    }
+
+    /// Goes back to behind the last step of its way, before the one that led to its world, behind which a break holds,
+    /// and answers which break of the list that is, the first of it; to the opening world where there is no such step.
+    /// Where memory could not be had all is as it was.
+    pub fn reverse(&mut self, alloc: Global, breaks: &[Break]) -> Result<Option<usize>, NoMemory>
+        requires { O.suits self.old.opens }
+        ensures log { self.new.replay.log ≡ self.old.replay.log }
+        ensures opens { self.new.replay.opens ≡ self.old.replay.opens }
+        ensures goes { IfOk result (GoesBackTo S.meaning M.code (L.log self.old.replay.log) breaks.now (O.opened self.old.replay.opens) self.old.legs.items self.new.legs.items) }
+        ensures unchanged { OnErr result (world_of self.new.replay.world ≡ world_of self.old.replay.world) }
+        ensures kept { OnErr result (self.new.legs.items ≡ self.old.legs.items) }
+    {
+        let all = steps_of_way(self.legs.as_slice());
+        let Ok(last) = self.last_break(alloc, breaks) else {
+            return Err(NoMemory);
+        };
+        match last {
+            None => match self.restart(alloc) {
+                Err(error) => Err(error),
+                Ok(()) => Ok(None),
+            },
+            Some(hit) => match self.back(alloc, all - hit.steps) {
+                Err(error) => Err(error),
+                Ok(()) => Ok(Some(hit.index)),
+            },
         }
     }
 }

@@ -2,6 +2,7 @@
 
 ghost use Rattle.std.specs.Prelude.{◌≡◌, ◌≤◌};
 ghost use Rattle.event_core.specs.World.{world_of};
+ghost use Rattle.replay_session.specs.Events.{events_on};
 ghost use Rattle.replay_session.specs.Ways.{ThreadLeads};
 ghost use Rattle.replay_session.specs.Gone.{CeasesSo, TurnCeases, is_want_of_memory, steps_of_answer};
 
@@ -24,7 +25,7 @@ pub(crate) fn least(left: u32, most: u64) -> u32
 
 /// Makes local turns of a thread, at most so many, of those that its logged end has left, and answers how many. There
 /// may be fewer than come.
-fn go_locally<M: Machine<S>, S: ObjectSpace, L: ReadLog, O: OpenWorld<M, S>>(
+pub(crate) fn go_locally<M: Machine<S>, S: ObjectSpace, L: ReadLog, O: OpenWorld<M, S>>(
     replay: &mut Replay<M, S, L, O>,
     thread: u32,
     most: u64,
@@ -33,6 +34,7 @@ fn go_locally<M: Machine<S>, S: ObjectSpace, L: ReadLog, O: OpenWorld<M, S>>(
     ensures opens { replay.new.opens ≡ replay.old.opens }
     ensures few { result ≤ most }
     ensures leads { ThreadLeads S.meaning M.code (L.log replay.old.log) thread result (world_of replay.old.world) (world_of replay.new.world) }
+    ensures quiet { events_on S.meaning M.code (L.log replay.old.log) thread (world_of replay.old.world) result ≡ 0 }
 {
     let most = least(replay.steps_left(thread), most);
     u64::from(replay.local_steps(thread, most))
