@@ -203,7 +203,7 @@ IsGatherAsked name rows (written.Chart only from to) =
 -- a command and its values ask for this
 abbrev pub IsAsked : Text → List Row → Request → Type 0
 IsAsked name rows (Gather skips form) = (skips ≡ has_flag (codes "skip") rows) × IsGatherAsked name rows form
-IsAsked name rows (Check path) = (name ≡ codes "check") × (first_of (codes "MODULE") rows ≡ Some path.now)
+IsAsked name rows (Check path plan) = (name ≡ codes "check") × (first_of (codes "MODULE") rows ≡ Some path.now) × (first_of (codes "threads") rows ≡ option_map (λ p. p.now) plan)
 IsAsked name rows (Record r) = (name ≡ codes "record") × IsRecordAsked rows r
 IsAsked name rows (Hunt r) = (name ≡ codes "hunt") × IsHuntAsked rows r
 IsAsked name rows (Replay r by_threads names offsets) =

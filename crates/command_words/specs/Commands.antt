@@ -39,7 +39,7 @@ abbrev pub chart : App
 chart = with_why (with_rule (with_rule (with_rule (with_rule (new_app (codes "chart")) (flag_rule (codes "skip"))) (option_rule (codes "only"))) (option_rule (codes "from"))) (option_rule (codes "to")))
 
 abbrev pub check : App
-check = with_why (with_rule (new_app (codes "check")) (file_rule (codes "MODULE")))
+check = with_why (with_rule (with_rule (new_app (codes "check")) (file_rule (codes "MODULE"))) (option_rule (codes "threads")))
 
 -- a command on a module and a plan
 abbrev pub on_program : App → App

@@ -155,7 +155,24 @@ summary of the module:
 
 The integer profile is WebAssembly Core 1.0 without floats, with the atomic
 instructions of the threads proposal and the five sign extensions. Of imports it
-has one, a memory.";
+has one, a memory.
+
+With --threads the plan in PLAN is read as `wreplay record` reads it, and behind
+`valid` stand hints at what goes wrong now and then, and without a word, where
+its threads run. They refuse nothing, and there may be none.
+
+  warning: threads 0 1 begin with the same value of global 0, which ..
+
+Each thread has globals of its own, and they begin alike. C keeps its stack
+pointer in a mutable global of type i32, so threads share one stack unless each
+sets the pointer to a stack of its own first. Named are the threads in whose
+function an instruction reads such a global, or calls, before the first
+`global.set` of it.
+
+  warning: the memory is shared, and no instruction is atomic
+
+A compiler without its option for threads (clang: -matomics) makes plain loads
+and stores of atomic ones.";
 
 /// How `check` refuses.
 pub(crate) const CHECK_REFUSALS: &str = "\
@@ -169,12 +186,14 @@ Refusals (exit status 1):
                              both numbered from 0
   refused 11 Invalid module  a rule outside the functions is broken
   refused 12 NoMemory        the types do not fit into memory
-  refused 23 NoMemory        the file or the summary does not fit into memory
-  refused 44 SourceFailed    the file can't be read
+  refused 13 to 17           PLAN, as `wreplay record` refuses it
+  refused 23 NoMemory        a file or the text does not fit into memory
+  refused 44 SourceFailed    a file can't be read
   refused 45 SinkFailed      writing failed; a beginning was written
 
 Example:
-  wreplay check examples/counter.wasm";
+  wreplay check examples/counter.wasm
+  wreplay check examples/lost.wasm --threads examples/lost.plan";
 
 /// What `record` reads and writes.
 pub(crate) const RECORD_ABOUT: &str = "\
@@ -461,13 +480,19 @@ Opens the replay of a log, as `wreplay replay` makes it, reads commands from
 standard input, one in each line, and answers each on standard output:
 
   step T [N]      go on with thread T alone, by N steps, or by 1
+  event T [N]     go on with thread T alone, up to behind its Nth event, or 1st
   continue        go on with all threads, up to a break
   back [N]        go back by N steps, or by 1, of whichever threads made them
+  reverse         go back to the break before, or to the beginning
+  goto T P        go to where thread T has made P events, from the beginning
   place T P       break behind the event of thread T after which it has made P
   write FROM LEN  break behind a write of a block that holds one of these bytes
   delete          forget all breaks
   threads         how each thread stands, and where
+  where T         how thread T stands, and where
   bytes FROM LEN  these bytes, and the versions of their blocks
+  writer FROM     which event wrote the block of this byte last, as T.P
+  readers FROM    which events have read what was written there last
   way             the steps made so far, from the beginning on
   help            these commands
   quit            end; so does the end of the input
@@ -475,7 +500,7 @@ standard input, one in each line, and answers each on standard output:
 A step is one instruction. A thread waits at each access until the objects have
 the versions that the log names, so where it cannot go on other threads have to
 go on before. The same steps lead to the same state, however often they are
-made.";
+made. T.P is event P of thread T, counted from 0, as `wreplay gather` lists it.";
 
 /// How `debug` refuses.
 pub(crate) const DEBUG_REFUSALS: &str = "\
@@ -489,5 +514,5 @@ Refusals (exit status 1), the first of them in this order:
   refused 45 SinkFailed        writing failed; a beginning was written
 
 Example:
-  printf 'step 0 5\\nthreads\\nback 2\\n' | wreplay debug examples/lost.wasm \\
+  printf 'goto 1 2\\nwriter 0\\nback 2\\n' | wreplay debug examples/lost.wasm \\
       examples/lost.plan examples/lost.pieces";

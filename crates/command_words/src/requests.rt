@@ -171,8 +171,12 @@ pub enum Request<'a> {
         skips: bool,
         form: GatherForm,
     },
-    /// The summary of the module in the file at this path.
-    Check(&'a str),
+    /// The summary of the module in a file, and hints at what may go wrong with the threads of the plan in another file,
+    /// if that is named.
+    Check {
+        module: &'a str,
+        plan: Option<&'a str>,
+    },
     /// The pieces or the report of a recording.
     Record(RecordRequest<'a>),
     /// The pieces or the schedule of the first run that is caught, or a line for each run.

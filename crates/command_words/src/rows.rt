@@ -105,7 +105,15 @@ const WHY: ArgumentRow = ArgumentRow {
 };
 
 /// The arguments of `check`.
-static OF_CHECK: &[ArgumentRow] = &[MODULE, WHY];
+static OF_CHECK: &[ArgumentRow] = &[
+    MODULE,
+    ArgumentRow {
+        name: "threads",
+        takes: Takes::Value("PLAN"),
+        help: "Hint at what may go wrong with the threads of the plan in PLAN",
+    },
+    WHY,
+];
 
 /// The arguments of `record`.
 static OF_RECORD: &[ArgumentRow] = &[

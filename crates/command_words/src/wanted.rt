@@ -688,7 +688,10 @@ pub(crate) fn request_of<'a>(
             Err(wrong) => Ok(Err(wrong)),
         },
         "check" => match value(matches, "MODULE") {
-            Some(path) => Ok(Ok(Request::Check(path))),
+            Some(module) => {
+                let plan = value(matches, "threads");
+                Ok(Ok(Request::Check { module, plan }))
+            }
             None => Ok(Err(MISSING)),
         },
         "record" => match recording_of(matches) {

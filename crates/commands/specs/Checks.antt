@@ -24,6 +24,10 @@ IsDecodeFault bytes (decoding.Refused offset place cause) = IsFirst bytes (decod
 IsDecodeFault bytes (decoding.TooLarge limit count place) = IsFirst bytes (decoding.TooLarge limit count place) × ((m : Module) → IsModule bytes m → ⊥)
 IsDecodeFault bytes decoding.NoMemory = Unit {0}
 
+-- the summary of a module that is well typed, and the line `valid`
+abbrev pub valid_text : Module → List ℕ
+valid_text m = summary_text m ++ codes "valid\n"
+
 module _ (holds : List ℕ → Type 0) where
   -- the file's module, which is well typed
   pub record IsValidFile (m : Module) : Type 0 where
@@ -39,9 +43,9 @@ module _ (holds : List ℕ → Type 0) where
   IsModuleRefused fails (Valid fault) = (bytes : List ℕ) × (m : Module) × holds bytes × IsModule bytes m × Refuses m fault
   IsModuleRefused fails _ = ⊥
 
-  -- the summary of the file's module, which is well typed, and the line `valid`
+  -- the text of the file's module, which is well typed
   abbrev pub IsChecked : List ℕ → Type 0
-  IsChecked text = (m : Module) × IsValidFile m × (text ≡ summary_text m ++ codes "valid\n")
+  IsChecked text = (m : Module) × IsValidFile m × (text ≡ valid_text m)
 
   -- the module is refused, or there is no memory for the text
   abbrev pub IsCheckRefused : Type 0 → Fault → Type 0

@@ -2,6 +2,7 @@ pub mod Texts
 pub mod Files
 pub mod Checks
 pub mod Inputs
+pub mod PlanChecks
 pub mod Memory
 pub mod Notes
 pub mod Records

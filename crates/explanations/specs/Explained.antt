@@ -1,6 +1,7 @@
 -- What an explanation says for certain: where the cause of the refusal stands, and of a piece line of another run what
 -- differs in its key. Its other words are open.
-use Rattle.std.specs.Prelude.{◌≡◌, ◌++◌, ℕ, List, codes, Some}
+use Rattle.std.specs.Prelude.{◌≡◌, ◌++◌, ℕ, List, codes, Option, Some, None}
+use Rattle.std.specs.Borrow.{Bor}
 use Rattle.command_words.specs.declared.requests.Request.{Request}
 use Rattle.command_words.specs.declared.requests.Request.TheVariants.{Gather, Check, Record, Hunt, Replay, View, Trace, Debug}
 use Rattle.command_words.specs.declared.requests.RecordOrder.{RecordOrder}
@@ -33,7 +34,7 @@ standard_input = codes "standard input"
 -- the files that a request names; what it gathers comes from standard input
 abbrev pub module_path : Request → List ℕ
 module_path (Gather skips form) = standard_input
-module_path (Check path) = path.now
+module_path (Check path plan) = path.now
 module_path (Record r) = r.«module».now
 module_path (Hunt r) = r.«module».now
 module_path (Replay r by_threads names offsets) = r.«module».now
@@ -41,9 +42,14 @@ module_path (View v) = v.replay.«module».now
 module_path (Trace t) = t.replay.«module».now
 module_path (Debug r) = r.«module».now
 
+-- the plan of a check, if it names one
+abbrev pub plan_of : Option (Bor (List ℕ)) → List ℕ
+plan_of None = codes "--threads"
+plan_of (Some path) = path.now
+
 abbrev pub plan_path : Request → List ℕ
 plan_path (Gather skips form) = standard_input
-plan_path (Check path) = path.now
+plan_path (Check path plan) = plan_of plan
 plan_path (Record r) = r.plan.now
 plan_path (Hunt r) = r.plan.now
 plan_path (Replay r by_threads names offsets) = r.plan.now

@@ -1,7 +1,7 @@
 //! The files that a request names.
 
 ghost use Rattle.std.specs.Prelude.{◌≡◌};
-ghost use Rattle.explanations.specs.Explained.{module_path, plan_path, schedule_of, schedule_path, pieces_path, path_of};
+ghost use Rattle.explanations.specs.Explained.{module_path, plan_of, plan_path, schedule_of, schedule_path, pieces_path, path_of};
 
 use command_words::{RecordOrder, Request};
 use commands::InputFile;
@@ -15,7 +15,7 @@ pub(crate) fn module_path<'a>(request: &Request<'a>) -> &'a str
 {
     match request {
         Request::Gather { .. } => STANDARD_INPUT,
-        Request::Check(path) => path,
+        Request::Check { module, .. } => module,
         Request::Record(record) => record.module,
         Request::Hunt(hunt) => hunt.module,
         Request::Replay { replay, .. } => replay.module,
@@ -25,13 +25,23 @@ pub(crate) fn module_path<'a>(request: &Request<'a>) -> &'a str
     }
 }
 
+/// The file of the plan of a check.
+fn plan_of<'a>(plan: Option<&'a str>) -> &'a str
+    ensures { result.now ≡ plan_of plan.entry }
+{
+    match plan {
+        Some(path) => path,
+        None => "--threads",
+    }
+}
+
 /// The file of the plan.
 pub(crate) fn plan_path<'a>(request: &Request<'a>) -> &'a str
     ensures { result.now ≡ plan_path request.now }
 {
     match request {
         Request::Gather { .. } => STANDARD_INPUT,
-        Request::Check(path) => path,
+        Request::Check { plan, .. } => plan_of(*plan),
         Request::Record(record) => record.plan,
         Request::Hunt(hunt) => hunt.plan,
         Request::Replay { replay, .. } => replay.plan,

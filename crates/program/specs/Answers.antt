@@ -22,7 +22,7 @@ use Rattle.object_listing.specs.Chosen.{IsObjectListing}
 use Rattle.object_listing.specs.Chart.{IsChart}
 use Rattle.commands.specs.Texts.{fault_text}
 use Rattle.explanations.specs.Explained.{IsExplanation}
-use Rattle.commands.specs.Checks.{IsChecked, IsCheckRefused}
+use Rattle.commands.specs.PlanChecks.{IsCheckAnswer, IsNotChecked}
 use Rattle.commands.specs.Notes.{notes_by}
 use Rattle.commands.specs.Records.{AnswerAt, IsRecordAnswer, IsRecordRefused}
 use Rattle.commands.specs.Hunts.{IsHuntAnswer, IsHuntRefused}
@@ -157,7 +157,7 @@ module _ (holds : List ℕ → List ℕ → Type 0) (fails : List ℕ → Type 0
   -- recording's line of the threads that stopped was, or nothing, and `told` that which run is caught was
   abbrev pub IsDone : (Skipped → Type 0) → (List ℕ → Type 0) → (List ℕ → Type 0) → Request → List ℕ → Type 0
   IsDone counted said told (request.Gather skips form) text = IsGatheredText brought ended counted (said []) skips (IsInForm form) text
-  IsDone counted said told (request.Check path) text = IsChecked (holds path.now) text × said []
+  IsDone counted said told (request.Check path plan) text = IsCheckAnswer holds path.now plan text × said []
   IsDone counted said told (request.Record r) text = (answer : AnswerAt) × IsRecordAnswer holds r answer × (text ≡ answer.text) × said answer.told
   IsDone counted said told (request.Hunt r) text = (answer : AnswerAt) × IsHuntAnswer holds r answer × (text ≡ answer.text) × told answer.told
   IsDone counted said told (request.Replay r by_threads names offsets) text = IsReplayedText holds r (notes_by names offsets) text × said []
@@ -168,7 +168,7 @@ module _ (holds : List ℕ → List ℕ → Type 0) (fails : List ℕ → Type 0
   -- when each fault is answered before anything is written
   abbrev pub IsRefused : Request → Fault → Type 0
   IsRefused (request.Gather skips form) fault = IsNotGathered brought ended broke skips fault
-  IsRefused (request.Check path) fault = IsCheckRefused (holds path.now) (fails path.now) fault
+  IsRefused (request.Check path plan) fault = IsNotChecked holds fails path.now plan fault
   IsRefused (request.Record r) fault = IsRecordRefused holds fails r fault
   IsRefused (request.Hunt r) fault = IsHuntRefused holds fails r fault
   IsRefused (request.Replay r by_threads names offsets) fault = IsReplayRefused holds fails r by_threads fault

@@ -59,7 +59,7 @@ fn perform<L: Log, T: Threads + Wait + Sync, F: Files, R: Source, W: Sink, E: Si
 {
     match request {
         Request::Gather { skips, form } => { list(alloc, *skips, form, source, output, errors) }
-        Request::Check(path) => match check(rt, alloc, files, path) {
+        Request::Check { module, plan } => match check(rt, alloc, files, module, *plan) {
             Ok(text) => show(output, &text),
             Err(fault) => Err(fault),
         },

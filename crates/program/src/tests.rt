@@ -1,7 +1,7 @@
 //! Runs of the program whose input or output fails, by threads, and on words that are no text. What it writes and
 //! refuses on files that can be read is shown by `worked_rows`.
 
-ghost use Rattle.std.specs.Prelude.{◌≡◌, ◌<◌, List, ℕ, map};
+ghost use Rattle.std.specs.Prelude.{◌≡◌, ◌<◌, List, Option, ℕ, map};
 ghost use Rattle.std.specs.Borrow.{Bor};
 ghost use Rattle.command_words.specs.Asked.{Asks};
 ghost use Rattle.command_words.specs.declared.requests.Request.TheVariants as request;
@@ -115,7 +115,7 @@ fn paths(alloc: Global, lines: &Lines) -> Vec<u8> {
 
 /// Runs the program on the files `m`, `p`, `s`, `f` and `l`: a module, a plan, two schedules and piece lines; `w` and
 /// `a`, a module whose thread waits and a plan of it alone; `g` and `o`, its steps without and with the time-out of its
-/// wait.
+/// wait; `e`, which is empty.
 fn run_on<T: Threads + Wait + Sync>(threads: &T, alloc: Global, case: Case<'_>) -> Done
     requires { 0 < case.most }
 {
@@ -134,6 +134,7 @@ fn run_on<T: Threads + Wait + Sync>(threads: &T, alloc: Global, case: Case<'_>) 
         file("a", ALONE.as_bytes()),
         file("g", STEPS.as_bytes()),
         file("o", STEPS_AND_TIME_OUT.as_bytes()),
+        file("e", &[]),
     ];
     let mut files = MemoryFiles { files: &all };
     let mut source = MemorySource::new(case.lines.as_bytes(), 65536, case.read_fails_at);
@@ -259,6 +260,40 @@ fn refuses_where_reading_or_writing_fails(rt: HostRuntime) {
     }
 }
 
+/// The lines of a dialogue about a run of which nothing is known, at which call reading them fails, byte by byte, and
+/// at which call the output, which takes 8 bytes at one. Behind it what is to be written, and said on standard error.
+const CUT_OFF: &[(&str, Option<u64>, Option<u64>, &str, &str)] = &[
+    (
+        "delete\nway\ndelete\n",
+        Some(14),
+        None,
+        "no breaks\n",
+        "refused 44 SourceFailed\n",
+    ),
+    (
+        "delete\ndelete\nquit\n",
+        None,
+        Some(4),
+        "no breaks\nno break",
+        "refused 45 SinkFailed\n",
+    ),
+];
+
+#[test]
+fn cuts_dialogues_off_where_reading_or_writing_fails(rt: HostRuntime) {
+    for (lines, read_fails_at, write_fails_at, output, errors) in CUT_OFF {
+        let case = Case {
+            words: &["wreplay", "debug", "m", "p", "e"],
+            lines: *lines,
+            read_fails_at: *read_fails_at,
+            most: 8,
+            write_fails_at: *write_fails_at,
+        };
+        let done = run_on(&rt, rt.alloc(), case);
+        assert!(rt; is_done(&done, 1, *output, *errors, "mpe"), "{errors}");
+    }
+}
+
 /// Words, and what is written behind the entries that were written twice.
 const TOLD: &[(&[&str], &str)] = &[
     (&["wreplay", "gather"], ""),
@@ -323,7 +358,7 @@ fn checked_in_memory<T: Threads + Wait + Sync, S: AsStr>(
     words: &[S],
     files: &mut MemoryFiles<'_>,
 ) -> (u8, MemorySink)
-    ensures valid { (path : Bor (List ℕ)) → Asks (map S.text words.now) (request.Check path) → result.0 ≡ 0 → HasValidModule files.old.files.now path.now }
+    ensures valid { (path : Bor (List ℕ)) (plan : Option (Bor (List ℕ))) → Asks (map S.text words.now) (request.Check path plan) → result.0 ≡ 0 → HasValidModule files.old.files.now path.now }
 {
     let mut source = MemorySource::new(b"", 1, None);
     let mut output = MemorySink::new(alloc, 65536, None);
@@ -351,6 +386,8 @@ const CHECKED: &[(&[&str], u8, &str)] = &[
     (&["wreplay", "check", "p"], 1, ""),
     (&["wreplay", "check", "n"], 1, ""),
     (&["wreplay", "check", "f"], 1, ""),
+    (&["wreplay", "check", "m", "--threads", "p"], 0, SUMMARY),
+    (&["wreplay", "check", "m", "--threads", "m"], 1, ""),
 ];
 
 #[test]
