@@ -32,6 +32,7 @@ BY_THREADS = ["record alone.wasm alone2.plan --threads --report", "record alone.
 # Commands that are to say why: what is refused has one more line.
 WITH_REASONS = [
     "check counter.wasm --why",
+    "check stacks.wasm --threads late.plan --why",
     "record counter.wasm counter.plan --schedule first.schedule --why",
     "gather --why < first.pieces",
     "replay counter.wasm counter.plan first.pieces --why",
@@ -120,10 +121,11 @@ def wanting_answers(answers, lines, behind, end):
     front, whole = answers(before), answers(before + [line])
     head = whole[len(front) :].partition(b"\n")[0] + b"\n"
     # All is as it was; or the command was made, and memory was wanting for the lines behind the first.
-    yield front + b"error: memory\n" + answers(before + after)[len(front) :]
+    for told in (b"", b"no such place: stopped "):
+        yield front + b"error: " + told + b"memory\n" + answers(before + after)[len(front) :]
     yield front + head + b"error: memory\n" + answers(lines)[len(whole) :]
     made = re.match(rb"stepped (\d+) memory\n", end)
-    if made and line.startswith(b"step "):
+    if made and line.startswith((b"step ", b"event ")):
         fewer = before + [b"step " + line.split(b" ")[1] + b" " + made[1]]
         yield front + made[0] + answers(fewer + after)[len(front) + len(b"stepped \n" + made[1]) :]
     if end.startswith(b"stopped memory\n") and line == b"continue":

@@ -82,13 +82,19 @@ def turn(world, log, n):
 UNKNOWN = 'error: no such command, try help\n'
 HELP = '''\
 step T [N]      go on with thread T alone, by N steps (1)
+event T [N]     go on with thread T alone, up to behind its Nth event (1) from here
 continue        go on with all threads, up to a break
 back [N]        go back by N steps (1), of whichever threads made them
+reverse         go back to the break before, or to the beginning
+goto T P        go to where thread T has made P events, from the beginning on
 place T P       break behind the event of thread T after which it has made P
 write FROM LEN  break behind a write of a block that holds one of these bytes
 delete          forget all breaks
 threads         how each thread stands, and where
+where T         how thread T stands, and where
 bytes FROM LEN  these bytes, and the versions of their blocks
+writer FROM     which event wrote the block of this byte last, as T.P
+readers FROM    which events have read what was written there last
 way             the steps made so far, from the beginning on
 help            these commands
 quit            end
@@ -101,9 +107,11 @@ class Debugger:
     def __init__(self, module, plan, log):
         self.log, self.passed, self.legs, self.breaks = log, [World(module, plan, log.block)], [], []
         self.forms = {(b'step', 1): lambda n: self.step(n, 1), (b'step', 2): self.step, (b'continue', 0): self.run_on,
+                      (b'event', 1): lambda n: self.event(n, 1), (b'event', 2): self.event, (b'reverse', 0): self.reverse, (b'goto', 2): self.goto,
                       (b'back', 0): lambda: self.back(1), (b'back', 1): self.back, (b'place', 2): self.place, (b'write', 2): self.write,
-                      (b'delete', 0): self.delete, (b'threads', 0): self.threads, (b'bytes', 2): self.bytes, (b'way', 0): self.way,
-                      (b'help', 0): lambda: HELP}
+                      (b'delete', 0): self.delete, (b'threads', 0): self.threads, (b'where', 1): self.where, (b'bytes', 2): self.bytes,
+                      (b'writer', 1): lambda at: self.who(at, 'written', 'w%d@%d/', 1), (b'readers', 1): lambda at: self.who(at, 'read', 'r%d@%d', 0),
+                      (b'way', 0): self.way, (b'help', 0): lambda: HELP}
     world = property(lambda self: self.passed[-1])
     def answer(self, line):
         """What is answered to a line that is not `quit`."""
@@ -119,12 +127,17 @@ class Debugger:
             if line == b'quit': break
             answers += self.answer(line)
         return answers
-    def threads(self): return ''.join(thread_line(self.world, t, False, t.out is None) for t in self.world.threads)
-    def step(self, n, most):
-        made, why = 0, ''
-        while made < most and not why:
+    def where(self, n):
+        if n >= len(self.world.threads): return 'error: no such thread\n'
+        return thread_line(self.world, self.world.threads[n], False, self.world.threads[n].out is None)
+    def threads(self): return ''.join(self.where(n) for n in range(len(self.world.threads)))
+    def step(self, n, most): return self.go(n, most, ('local', 'event'))
+    def event(self, n, most): return self.go(n, most, ('event',))
+    def go(self, n, most, counted):
+        made, left, why = 0, most, ''
+        while left and not why:
             did, after = turn(self.world, self.log, n)
-            if did in ('local', 'event'): self.passed.append(after); made += 1
+            if did in ('local', 'event'): self.passed.append(after); made += 1; left -= did in counted
             else: why = ' ' + did
         if made and self.legs and self.legs[-1][0] == n: self.legs[-1][1] += made
         elif made: self.legs.append([n, made])
@@ -162,6 +175,23 @@ class Debugger:
             self.legs[-1][1] -= off; steps -= off
             if not self.legs[-1][1]: self.legs.pop()
         return 'back\n' + self.threads()
+    def reverse(self):
+        for behind in range(len(self.passed) - 2, 0, -1):
+            before, after = self.passed[behind - 1:behind + 1]
+            n, = (t.n for t in after.threads if t.steps != before.threads[t.n].steps)
+            did = 'event' if len(after.threads[n].entries) > len(before.threads[n].entries) else 'local'
+            kind = self.held(n, did, before, after)
+            if kind: return self.back(len(self.passed) - 1 - behind).replace('back', 'stopped ' + kind, 1)
+        return self.back(len(self.passed)).replace('back', 'no break before', 1)
+    def goto(self, n, place):
+        kept = self.passed, self.legs, self.breaks
+        self.passed, self.breaks = self.passed[:1], [('place', n, place)]
+        stopped = self.rounds()
+        if stopped != 'stopped place':
+            self.passed, self.legs, self.breaks = kept
+            return 'error: no such place: %s\n' % stopped
+        self.legs, self.breaks = [['rounds', len(self.passed) - 1]], kept[2]
+        return stopped + '\n' + self.threads()
     def put_break(self, *one):
         self.breaks.append(one)
         return 'break %d\n' % (len(self.breaks) - 1)
@@ -172,6 +202,14 @@ class Debugger:
         return 'no breaks\n'
     def bytes(self, start, length):
         return bytes_shown(self.world, start, length) if start + length <= self.world.length else 'error: the memory ends before\n'
+    def who(self, at, word, form, more):
+        if at >= self.world.length: return 'error: the memory ends before\n'
+        o = 1 + 2 * (at // self.world.block)
+        version = self.world.version.get(o, 0)
+        sought = form % (o, version - more)
+        events = ['%d.%d' % (t.n, place) for t in self.world.threads for place, (_, touched) in enumerate(t.entries)
+                  if any(it.startswith(sought) if more else it == sought for it in touched)]
+        return 'object %d version %d %s by %s\n' % (o, version, word, ' '.join(events) or 'nobody')
     def way(self): return ''.join('%s steps %d\n' % (name if name == 'rounds' else 'thread %d' % name, steps) for name, steps in self.legs)
 
 def talk(module, plan, lines, text):
@@ -209,6 +247,15 @@ TALKS = {
                    'write 65536 4', 'continue', 'bytes 65536 0', 'step 1 3', 'way'),
     'border': lines('write 64 1', 'continue', 'bytes 56 16', 'bytes 4092 8', 'back', 'bytes 63 2', 'delete', 'write 63 1', 'place 0 1', 'continue', 'continue',
                     'way'),
+    'events': lines('event 0', 'event 0 2', 'event 1 3', 'event 0 0', 'event 0 4294967295', 'event 1 99', 'event 0', 'event 7 2', 'way', 'back 2', 'event 1', 'way',
+                    'back 99', 'event 1', 'step 1', 'event 1', 'way'),
+    'gotos': lines('goto 0 1', 'way', 'goto 1 2', 'way', 'back', 'goto 1 1', 'event 0', 'goto 0 0', 'goto 0 99', 'goto 7 1', 'way', 'threads', 'place 0 2', 'goto 0 1',
+                   'continue', 'way', 'goto 1 4294967295', 'delete', 'goto 0 1', 'continue', 'way'),
+    'reverse': lines('reverse', 'write 0 4', 'reverse', 'continue', 'continue', 'reverse', 'way', 'continue', 'reverse', 'reverse', 'reverse', 'way', 'delete', 'place 1 1',
+                     'continue', 'continue', 'reverse', 'reverse', 'way', 'step 0 2', 'step 1 9', 'write 0 4', 'event 0', 'reverse', 'reverse', 'way', 'delete', 'reverse'),
+    'who': lines('writer 0', 'readers 0', 'event 0 2', 'writer 0', 'readers 0', 'readers 64', 'event 1 2', 'writer 3', 'readers 63', 'continue', 'writer 0', 'readers 0',
+                 'writer 64', 'writer 65535', 'writer 65536', 'readers 65536', 'readers 4294967295', 'back 4', 'writer 0', 'readers 0'),
+    'asked': lines('where 0', 'where 1', 'where 2', 'where 16', 'where 4294967295', 'continue', 'where 1'),
     'standing': lines('step 2 5', 'step 2 9', 'back', 'way', 'continue', 'back', 'way', 'step 0 99'),
     'deep': lines('step 0 255', 'step 0 9', 'step 0', 'back 255', 'step 1 9', 'way'),
     'help': lines('help', 'help ', 'way'),
@@ -217,7 +264,8 @@ TALKS = {
         'step +1', 'step x', 'step 0x1', 'step 1.0', 'step 4294967296', 'step 0 4294967296', 'step 0 18446744073709551617', 'Step 0', 'steps 0', 'step\t0',
         'continue 1', 'continue ', 'cont', 'back ', 'back 00', 'back -1', 'back 1 2', 'back 4294967296', 'place', 'place 0', 'place 0 1 2', 'place 0.1', 'place a 0',
         'place 0 4294967296', 'write', 'write 0', 'write 0+4', 'write 0 4 1', 'write 4294967296 0', 'delete 0', 'threads 0', 'threads\r', '\r', 'bytes', 'bytes 0',
-        'bytes 0 4 4', 'bytes 0x0 4', 'bytes 0 04', 'way 1', 'help me', 'help\r', 'quit 0', 'quit\r', ' quit', 'quit ', 'Quit', '0', '# way', 'way;way')
+        'bytes 0 4 4', 'bytes 0x0 4', 'bytes 0 04', 'way 1', 'help me', 'help\r', 'event', 'event x', 'event 0 1 2', 'event 0 01', 'reverse 1', 'goto', 'goto 0', 'goto 0.1', 'goto 0 1 2', 'where', 'where 0 1', 'where x',
+        'writer', 'writer 0 4', 'writer 0x0', 'readers', 'readers 4294967296', 'quit 0', 'quit\r', ' quit', 'quit ', 'Quit', '0', '# way', 'way;way')
            + b'\xff\xfe\nstep 0\0\nthr\xc3\xa9ads\nthreads\nway\nwrite 0 4',
     'long': b'x' * 1024 + b'\n' + b'x' * 1025 + b'\nway' + b' ' * 1021 + b'\n' + b'x' * 1024 + b'threads\nthreads',
     'blank': b'\n\nthreads\n\n\nstep 1\n\n',
@@ -231,7 +279,12 @@ def drawn_talk(words, threads, count):
     """Lines that numbers draw: `words` answers a number below another."""
     def some(most): return (0, 1, 2, 3, words(most + 1), words(most + 1))[words(6)]
     def line():
-        kind, n = words(16), words(threads + 1)
+        kind, n = words(22), words(threads + 1)
+        if kind == 16: return 'event %d' % n + (' %d' % some(4) if words(3) else '')
+        if kind == 17: return 'reverse'
+        if kind == 18: return 'goto %d %d' % (n, some(4))
+        if kind == 19: return 'where %d' % n
+        if kind > 19: return '%s %d' % (('writer', 'readers')[kind - 20], (0, 63, 64, some(200))[words(4)])
         if kind < 5: return 'step %d' % n + (' %d' % some(9) if words(3) else '')
         if kind < 8: return 'continue'
         if kind < 11: return 'back' + (' %d' % some(12) if words(3) else '')

@@ -4,6 +4,7 @@ import os, struct, sys
 from model import Module, Words, World, digest, schedule_text, shrunk
 from charts import chart, EMPTY
 from debugs import TALKS, drawn_talk, talk
+from hints import checked
 from objects import by_object
 from views import stop, trace, view
 
@@ -686,21 +687,21 @@ def debugged(name, *talks, more=''):
 for name in ('missing', 'hole', 'clash', 'version', 'object', 'kind', 'longer', 'shorter', 'noend', 'twoends', 'stray', 'pastend', 'old', 'otherorder'):
     logs[name] = 'counter.wasm', COUNTER, 'counter.plan', TWO, kept[name + '.pieces'].decode()
 logs['whole'] = 'counter.wasm', COUNTER, 'counter.plan', TWO, FIRST.lines(D, 0, 4096)
-EVERY = ('opening', 'through', 'alone', 'nobody', 'places', 'writes', 'elsewhere', 'first', 'legs', 'rounds', 'ranges', 'help', 'bad', 'long', 'blank', 'unended', 'last', 'behind', 'only')
+EVERY = ('opening', 'through', 'alone', 'nobody', 'places', 'writes', 'elsewhere', 'first', 'legs', 'rounds', 'events', 'gotos', 'reverse', 'who', 'asked', 'ranges', 'help', 'bad', 'long', 'blank', 'unended', 'last', 'behind', 'only')
 debugged('whole', *EVERY)
 debugged('whole', 'unended', more=' --why')
 command('debug counter.wasm counter.plan whole.pieces')
 command('debug counter.wasm counter.plan whole.pieces < empty')
-for name in ('second', 'third', 'fourth'): debugged(name, 'alone', 'legs', 'rounds', 'places')
-for name in ('hole', 'missing', 'clash', 'version', 'object', 'kind', 'longer', 'shorter', 'noend', 'twoends'): debugged(name, 'through', 'alone')
+for name in ('second', 'third', 'fourth'): debugged(name, 'alone', 'legs', 'rounds', 'places', 'events', 'gotos', 'reverse', 'who')
+for name in ('hole', 'missing', 'clash', 'version', 'object', 'kind', 'longer', 'shorter', 'noend', 'twoends'): debugged(name, 'through', 'alone', 'events', 'gotos')
 for name in ('stray', 'pastend', 'old', 'otherorder', 'bounded', 'nothing'): debugged(name, 'through')
 command('debug counter.wasm counter.plan empty < through.lines', talk(COUNTER, TWO, '', TALKS['through']))
-debugged('readers', 'crossed', 'writes', 'places')
-debugged('border64', 'border', 'through'); debugged('border4096', 'border'); debugged('past64', 'alone'); debugged('page4096', 'border')
-debugged('reader', 'grown', 'pair'); debugged('grower', 'grown', 'rounds')
-for name in ('limited1', 'limited2', 'endless1'): debugged(name, 'pair', 'through')
-debugged('five', 'crossed', 'through', 'rounds', 'places'); debugged('ever', 'alone'); debugged('alone', 'through'); debugged('traps', 'through', 'alone'); debugged('exchangef', 'writes')
-for name in ('named', 'midst', 'halted', 'unbegun', 'begun1', 'begins2'): debugged(name, 'standing')
+debugged('readers', 'crossed', 'writes', 'places', 'events', 'gotos', 'reverse', 'who')
+debugged('border64', 'border', 'through', 'who'); debugged('border4096', 'border', 'who'); debugged('past64', 'alone'); debugged('page4096', 'border')
+debugged('reader', 'grown', 'pair', 'who'); debugged('grower', 'grown', 'rounds', 'who', 'gotos')
+for name in ('limited1', 'limited2', 'endless1'): debugged(name, 'pair', 'through', 'events', 'gotos', 'reverse')
+debugged('five', 'crossed', 'through', 'rounds', 'places', 'reverse', 'who'); debugged('ever', 'alone'); debugged('alone', 'through'); debugged('traps', 'through', 'alone', 'events', 'reverse', 'asked'); debugged('exchangef', 'writes')
+for name in ('named', 'midst', 'halted', 'unbegun', 'begun1', 'begins2'): debugged(name, 'standing', 'asked')
 logs['deep'] = 'stands.wasm', STANDS, 'deep.plan', plan_of('deep', 'seven'), DEEP.lines(digest(STANDS, plan_of('deep', 'seven')), 0, 4096)
 debugged('deep', 'deep')
 for number, name in enumerate(('first', 'third', 'fourth', 'readers', 'five', 'limited1', 'limited2', 'grower', 'hole', 'version', 'midst', 'begins1')):
@@ -721,6 +722,60 @@ for files, text in (
     refused('debug ' + files, text)
     command('debug %s < alone.lines' % files, '', 'refused %s\n' % text, 1)
 for more in (' --threads', ' --names'): unexpected('debug counter.wasm counter.plan first.pieces' + more, more[1:], 'debug <MODULE> <PLAN> <PIECES>', True)
+
+# ---- checks, and hints at what may go wrong with the threads of a plan
+
+def hinted(module_file, module, plan_file, *threads):
+    keep(module_file, module.bytes); keep(plan_file, plan_of(*threads))
+    command('check %s --threads %s' % (module_file, plan_file), checked(module, plan_of(*threads)))
+GLOBALS = (('i32', True, 4096), ('i32', True, 7), ('i64', True, 0), ('i32', False, 9), ('i32', True, 1))
+def get(n): return [('global.get', n), 'drop']
+def put(n, value): return [('i32.const', value), ('global.set', n)]
+PUSH = [('global.get', 0), ('i32.const', -16), 'i32.add', ('global.set', 0)]
+STACKS = [
+    ('pushes', [], None, PUSH + ['end']),
+    ('own', ['i32'], None, [('local.get', 0), ('global.set', 0)] + PUSH + [('call', 0), 'end']),
+    ('calls', [], None, [('call', 0)] + put(0, 8) + put(1, 8) + ['end']),
+    ('indirect', [], None, put(1, 3) + I32(0) + [('call_indirect', 0)] + put(0, 8) + ['end']),
+    ('silent', [], None, ['end']),
+    ('second', [], None, put(0, 64) + get(1) + ['end']),
+    ('both', [], None, put(1, 5) + put(0, 64) + get(0) + get(1) + [('call', 0), 'end']),
+    ('others', [], None, get(2) + [('i64.const', 5), ('global.set', 2)] + get(3) + get(4) + ['end']),
+]
+def stacks(*more, memory=(1, 1, True)): return Module(STACKS + list(more), memory, table=(0,), globals=GLOBALS)
+ATOMIC, FENCED = stacks(('adds', [], 'i32', add + ['end'])), stacks(('fences', [], None, ['fence', 'end']))
+for plan_file, threads in (
+        ('alike.plan', ('pushes', 'pushes', 'own 9000')), ('apart.plan', ('own 9000', 'own 8000')), ('late.plan', ('calls', 'silent', 'second', 'indirect', 'pushes')),
+        ('lonely.plan', ('pushes', 'own 9000', 'silent')), ('seconds.plan', ('second', 'second')), ('bothset.plan', ('both', 'both')), ('others.plan', ('others', 'others')),
+        ('sixteen.plan', ('calls',) * 16), ('caller.plan', ('calls',))):
+    hinted('stacks.wasm', ATOMIC, plan_file, *threads)
+    hinted('fenced.wasm', FENCED, plan_file, *threads)
+hinted('unread.wasm', Module(STACKS, None, table=(0,), globals=GLOBALS), 'alike.plan', 'pushes', 'pushes', 'own 9000')
+hinted('lost.wasm', Module([('w', [], 'i32', I32(0) + load(0)[:-1] + I32(1) + ['i32.add', 'i32.store'] + load(0))]), 'counter.plan', 'w', 'w')
+for kind, body in (('waits', wait(0, 1, 0)), ('notifies', I32(0, 1) + ['notify', 'end']), ('exchanges', I32(0, 1, 2) + ['i32.atomic.rmw8.cmpxchg_u', 'end']), ('loads', I32(0) + ['i32.atomic.load', 'end'])):
+    hinted('only_%s.wasm' % kind, Module([('w', [], 'i32', body)]), 'counter.plan', 'w', 'w')
+hinted('only_stores.wasm', Module([('w', [], None, I32(0, 1) + ['i32.atomic.store', 'end'])]), 'counter.plan', 'w', 'w')
+hinted('alone.wasm', ALONE, 'alone.plan', 'f')
+hinted('counter.wasm', COUNTER, 'counter.plan', 'w', 'w')
+command('check counter.wasm', checked(COUNTER))
+command('check stacks.wasm', checked(ATOMIC))
+command('check fenced.wasm --threads alike.plan --why', checked(FENCED, plan_of('pushes', 'pushes', 'own 9000')))
+# the refusals of the plan are those of a recording, in words too
+for files, text in (('counter headless', '13 BadLine 1'), ('counter spaced', '13 BadLine 2'), ('counter stranger', '14 NoExport 3'), ('outside outsider', '17 SegmentOutOfBounds')):
+    words = '%s.wasm' % files.split(' ')[0], '%s.plan' % files.split(' ')[1]
+    command('check %s --threads %s' % words, '', 'refused %s\n' % text, 1)
+    command('check %s --threads %s --why' % words, '', 'refused %s\n%s\n' % (text, REASONS['record %s %s --schedule first.schedule --why' % words]), 1)
+keep('wrong.plan', plan_of('own')); keep('unshared.plan', plan_of('f', 'f'))
+command('check stacks.wasm --threads wrong.plan', '', 'refused 15 WrongArguments 2\n', 1)
+command('check alone.wasm --threads unshared.plan', '', 'refused 16 NotShared\n', 1)
+command('check none.wasm --threads none.plan', '', 'refused 44 SourceFailed\n', 1)
+command('check counter.wasm --threads none.plan', '', 'refused 44 SourceFailed\n', 1)
+command('check none.wasm --threads none.plan --why', '', 'refused 44 SourceFailed\nnone.wasm: there is no such file\n', 1)
+command('check counter.wasm --threads none.plan --why', '', 'refused 44 SourceFailed\nnone.plan: there is no such file\n', 1)
+command('check bad.wasm --threads none.plan', '', 'refused 1 Refused 33\n', 1)
+usage('check counter.wasm --threads', "a value is required for '--threads <PLAN>' but none was supplied\n\nFor more information, try '--help'.")
+usage('check counter.wasm --threads counter.plan --threads counter.plan', "the argument '--threads <PLAN>' cannot be used multiple times\n\nUsage: wreplay check [OPTIONS] <MODULE>\n\nFor more information, try '--help'.")
+unexpected('check counter.wasm counter.plan', 'counter.plan', 'check [OPTIONS] <MODULE>')
 
 keep('commands', '\n'.join(script) + '\n')
 with open(os.path.join(TARGET, 'stdout'), 'w') as file: file.write(''.join(expected))

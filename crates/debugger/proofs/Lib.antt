@@ -1,5 +1,9 @@
 pub mod MoreLines
 pub mod Writing
 pub mod Closing
+pub mod Places
 pub mod Lists
+pub mod ThreadEvents
+pub mod ToldEvents
+pub mod Reached
 pub mod ShownBytes

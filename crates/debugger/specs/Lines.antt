@@ -6,7 +6,7 @@ use Rattle.std.specs.Str.Parse.{signed_digits_value, starts_with_minus}
 use Rattle.text_lines.specs.Integers.{is_decimal, bits_of}
 use Rattle.text_lines.specs.Parts.{words}
 use Rattle.debugger.specs.declared.command.Command.{Command}
-use Rattle.debugger.specs.declared.command.Command.TheVariants.{Step, Continue, Back, Place, Write, Delete, Threads, Bytes, Way, Help, Quit}
+use Rattle.debugger.specs.declared.command.Command.TheVariants.{Step, Event, Continue, Back, Reverse, Goto, Place, Write, Delete, Threads, Where, Writer, Readers, Bytes, Way, Help, Quit}
 use Rattle.debugger.specs.declared.command.Line.{Line}
 use Rattle.debugger.specs.declared.command.Line.TheVariants as line
 
@@ -19,18 +19,23 @@ abbrev pub alone : List ℕ → Option Command
 alone word =
     if bytes_eq word (codes "continue") then Some Continue else (
     if bytes_eq word (codes "back") then Some (Back 1) else (
+    if bytes_eq word (codes "reverse") then Some Reverse else (
     if bytes_eq word (codes "delete") then Some Delete else (
     if bytes_eq word (codes "threads") then Some Threads else (
     if bytes_eq word (codes "way") then Some Way else (
     if bytes_eq word (codes "help") then Some Help else (
-    if bytes_eq word (codes "quit") then Some Quit else None))))))
+    if bytes_eq word (codes "quit") then Some Quit else None)))))))
 
 -- the command of a word and a number
 abbrev pub with_one : List ℕ → Option ℕ → Option Command
 with_one word None = None
 with_one word (Some n) =
     if bytes_eq word (codes "step") then Some (Step n 1) else (
-    if bytes_eq word (codes "back") then Some (Back n) else None)
+    if bytes_eq word (codes "event") then Some (Event n 1) else (
+    if bytes_eq word (codes "back") then Some (Back n) else (
+    if bytes_eq word (codes "where") then Some (Where n) else (
+    if bytes_eq word (codes "writer") then Some (Writer n) else (
+    if bytes_eq word (codes "readers") then Some (Readers n) else None)))))
 
 -- the command of a word and two numbers
 abbrev pub with_two : List ℕ → Option ℕ → Option ℕ → Option Command
@@ -38,9 +43,11 @@ with_two word None second = None
 with_two word (Some n) None = None
 with_two word (Some n) (Some k) =
     if bytes_eq word (codes "step") then Some (Step n k) else (
+    if bytes_eq word (codes "event") then Some (Event n k) else (
+    if bytes_eq word (codes "goto") then Some (Goto n k) else (
     if bytes_eq word (codes "place") then Some (Place n k) else (
     if bytes_eq word (codes "write") then Some (Write (record { from = n; len = k })) else (
-    if bytes_eq word (codes "bytes") then Some (Bytes (record { from = n; len = k })) else None)))
+    if bytes_eq word (codes "bytes") then Some (Bytes (record { from = n; len = k })) else None)))))
 
 -- the command of these words
 abbrev pub command_of : List (List ℕ) → Option Command
@@ -62,12 +69,18 @@ line_of (b ∷ bs) = if nat_le (length (b ∷ bs)) 1024 then line_by (command_of
 -- whether a line asks for the end
 abbrev pub ends : Command → Bool
 ends (Step thread steps) = false
+ends (Event thread events) = false
 ends Continue = false
 ends (Back steps) = false
+ends Reverse = false
+ends (Goto thread place) = false
 ends (Place thread place) = false
 ends (Write range) = false
 ends Delete = false
 ends Threads = false
+ends (Where thread) = false
+ends (Writer address) = false
+ends (Readers address) = false
 ends (Bytes range) = false
 ends Way = false
 ends Help = false

@@ -1,10 +1,11 @@
 -- What a debugger of a replay answers to its commands.
-use Rattle.std.specs.Prelude.{◌≡◌, ◌⊎◌, ℕ, ◌+◌, ◌-◌, ◌/◌, ◌<◌, ◌≤◌, List, [], ◌∷◌, ◌++◌, codes, length}
+use Rattle.std.specs.Prelude.{◌≡◌, ◌⊎◌, ℕ, ◌+◌, ◌-◌, ◌/◌, ◌<◌, ◌≤◌, true, List, [], ◌∷◌, ◌++◌, Option, Some, None, codes, length, slice_get}
 use Rattle.std.specs.List.{flat_map}
 use Rattle.std.specs.Fmt.{decimal}
 use Rattle.wasm_types.specs.declared.range.ByteRange.{ByteRange}
 use Rattle.wasm_types.specs.declared.modules.Module.{Module}
 use Rattle.wasm_types.specs.Memories.{block_power}
+use Rattle.block_objects.specs.Objects.{block_of, block_object}
 use Rattle.block_objects.specs.SharedMemory.{shared_memory}
 use Rattle.event_core.specs.Threads.{ThreadAt, all_steps}
 use Rattle.wasm_world.specs.Opening.{WasmWorld}
@@ -26,8 +27,11 @@ use Rattle.replay_session.specs.declared.legs.Leg.TheVariants as leg
 use Rattle.replay_session.specs.declared.gone.Ceased.{Ceased}
 use Rattle.replay_session.specs.declared.gone.Ceased.TheVariants as ceased
 use Rattle.replay_session.specs.declared.gone.Gone.{Gone}
+use Rattle.replay_session.specs.Events.{EventsCease, events_on}
 use Rattle.replay_session.specs.Gone.{CeasesSo, IfFault}
 use Rattle.replay_session.specs.Legs.{with_thread, with_rounds, without_last}
+use Rattle.replay_session.specs.Reaching.{GoesTo}
+use Rattle.replay_session.specs.Reverse.{GoesBackTo}
 use Rattle.replay_session.specs.Ways.{ThreadLeads, WayLeads}
 use Rattle.wasm_replay.specs.Replays.{Opens, gathered_log}
 use Rattle.debug_views.specs.Blocks.{AreHolding}
@@ -38,8 +42,12 @@ use Rattle.debug_views.specs.Threads.{view_of_thread}
 use Rattle.debug_views.specs.Values.{memory_bytes, bytes_of_range}
 use Rattle.debug_views.specs.Writes.{IsWriteOfRange}
 use Rattle.debugger.specs.Answers.{memory_line}
+use Rattle.debugger.specs.Touched.{events_of, sought_line}
 use Rattle.debugger.specs.declared.command.Command.{Command}
-use Rattle.debugger.specs.declared.command.Command.TheVariants.{Step, Continue, Back, Place, Write, Delete, Threads, Bytes, Way, Help, Quit}
+use Rattle.debugger.specs.declared.command.Command.TheVariants.{Step, Event, Continue, Back, Reverse, Goto, Place, Write, Delete, Threads, Where, Writer, Readers, Bytes, Way, Help, Quit}
+use Rattle.debugger.specs.declared.touched.Role.{Role}
+use Rattle.debugger.specs.declared.touched.Role.TheVariants as role
+use Rattle.debugger.specs.declared.touched.Sought.{Sought}
 
 -- where a debugger stands: the log, how places in code are written, blocks of 2 ^ power bytes and the opening world,
 -- which stay; the way that it has gone, the world to which that leads, and its breaks
@@ -56,6 +64,7 @@ pub record DebugAt : Type 0 where
 pub record IsOpening (m : Module) (plan : PlanValue) (log : GatheredLog) (s : DebugAt) : Type 0 where
   pub log_is : s.log ≡ log
   pub source : s.form.source ≡ m.source
+  pub offsets : s.form.offsets ≡ true
   pub power : s.power ≡ block_power (key_of log).profile
   pub opens : Opens m plan log s.opening
   pub world : s.world ≡ s.opening
@@ -126,6 +135,11 @@ IsStopOf (stopped.Fault f) breaks = Unit {0}
 abbrev pub back_line : List ℕ
 back_line = codes "back\n"
 
+-- at which break a move back ends
+abbrev pub reverse_line : Option ℕ → List Break → List ℕ
+reverse_line (Some index) breaks = stopped_line (stopped.Break index) breaks
+reverse_line None breaks = codes "no break before\n"
+
 -- a break by its number, from 0
 abbrev pub break_line : ℕ → List ℕ
 break_line number = codes "break " ++ (decimal number ++ 10 ∷ [])
@@ -135,6 +149,13 @@ no_breaks = codes "no breaks\n"
 
 abbrev pub no_bytes : List ℕ
 no_bytes = codes "error: the memory ends before\n"
+
+abbrev pub no_thread : List ℕ
+no_thread = codes "error: no such thread\n"
+
+-- that a place was not reached, and where all threads stopped
+abbrev pub unreached_line : Stopped → List Break → List ℕ
+unreached_line stopped breaks = codes "error: no such place: " ++ stopped_line stopped breaks
 
 -- these lines, or that memory could not be had for them
 abbrev pub IsBody : List ℕ → List ℕ → Type 0
@@ -170,6 +191,17 @@ pub record Steps (s : DebugAt) (thread most : ℕ) (text : List ℕ) (u : DebugA
   pub legs : u.legs ≡ with_thread s.legs thread gone.steps
   pub moves : Moves s (gone_line gone) text u
 
+-- steps of a thread, up to behind so many events of it
+pub record MakesEvents (s : DebugAt) (thread most : ℕ) (text : List ℕ) (u : DebugAt) : Type 0 where
+  pub gone : Gone
+  pub few : events_on shared_memory thread_code (gathered_log s.log) thread s.world gone.steps ≤ most
+  pub leads : ThreadLeads shared_memory thread_code (gathered_log s.log) thread gone.steps s.world u.world
+  pub ceased : EventsCease shared_memory thread_code (gathered_log s.log) thread gone.steps most s.world u.world gone.ceased
+  pub right : IfFault gone.ceased (IsRightRefusal shared_memory thread_code (gathered_log s.log) s.opening)
+  pub free : IfFault gone.ceased (IsFreeRefusal shared_memory thread_code (gathered_log s.log) s.opening)
+  pub legs : u.legs ≡ with_thread s.legs thread gone.steps
+  pub moves : Moves s (gone_line gone) text u
+
 -- turns of all threads in rounds, up to a break: on a log below that of a run no thread diverges, and on the whole log
 -- of a run they are never stuck
 pub record Continues (s : DebugAt) (text : List ℕ) (u : DebugAt) : Type 0 where
@@ -185,6 +217,28 @@ pub record GoesBack (s : DebugAt) (steps : ℕ) (text : List ℕ) (u : DebugAt) 
   pub legs : u.legs ≡ without_last steps s.legs
   pub moves : Moves s back_line text u
 
+-- back to behind the last step, before the one that led here, behind which a break holds
+pub record Reverses (s : DebugAt) (text : List ℕ) (u : DebugAt) : Type 0 where
+  pub found : Option ℕ
+  pub goes : GoesBackTo shared_memory thread_code (gathered_log s.log) s.breaks s.opening s.legs u.legs found
+  pub moves : Moves s (reverse_line found s.breaks) text u
+
+-- the move to a place, by the break there; or that the replay does not come there, and nothing changed
+abbrev pub IsToldOf : Stopped → List Break → DebugAt → List ℕ → DebugAt → Type 0
+IsToldOf (stopped.Break index) breaks s text u = Moves s (stopped_line (stopped.Break index) breaks) text u
+IsToldOf stopped.Finished breaks s text u = (text ≡ unreached_line stopped.Finished breaks) × (u ≡ s)
+IsToldOf stopped.Stuck breaks s text u = (text ≡ unreached_line stopped.Stuck breaks) × (u ≡ s)
+IsToldOf (stopped.Fault f) breaks s text u = (text ≡ unreached_line (stopped.Fault f) breaks) × (u ≡ s)
+
+-- from the opening world on turns of all threads in rounds, up to behind the event of a thread that has then made so
+-- many
+pub record Reaches (s : DebugAt) (thread place : ℕ) (text : List ℕ) (u : DebugAt) : Type 0 where
+  pub stopped : Stopped
+  pub goes : GoesTo shared_memory thread_code (gathered_log s.log) s.opening (break.Place thread place ∷ []) s.world u.world s.legs u.legs stopped
+  pub right : StopsRight shared_memory thread_code (gathered_log s.log) s.opening stopped
+  pub free : StopsFree shared_memory thread_code (gathered_log s.log) s.opening stopped
+  pub told : IsToldOf stopped (break.Place thread place ∷ []) s text u
+
 -- one more break
 pub record Breaks (s : DebugAt) (b : Break) (text : List ℕ) (u : DebugAt) : Type 0 where
   pub is : text ≡ break_line (length s.breaks)
@@ -199,18 +253,46 @@ pub record ArePast (s : DebugAt) (r : ByteRange) (text : List ℕ) : Type 0 wher
   pub past : length (memory_bytes shared_memory s.world) < r.from + r.len
   pub is : text ≡ no_bytes
 
+-- how a thread stands, if there is one of that number
+abbrev pub IsWhere : PlaceForm → ℕ → Option (ThreadAt CodeThread) → List ℕ → Type 0
+IsWhere form thread None text = text ≡ no_thread
+IsWhere form thread (Some t) text = IsBody (thread_line form thread t) text
+
+-- the version of the block that holds a byte
+abbrev pub sought_at : DebugAt → Role → ℕ → Sought
+sought_at s r address = record {
+  role = r;
+  object = block_object (block_of s.power address);
+  version = (s.world.memory.counts (block_object (block_of s.power address))).version;
+}
+
+-- which of the events made so far wrote it, or read it
+pub record AreTold (s : DebugAt) (r : Role) (address : ℕ) (text : List ℕ) : Type 0 where
+  pub within : address + 1 ≤ length (memory_bytes shared_memory s.world)
+  pub is : IsBody (sought_line (sought_at s r address) (events_of (gathered_log s.log) (sought_at s r address) 0 s.world.threads)) text
+
+-- a byte alone
+abbrev pub byte_at : ℕ → ByteRange
+byte_at address = record { from = address; len = 1 }
+
 -- memory could not be had, and nothing changed
 abbrev pub Wants : DebugAt → List ℕ → DebugAt → Type 0
 Wants s text u = (text ≡ memory_line) × (u ≡ s)
 
 abbrev pub Replies : Command → DebugAt → List ℕ → DebugAt → Type 0
 Replies (Step thread steps) s text u = Steps s thread steps text u
+Replies (Event thread events) s text u = MakesEvents s thread events text u
 Replies Continue s text u = Continues s text u ⊎ Wants s text u
 Replies (Back steps) s text u = GoesBack s steps text u ⊎ Wants s text u
+Replies Reverse s text u = Reverses s text u ⊎ Wants s text u
+Replies (Goto thread place) s text u = Reaches s thread place text u ⊎ Wants s text u
 Replies (Place thread place) s text u = Breaks s (break.Place thread place) text u ⊎ Wants s text u
 Replies (Write range) s text u = ((b : Break) × IsWriteOfRange s.power range.from range.len b × Breaks s b text u) ⊎ Wants s text u
 Replies Delete s text u = (text ≡ no_breaks) × (u ≡ with_breaks s [])
 Replies Threads s text u = IsBody (standing_text s.form s.world) text × (u ≡ s)
+Replies (Where thread) s text u = IsWhere s.form thread (slice_get s.world.threads thread) text × (u ≡ s)
+Replies (Writer address) s text u = (AreTold s role.Writer address text ⊎ ArePast s (byte_at address) text) × (u ≡ s)
+Replies (Readers address) s text u = (AreTold s role.Reader address text ⊎ ArePast s (byte_at address) text) × (u ≡ s)
 Replies (Bytes range) s text u = (AreShown s range text ⊎ ArePast s range text) × (u ≡ s)
 Replies Way s text u = IsBody (way_text s.legs) text × (u ≡ s)
 Replies Help s text u = u ≡ s

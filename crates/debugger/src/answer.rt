@@ -1,10 +1,11 @@
 //! What is answered to a line.
 
-ghost use Rattle.std.specs.Prelude.{◌≡◌, ℕ, ◌+◌, ◌-◌, ◌^◌, ◌<◌, List, ◌++◌, OnOk, OnErr};
+ghost use Rattle.std.specs.Prelude.{◌≡◌, ℕ, ◌+◌, ◌-◌, ◌^◌, ◌<◌, ◌≤◌, List, ◌++◌, OnOk, OnErr, length};
 ghost use Rattle.debugger.specs.Answers.{answer_text, body_text, memory_line};
 
 use arrayvec::ArrayString;
 use byte_streams::{Failed, Sink, write_all};
+use std::alloc::Global;
 use wasm_types::NoMemory;
 
 /// What is said where memory could not be had.
@@ -17,7 +18,44 @@ pub struct Answer {
     pub body: Result<String, NoMemory>,
 }
 
+/// An answer of one line.
+pub(crate) fn line(alloc: Global, text: &str) -> Answer
+    requires { length text.now ≤ 64 }
+    ensures { answer_text result ≡ text.now }
+{
+    let mut head = ArrayString::<64>::new();
+    head.push_str(text);
+    Answer::of_line(alloc, head)
+}
+
+/// An answer of lines for which memory is wanted.
+pub(crate) fn lines(body: Result<String, NoMemory>) -> Answer
+    ensures { answer_text result ≡ body_text body }
+{
+    Answer {
+        head: ArrayString::<64>::new(),
+        body,
+    }
+}
+
+/// An answer where memory could not be had.
+pub(crate) fn wanting() -> Answer
+    ensures { answer_text result ≡ memory_line }
+{
+    lines(Err(NoMemory))
+}
+
 impl Answer {
+    /// An answer of one line, which takes no memory.
+    pub(crate) fn of_line(alloc: Global, head: ArrayString<64>) -> Answer
+        ensures { answer_text result ≡ head.bytes }
+    {
+        Answer {
+            head,
+            body: Ok(String::new(alloc)),
+        }
+    }
+
     /// The lines behind the first, or that memory could not be had for them.
     fn body(&self) -> &str
         ensures { result.now ≡ body_text self.now.body }

@@ -1,7 +1,7 @@
 //! The lines of answers that take no memory.
 
-ghost use Rattle.std.specs.Prelude.{◌≡◌, ◌≤◌, length};
-ghost use Rattle.debugger.specs.Replies.{back_line, fault_words, ceased_words, gone_line, stopped_line, break_line, IsStopOf};
+ghost use Rattle.std.specs.Prelude.{◌≡◌, ◌<◌, ◌≤◌, IfSome, length};
+ghost use Rattle.debugger.specs.Replies.{back_line, fault_words, ceased_words, gone_line, stopped_line, unreached_line, reverse_line, break_line, IsStopOf};
 
 use arrayvec::ArrayString;
 use debug_views::stop_words;
@@ -66,6 +66,32 @@ pub(crate) fn stopped_line(stopped: Stopped, breaks: &[Break]) -> ArrayString<64
         }
     }
     line
+}
+
+/// That a place was not reached, and where all threads stopped.
+pub(crate) fn unreached_line(stopped: Stopped, breaks: &[Break]) -> ArrayString<64>
+    requires { IsStopOf stopped breaks.now }
+    ensures { result.bytes ≡ unreached_line stopped breaks.now }
+{
+    let mut line = ArrayString::<64>::new();
+    line.push_str("error: no such place: ");
+    line.push_str(stopped_line(stopped, breaks).as_str());
+    line
+}
+
+/// At which break of the list a move back ends.
+pub(crate) fn reverse_line(found: Option<usize>, breaks: &[Break]) -> ArrayString<64>
+    requires { IfSome found (λ index. index < length breaks.now) }
+    ensures { result.bytes ≡ reverse_line found breaks.now }
+{
+    match found {
+        Some(index) => stopped_line(Stopped::Break(index), breaks),
+        None => {
+            let mut line = ArrayString::<64>::new();
+            line.push_str("no break before\n");
+            line
+        }
+    }
 }
 
 /// A break, by its number from 0.

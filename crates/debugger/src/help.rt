@@ -6,13 +6,19 @@ use wasm_types::NoMemory;
 /// What `help` answers.
 const HELP: &str = "\
 step T [N]      go on with thread T alone, by N steps (1)
+event T [N]     go on with thread T alone, up to behind its Nth event (1) from here
 continue        go on with all threads, up to a break
 back [N]        go back by N steps (1), of whichever threads made them
+reverse         go back to the break before, or to the beginning
+goto T P        go to where thread T has made P events, from the beginning on
 place T P       break behind the event of thread T after which it has made P
 write FROM LEN  break behind a write of a block that holds one of these bytes
 delete          forget all breaks
 threads         how each thread stands, and where
+where T         how thread T stands, and where
 bytes FROM LEN  these bytes, and the versions of their blocks
+writer FROM     which event wrote the block of this byte last, as T.P
+readers FROM    which events have read what was written there last
 way             the steps made so far, from the beginning on
 help            these commands
 quit            end

@@ -16,10 +16,12 @@ mod kept;
 mod lines;
 mod moves;
 mod opening;
+mod questions;
 mod reading;
 mod shown_bytes;
 mod standing;
 mod talking;
+mod touched;
 mod way;
 
 pub use answer::Answer;
@@ -27,3 +29,4 @@ pub use command::{Command, Line};
 pub use debugger::Debugger;
 pub use debugging::{DebugFault, debug_log};
 pub use talking::{Respond, TalkFault, talk};
+pub use touched::{Role, Sought};

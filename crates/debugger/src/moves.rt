@@ -1,37 +1,34 @@
 //! What a debugger does.
 
-ghost use Rattle.std.specs.Prelude.{◌≡◌, ◌≤◌, ◌⊎◌, OnOk, IfOk, IfErr, length};
+ghost use Rattle.std.specs.Prelude.{◌≡◌, ◌⊎◌, OnOk, IfOk, IfErr};
 ghost use Rattle.wasm_world.specs.Plans.{IsPlanOf};
 ghost use Rattle.wasm_replay.specs.Replays.{IsNotOpened, IsOfRun};
-ghost use Rattle.debugger.specs.Answers.{answer_text, body_text, memory_line};
+ghost use Rattle.debugger.specs.Answers.{answer_text};
 ghost use Rattle.debugger.specs.At.{at_of, CanOpen};
-ghost use Rattle.debugger.specs.Replies.{IsLed, IsMove, IsOpening, Replies, Steps, Breaks, AreShown, ArePast, Wants};
-ghost use Rattle.debugger.specs.declared.command.Command.TheVariants.{Continue, Back, Delete};
+ghost use Rattle.debugger.specs.Replies.{IsLed, IsMove, IsOpening, Replies, Steps, MakesEvents, Breaks, Wants};
+ghost use Rattle.debugger.specs.declared.command.Command.TheVariants.{Continue, Back, Reverse, Goto, Delete};
 
-use crate::answer::Answer;
+use crate::answer::{Answer, line, lines, wanting};
 use crate::command::Command;
 use crate::debugger::Debugger;
-use crate::heads::{back_line, break_line, gone_line, stopped_line};
+use crate::heads::{back_line, break_line, gone_line, reverse_line, stopped_line, unreached_line};
 use crate::help::help_text;
 use crate::opening::open_session;
-use crate::shown_bytes::bytes_text;
 use crate::standing::standing_text;
 use crate::talking::Respond;
+use crate::touched::Role;
 use crate::way::way_text;
 use arrayvec::ArrayString;
-use debug_views::{PlaceWriter, is_in_view, write_break};
-use replay_breaks::Break;
+use debug_views::{PlaceWriter, write_break};
+use replay_breaks::{Break, Stopped};
 use replica::Log;
 use std::alloc::Global;
 use wasm_replay::{ReplayFault, Standing, Unreplayed, WasmReplayFault};
-use wasm_types::{ByteRange, NoMemory};
+use wasm_types::NoMemory;
 use wasm_world::{Plan, Valid, memory_limits};
 
 /// What is said where all breaks were taken away.
 const NO_BREAKS: &str = "no breaks\n";
-
-/// What is said of bytes that the memory does not have.
-const NO_BYTES: &str = "error: the memory ends before\n";
 
 /// The refusal of a log that is not opened.
 fn unopened(valid: &Valid, plan: &Plan, log: &Log, fault: WasmReplayFault) -> Unreplayed
@@ -39,36 +36,6 @@ fn unopened(valid: &Valid, plan: &Plan, log: &Log, fault: WasmReplayFault) -> Un
 {
     let standing = Standing::unopened(valid, plan, log, fault);
     Unreplayed { fault, standing }
-}
-
-/// An answer of one line.
-fn line(alloc: Global, text: &str) -> Answer
-    requires { length text.now ≤ 64 }
-    ensures { answer_text result ≡ text.now }
-{
-    let mut head = ArrayString::<64>::new();
-    head.push_str(text);
-    Answer {
-        head,
-        body: Ok(String::new(alloc)),
-    }
-}
-
-/// An answer of lines for which memory is wanted.
-fn lines(body: Result<String, NoMemory>) -> Answer
-    ensures { answer_text result ≡ body_text body }
-{
-    Answer {
-        head: ArrayString::<64>::new(),
-        body,
-    }
-}
-
-/// An answer where memory could not be had.
-fn wanting() -> Answer
-    ensures { answer_text result ≡ memory_line }
-{
-    lines(Err(NoMemory))
 }
 
 impl<'a> Debugger<'a> {
@@ -122,6 +89,15 @@ impl<'a> Debugger<'a> {
         self.moved(alloc, gone_line(gone))
     }
 
+    /// Makes steps of a thread, up to behind so many events.
+    fn event(&mut self, alloc: Global, thread: u32, events: u32) -> Answer
+        ensures opens { self.new.session.replay.opens ≡ self.old.session.replay.opens }
+        ensures events { MakesEvents (at_of self.old) thread events (answer_text result) (at_of self.new) }
+    {
+        let gone = self.session.thread_events(alloc, thread, events);
+        self.moved(alloc, gone_line(gone))
+    }
+
     /// Goes on with all threads, up to a break.
     fn run_on(&mut self, alloc: Global) -> Answer
         ensures opens { self.new.session.replay.opens ≡ self.old.session.replay.opens }
@@ -145,6 +121,36 @@ impl<'a> Debugger<'a> {
         }
     }
 
+    /// Goes back to the break before.
+    fn reverse(&mut self, alloc: Global) -> Answer
+        requires { CanOpen self.old }
+        ensures opens { self.new.session.replay.opens ≡ self.old.session.replay.opens }
+        ensures replies { Replies Reverse (at_of self.old) (answer_text result) (at_of self.new) }
+    {
+        match self.session.reverse(alloc, &self.breaks) {
+            Ok(found) => self.moved(alloc, reverse_line(found, &self.breaks)),
+            Err(NoMemory) => wanting(),
+        }
+    }
+
+    /// Goes to where a thread has made so many events, from the opening world on.
+    fn go_to(&mut self, alloc: Global, thread: u32, place: u32) -> Answer
+        requires { CanOpen self.old }
+        ensures opens { self.new.session.replay.opens ≡ self.old.session.replay.opens }
+        ensures replies { Replies (Goto thread place) (at_of self.old) (answer_text result) (at_of self.new) }
+    {
+        let breaks = [Break::Place { thread, place }];
+        match self.session.go_to(alloc, &breaks) {
+            Err(NoMemory) => wanting(),
+            Ok(stopped) => match stopped {
+                Stopped::Break(_) => self.moved(alloc, stopped_line(stopped, &breaks)),
+                Stopped::Finished | Stopped::Stuck | Stopped::Fault(_) => {
+                    Answer::of_line(alloc, unreached_line(stopped, &breaks))
+                }
+            },
+        }
+    }
+
     /// Puts a break behind the others.
     fn put_break(&mut self, alloc: Global, one: Break) -> Answer
         ensures opens { self.new.session.replay.opens ≡ self.old.session.replay.opens }
@@ -152,10 +158,7 @@ impl<'a> Debugger<'a> {
     {
         let number = self.breaks.len();
         match self.breaks.push(one) {
-            Ok(()) => Answer {
-                head: break_line(number),
-                body: Ok(String::new(alloc)),
-            },
+            Ok(()) => Answer::of_line(alloc, break_line(number)),
             Err(_) => wanting(),
         }
     }
@@ -167,18 +170,6 @@ impl<'a> Debugger<'a> {
     {
         self.breaks.clear();
         line(alloc, NO_BREAKS)
-    }
-
-    /// Shows bytes.
-    fn show(&self, alloc: Global, range: ByteRange) -> Answer
-        ensures { AreShown (at_of self.now) range (answer_text result) ⊎ ArePast (at_of self.now) range (answer_text result) }
-    {
-        let world = self.session.world();
-        if is_in_view(world, range.from, range.len) {
-            lines(bytes_text(alloc, world, self.block, range))
-        } else {
-            line(alloc, NO_BYTES)
-        }
     }
 }
 
@@ -197,8 +188,11 @@ impl<'a> Respond for Debugger<'a> {
     fn respond(&mut self, alloc: Global, command: Command) -> Answer {
         match command {
             Command::Step { thread, steps } => self.step(alloc, thread, steps),
+            Command::Event { thread, events } => self.event(alloc, thread, events),
             Command::Continue => self.run_on(alloc),
             Command::Back { steps } => self.back(alloc, steps),
+            Command::Reverse => self.reverse(alloc),
+            Command::Goto { thread, place } => self.go_to(alloc, thread, place),
             Command::Place { thread, place } => self.put_break(
                 alloc,
                 Break::Place { thread, place },
@@ -209,6 +203,9 @@ impl<'a> Respond for Debugger<'a> {
             }
             Command::Delete => self.delete(alloc),
             Command::Threads => lines(standing_text(alloc, &self.places, self.session.world())),
+            Command::Where { thread } => self.show_thread(alloc, thread),
+            Command::Writer { address } => self.tell(alloc, Role::Writer, address),
+            Command::Readers { address } => self.tell(alloc, Role::Reader, address),
             Command::Bytes(range) => self.show(alloc, range),
             Command::Way => lines(way_text(alloc, self.session.legs())),
             Command::Help => lines(help_text(alloc)),

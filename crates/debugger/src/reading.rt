@@ -11,9 +11,15 @@ use wasm_types::ByteRange;
 /// The words that commands begin with.
 const STEP: &[u8] = b"step";
 
+const EVENT: &[u8] = b"event";
+
 const CONTINUE: &[u8] = b"continue";
 
 const BACK: &[u8] = b"back";
+
+const REVERSE: &[u8] = b"reverse";
+
+const GOTO: &[u8] = b"goto";
 
 const PLACE: &[u8] = b"place";
 
@@ -22,6 +28,12 @@ const WRITE: &[u8] = b"write";
 const DELETE: &[u8] = b"delete";
 
 const THREADS: &[u8] = b"threads";
+
+const WHERE: &[u8] = b"where";
+
+const WRITER: &[u8] = b"writer";
+
+const READERS: &[u8] = b"readers";
 
 const BYTES: &[u8] = b"bytes";
 
@@ -50,6 +62,8 @@ fn alone(word: &[u8]) -> Option<Command>
         Some(Command::Continue)
     } else if word == BACK {
         Some(Command::Back { steps: 1 })
+    } else if word == REVERSE {
+        Some(Command::Reverse)
     } else if word == DELETE {
         Some(Command::Delete)
     } else if word == THREADS {
@@ -75,8 +89,19 @@ fn with_one(word: &[u8], first: &[u8]) -> Option<Command>
             thread: number,
             steps: 1,
         })
+    } else if word == EVENT {
+        Some(Command::Event {
+            thread: number,
+            events: 1,
+        })
     } else if word == BACK {
         Some(Command::Back { steps: number })
+    } else if word == WHERE {
+        Some(Command::Where { thread: number })
+    } else if word == WRITER {
+        Some(Command::Writer { address: number })
+    } else if word == READERS {
+        Some(Command::Readers { address: number })
     } else {
         None
     }
@@ -96,6 +121,16 @@ fn with_two(word: &[u8], first: &[u8], second: &[u8]) -> Option<Command>
         Some(Command::Step {
             thread: first,
             steps: second,
+        })
+    } else if word == EVENT {
+        Some(Command::Event {
+            thread: first,
+            events: second,
+        })
+    } else if word == GOTO {
+        Some(Command::Goto {
+            thread: first,
+            place: second,
         })
     } else if word == PLACE {
         Some(Command::Place {

@@ -29,6 +29,20 @@ fn write_standing(
     write_thread(text, thread as usize, view, note.as_str())
 }
 
+/// How a thread of the world stands, and in which functions.
+pub(crate) fn thread_text(
+    alloc: Global,
+    places: &PlaceWriter<'_>,
+    world: &World<ThreadState<'_>, SharedSpace>,
+    thread: u32,
+) -> Result<String, NoMemory>
+    ensures { IfOk result (λ text. (at : ThreadAt CodeThread) → slice_get (world_of world.now).threads thread ≡ Some at → string_bytes text ≡ thread_line places.now thread at) }
+{
+    let mut text = String::new(alloc);
+    write_standing(alloc, &mut text, places, world, thread)?;
+    Ok(text)
+}
+
 /// How each thread stands, and in which functions.
 pub(crate) fn standing_text(
     alloc: Global,

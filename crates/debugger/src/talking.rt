@@ -54,9 +54,12 @@ fn ends(command: Command) -> bool
 {
     match command {
         Command::Quit => true,
-        Command::Step { .. } | Command::Continue | Command::Back { .. } => false,
+        Command::Step { .. } | Command::Event { .. } | Command::Continue => false,
+        Command::Back { .. } | Command::Reverse | Command::Goto { .. } => false,
         Command::Place { .. } | Command::Write(_) | Command::Delete => false,
-        Command::Threads | Command::Bytes(_) | Command::Way | Command::Help => false,
+        Command::Threads | Command::Where { .. } | Command::Bytes(_) => false,
+        Command::Writer { .. } | Command::Readers { .. } => false,
+        Command::Way | Command::Help => false,
     }
 }
 

@@ -1,0 +1,12 @@
+-- the events of the threads so far are written, and then those of the threads that are left
+use Rattle.std.proofs.Common.{◌≡◌, ◌++◌, drop}
+use Rattle.std.specs.Prelude.{string_bytes}
+use Rattle.event_core.specs.World.{world_of}
+use Rattle.debugger.specs.Touched.{events_of}
+use Rattle.debugger.proofs.touched.events_of.Given as goal
+
+abbrev pub invariant-loop-thread : goal.invariant-loop-thread
+invariant-loop-thread g l = record {
+  written : string_bytes l.text ++ events_of (g.L.ReadLog.log l.log) l.sought l.thread (drop l.thread (world_of l.world).threads) ≡ events_of (g.L.ReadLog.log l.log) l.sought 0 (world_of l.world).threads;
+  reads : g.L.ReadLog.reads l.log l.reader;
+}

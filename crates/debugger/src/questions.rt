@@ -1,0 +1,83 @@
+//! What a debugger is asked for that changes nothing.
+
+ghost use Rattle.std.specs.Prelude.{◌≡◌, ◌⊎◌, slice_get};
+ghost use Rattle.block_objects.specs.Objects.{block_of, block_object};
+ghost use Rattle.debugger.specs.Answers.{answer_text};
+ghost use Rattle.debugger.specs.At.{at_of};
+ghost use Rattle.debugger.specs.Replies.{AreShown, ArePast, AreTold, IsWhere, byte_at, sought_at};
+
+use crate::answer::{Answer, line, lines};
+use crate::debugger::Debugger;
+use crate::shown_bytes::bytes_text;
+use crate::standing::thread_text;
+use crate::touched::{Role, Sought, sought_text};
+use block_objects::block_number;
+use debug_views::is_in_view;
+use std::alloc::Global;
+use wasm_types::{Block, ByteRange};
+
+/// What is said of bytes that the memory does not have.
+const NO_BYTES: &str = "error: the memory ends before\n";
+
+/// What is said of a thread that there is not.
+const NO_THREAD: &str = "error: no such thread\n";
+
+/// The object of the block that holds a byte.
+fn object_at(block: Block, address: u32) -> u32
+    ensures { result ≡ block_object (block_of block address) }
+{
+    let _from_6_to_12 = block.power();
+    1 + 2 * block_number(block, address)
+}
+
+impl<'a> Debugger<'a> {
+    /// How a thread stands.
+    pub(crate) fn show_thread(&self, alloc: Global, thread: u32) -> Answer
+        ensures { IsWhere (at_of self.now).form thread (slice_get (at_of self.now).world.threads thread) (answer_text result) }
+    {
+        let world = self.session.world();
+        if (thread as usize) < world.count() {
+            lines(thread_text(alloc, &self.places, world, thread))
+        } else {
+            line(alloc, NO_THREAD)
+        }
+    }
+
+    /// Shows bytes.
+    pub(crate) fn show(&self, alloc: Global, range: ByteRange) -> Answer
+        ensures { AreShown (at_of self.now) range (answer_text result) ⊎ ArePast (at_of self.now) range (answer_text result) }
+    {
+        let world = self.session.world();
+        if is_in_view(world, range.from, range.len) {
+            lines(bytes_text(alloc, world, self.block, range))
+        } else {
+            line(alloc, NO_BYTES)
+        }
+    }
+
+    /// What is asked of the version of a byte's block.
+    fn sought_at(&self, role: Role, address: u32) -> Sought
+        ensures { result ≡ sought_at (at_of self.now) role address }
+    {
+        let object = object_at(self.block, address);
+        let version = self.session.world().versions().at(object).version;
+        Sought {
+            role,
+            object,
+            version,
+        }
+    }
+
+    /// Tells which events wrote the version of a byte's block, or read it.
+    pub(crate) fn tell(&self, alloc: Global, role: Role, address: u32) -> Answer
+        ensures { AreTold (at_of self.now) role address (answer_text result) ⊎ ArePast (at_of self.now) (byte_at address) (answer_text result) }
+    {
+        let world = self.session.world();
+        if is_in_view(world, address, 1) {
+            let sought = self.sought_at(role, address);
+            lines(sought_text(alloc, world, self.session.log(), sought))
+        } else {
+            line(alloc, NO_BYTES)
+        }
+    }
+}

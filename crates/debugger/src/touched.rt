@@ -1,0 +1,184 @@
+//! Who wrote a version of an object, and who read it.
+
+ghost use Rattle.std.specs.Prelude.{◌≡◌, ◌++◌, ◌<◌, IfOk, OnOk, option_copied, string_bytes};
+ghost use Rattle.std.specs.List.{list_any};
+ghost use Rattle.event_core.specs.World.{world_of};
+ghost use Rattle.debugger.specs.Touched.{is_writer, is_reader, is_sought, is_sought_entry, is_sought_item, event_if, events_of_thread, events_of, or_nobody, role_words, sought_line};
+
+use event_core::World;
+use join_laws::Flat;
+use replay_gate::ReadLog;
+use rw_objects::{Entry, Found, Machine, ObjectSpace};
+use std::alloc::Global;
+use std::fmt::Write;
+use wasm_types::NoMemory;
+
+/// What an event did with a version.
+#[derive(Clone, Copy, Debug, PartialEq, Eq)]
+pub enum Role {
+    /// It made it, by a write over the version before.
+    Writer,
+    /// It read it.
+    Reader,
+}
+
+impl Role {
+    fn is_writer(self) -> bool
+        ensures { result ≡ is_writer self }
+    {
+        match self {
+            Role::Writer => true,
+            Role::Reader => false,
+        }
+    }
+
+    fn is_reader(self) -> bool
+        ensures { result ≡ is_reader self }
+    {
+        match self {
+            Role::Writer => false,
+            Role::Reader => true,
+        }
+    }
+
+    fn words(self) -> &'static str
+        ensures { result.now ≡ role_words self }
+    {
+        match self {
+            Role::Writer => " written by",
+            Role::Reader => " read by",
+        }
+    }
+}
+
+/// A version of an object, and what the events did with it that are sought.
+#[derive(Clone, Copy, Debug)]
+pub struct Sought {
+    pub role: Role,
+    pub object: u32,
+    pub version: u64,
+}
+
+impl Sought {
+    /// Whether an event did so by this touch.
+    fn is_touch(&self, found: &Found) -> bool
+        ensures { result ≡ is_sought self.now found.now }
+    {
+        match *found {
+            Found::Read { object, version } => {
+                self.role.is_reader() && (object == self.object && version == self.version)
+            }
+            Found::Write {
+                object,
+                version,
+                ..
+            } => {
+                let made = u128::from(version) + 1;
+                self.role.is_writer() && (object == self.object && made == u128::from(self.version))
+            }
+        }
+    }
+
+    /// Whether an event did so by one of these touches.
+    fn is_any(&self, all: &[Found]) -> bool
+        ensures { result ≡ list_any (is_sought self.now) all.now }
+    {
+        all.iter().any(|found| self.is_touch(found))
+    }
+
+    /// Whether the event of an entry did so.
+    fn is_entry(&self, item: &Flat<Entry>) -> bool
+        ensures { result ≡ is_sought_entry self.now item.now }
+    {
+        match item {
+            Flat::Known(entry) => self.is_any(entry.found.as_slice()),
+            Flat::Clash => false,
+        }
+    }
+
+    /// Whether the event of an item did so.
+    fn is_item(&self, item: Option<&Flat<Entry>>) -> bool
+        ensures { result ≡ is_sought_item self.now (option_copied item.entry) }
+    {
+        match item {
+            Some(item) => self.is_entry(item),
+            None => false,
+        }
+    }
+}
+
+/// Writes where an event stands that did so.
+fn write_if(text: &mut String, did: bool, thread: u32, place: u32) -> Result<(), NoMemory>
+    ensures { OnOk result (string_bytes text.new ≡ string_bytes text.old ++ event_if did thread place) }
+{
+    if did {
+        write!(text, " {thread}.{place}")?;
+    }
+    Ok(())
+}
+
+/// Writes which of a thread's first events did so. The reader goes forward through the log.
+fn write_events_of_thread<L: ReadLog>(
+    text: &mut String,
+    log: &L,
+    reader: &mut L::Reader,
+    sought: Sought,
+    thread: u32,
+    places: u32,
+) -> Result<(), NoMemory>
+    requires reads { L.reads log.now reader.old }
+    requires few { thread < 16 }
+    ensures written { OnOk result (string_bytes text.new ≡ string_bytes text.old ++ events_of_thread (L.log log.now) sought thread places) }
+    ensures reads { OnOk result (L.reads log.now reader.new) }
+{
+    for place in 0..places {
+        log.read(reader, thread, place);
+        let did = sought.is_item(L::held(reader, thread));
+        write_if(text, did, thread, place)?;
+    }
+    Ok(())
+}
+
+/// Which of the events that the threads of a world made did so.
+fn events_of<M: Machine<S>, S: ObjectSpace, L: ReadLog>(
+    alloc: Global,
+    world: &World<M, S>,
+    log: &L,
+    sought: Sought,
+) -> Result<String, NoMemory>
+    ensures { IfOk result (λ text. string_bytes text ≡ events_of (L.log log.now) sought 0 (world_of world.now).threads) }
+{
+    let mut text = String::new(alloc);
+    let mut reader = log.reader();
+    for thread in 0..world.count() {
+        let Some(places) = world.places(thread as u32) else {
+            unreachable!()
+        };
+        write_events_of_thread(&mut text, log, &mut reader, sought, thread as u32, places)?;
+    }
+    Ok(text)
+}
+
+/// The events, or that there is none.
+fn or_nobody(events: &str) -> &str
+    ensures { result.now ≡ or_nobody events.now }
+{
+    if events.is_empty() { " nobody" } else { events }
+}
+
+/// The line that says who wrote a version of an object, or who read it, of the events made so far.
+pub(crate) fn sought_text<M: Machine<S>, S: ObjectSpace, L: ReadLog>(
+    alloc: Global,
+    world: &World<M, S>,
+    log: &L,
+    sought: Sought,
+) -> Result<String, NoMemory>
+    ensures { IfOk result (λ text. string_bytes text ≡ sought_line sought (events_of (L.log log.now) sought 0 (world_of world.now).threads)) }
+{
+    let events = events_of(alloc, world, log, sought)?;
+    let object = sought.object;
+    let version = sought.version;
+    let words = sought.role.words();
+    let names = or_nobody(events.as_str());
+    Ok(format!(in alloc; "object {object} version {version}{words}{names}\n")?)
+}
