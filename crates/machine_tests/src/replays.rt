@@ -47,30 +47,36 @@ pub(crate) const WRITTEN: (Found, End) = (
     },
 );
 
-/// Delivers a thread's one entry and its end.
+/// Delivers a thread's one entry and its end. Answers whether that could be done.
 pub(crate) fn deliver(
     alloc: Global,
     replica: &mut Replica,
     thread: u32,
     (found, end): (Found, End),
-) -> Result<(), Fail> {
+) -> bool {
     let mut entries = Vec::new(alloc);
-    entries.push(Entry {
+    let entry = Entry {
         kind: Kind::Access,
         found: Few::one(alloc, found),
-    })?;
-    let piece = Piece::new(*replica.log().key(), thread, 0, entries, Some(end))?;
-    replica.deliver(alloc, &piece)?;
-    Ok(())
+    };
+    if entries.push(entry).is_err() {
+        return false;
+    }
+    match Piece::new(*replica.log().key(), thread, 0, entries, Some(end)) {
+        Ok(piece) => replica.deliver(alloc, &piece).is_ok(),
+        Err(_) => false,
+    }
 }
 
 /// What is gathered of a run in which both readers come before the writer.
 fn readers_first(alloc: Global, key: RunKey) -> Result<Replica, Fail> {
     let mut replica = Replica::new(alloc, key);
-    deliver(alloc, &mut replica, 0, READ)?;
-    deliver(alloc, &mut replica, 1, READ)?;
-    deliver(alloc, &mut replica, 2, WRITTEN)?;
-    Ok(replica)
+    let readers = deliver(alloc, &mut replica, 0, READ) && deliver(alloc, &mut replica, 1, READ);
+    if readers && deliver(alloc, &mut replica, 2, WRITTEN) {
+        Ok(replica)
+    } else {
+        Err("a piece is not gathered".into())
+    }
 }
 
 /// Turns in their order, and what each comes to: the third of the writer, before any of the readers, finds a shut gate.

@@ -1,9 +1,11 @@
 //! Where replays of threads over their memory stand that are refused.
 
+ghost use Rattle.wasm_world.specs.Plans.{IsPlanOf};
+
 use crate::modules::valid;
 use crate::replays::{READ, READERS, THREE, WRITTEN, deliver};
 use log_pieces::End;
-use replica::Replica;
+use replica::{Log, Replica};
 use rw_objects::{Count, Found, Kind, Mode, Touch};
 use std::alloc::Global;
 use std::test::Fail;
@@ -11,7 +13,7 @@ use wasm_replay::{
     Claimed, Doing, Logged, LoggedEntry, Progress, Standing, Waiting, replay_gathered,
 };
 use wasm_types::{Block, Profile, RunKey};
-use wasm_world::Plan;
+use wasm_world::{Plan, Valid};
 
 /// A write behind one more read than there are.
 const LATE: Found = Found::Write {
@@ -26,6 +28,16 @@ fn one(found: Found) -> LoggedEntry {
         kind: Kind::Access,
         found: [Some(found), None, None],
     }
+}
+
+/// Where the replay of a log stands that is refused.
+fn refused(alloc: Global, valid: &Valid, plan: &Plan, log: &Log) -> Option<Standing>
+    requires { IsPlanOf valid.now plan.now }
+{
+    let Err(unreplayed) = replay_gathered(alloc, valid, plan, log, &[]) else {
+        return None;
+    };
+    Some(unreplayed.standing)
 }
 
 /// Where the replay stands of what each thread found and how it ends, in a log with this digest, or that of the run.
@@ -44,12 +56,11 @@ fn standing(
     }
     let mut replica = Replica::new(alloc, key);
     for (thread, claim) in claims {
-        deliver(alloc, &mut replica, *thread, *claim)?;
+        if !deliver(alloc, &mut replica, *thread, *claim) {
+            return Err("a piece is not gathered".into());
+        }
     }
-    match replay_gathered(alloc, &valid, &plan, replica.log(), &[]) {
-        Ok(_) => Ok(None),
-        Err(unreplayed) => Ok(Some(unreplayed.standing)),
-    }
+    Ok(refused(alloc, &valid, &plan, replica.log()))
 }
 
 /// A log of another run has another key than that of these.

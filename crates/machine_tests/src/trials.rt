@@ -59,14 +59,15 @@ const TABLE: &str = "04 04 01 70 00 04";
 const GLOBALS: &str = "06 0b 02 7f 01 41 07 0b 7e 00 42 7f 0b 07 05 01 01 66 00 00";
 
 /// Writes a content behind its size in bytes, which is written as two bytes.
-fn put_sized(text: &mut String, content: &str) -> Result<(), Fail> {
+fn put_sized(alloc: Global, text: &mut String, content: &str) -> Result<(), Fail> {
     let mut digits = 0usize;
     for part in content.split(' ') {
         digits = digits.saturating_add(part.len());
     }
     let size = digits / 2;
-    let (low, high) = (size % 128 + 128, size / 128 % 128);
-    write!(text, "{low:02x}{high:02x}{content}")?;
+    let bytes = [(size % 128 + 128) as u8, (size / 128 % 128) as u8];
+    text.push_str(hex::encode(alloc, &bytes)?.as_str())?;
+    text.push_str(content)?;
     Ok(())
 }
 
@@ -74,7 +75,7 @@ fn put_sized(text: &mut String, content: &str) -> Result<(), Fail> {
 fn code_of(alloc: Global, count: usize, bodies: &str) -> Result<String, Fail> {
     let mut code = format!(in alloc; "{count:02x}")?;
     for body in bodies.split('/') {
-        put_sized(&mut code, body)?;
+        put_sized(alloc, &mut code, body)?;
     }
     Ok(code)
 }
@@ -95,7 +96,7 @@ fn digits_of(alloc: Global, case: &Case<'_>) -> Result<String, Fail> {
     let mut text = format!(in alloc;
         "{HEAD}{imports}03{size:02x}{count:02x}{functions}{TABLE}{memory}{GLOBALS}{segments}0a"
     )?;
-    put_sized(&mut text, code.as_str())?;
+    put_sized(alloc, &mut text, code.as_str())?;
     Ok(text)
 }
 
