@@ -93,6 +93,7 @@ delete          forget all breaks
 threads         how each thread stands, and where
 where T         how thread T stands, and where
 bytes FROM LEN  these bytes, and the versions of their blocks
+around T [N]    the last N events of thread T (5), and its next, as listed
 writer FROM     which event wrote the block of this byte last, as T.P
 readers FROM    which events have read what was written there last
 way             the steps made so far, from the beginning on
@@ -109,7 +110,7 @@ class Debugger:
         self.forms = {(b'step', 1): lambda n: self.step(n, 1), (b'step', 2): self.step, (b'continue', 0): self.run_on,
                       (b'event', 1): lambda n: self.event(n, 1), (b'event', 2): self.event, (b'reverse', 0): self.reverse, (b'goto', 2): self.goto,
                       (b'back', 0): lambda: self.back(1), (b'back', 1): self.back, (b'place', 2): self.place, (b'write', 2): self.write,
-                      (b'delete', 0): self.delete, (b'threads', 0): self.threads, (b'where', 1): self.where, (b'bytes', 2): self.bytes,
+                      (b'delete', 0): self.delete, (b'threads', 0): self.threads, (b'where', 1): self.where, (b'around', 1): lambda n: self.around(n, 5), (b'around', 2): self.around, (b'bytes', 2): self.bytes,
                       (b'writer', 1): lambda at: self.who(at, 'written', 'w%d@%d/', 1), (b'readers', 1): lambda at: self.who(at, 'read', 'r%d@%d', 0),
                       (b'way', 0): self.way, (b'help', 0): lambda: HELP}
     world = property(lambda self: self.passed[-1])
@@ -130,6 +131,14 @@ class Debugger:
     def where(self, n):
         if n >= len(self.world.threads): return 'error: no such thread\n'
         return thread_line(self.world, self.world.threads[n], False, self.world.threads[n].out is None)
+    def around(self, n, count):
+        if n >= len(self.world.threads): return 'error: no such thread\n'
+        made, text = len(self.world.threads[n].entries), ''
+        for place in range(max(made - count, 0), made + 1):
+            entry = self.log.entries.get((n, place))
+            if entry is None: continue
+            text += 'next ' * (place == made) + '%d.%d %s\n' % (n, place, 'clash' if entry is CLASH else ' '.join([entry[0], *entry[1]]))
+        return text
     def threads(self): return ''.join(self.where(n) for n in range(len(self.world.threads)))
     def step(self, n, most): return self.go(n, most, ('local', 'event'))
     def event(self, n, most): return self.go(n, most, ('event',))
@@ -255,6 +264,8 @@ TALKS = {
                      'continue', 'continue', 'reverse', 'reverse', 'way', 'step 0 2', 'step 1 9', 'write 0 4', 'event 0', 'reverse', 'reverse', 'way', 'delete', 'reverse'),
     'who': lines('writer 0', 'readers 0', 'event 0 2', 'writer 0', 'readers 0', 'readers 64', 'event 1 2', 'writer 3', 'readers 63', 'continue', 'writer 0', 'readers 0',
                  'writer 64', 'writer 65535', 'writer 65536', 'readers 65536', 'readers 4294967295', 'back 4', 'writer 0', 'readers 0'),
+    'around': lines('around 0', 'around 1 0', 'around 2', 'event 0', 'around 0', 'around 0 1', 'around 0 0', 'continue', 'around 0', 'around 1 1', 'around 1 4294967295',
+                    'around 3', 'around 4294967295 1'),
     'asked': lines('where 0', 'where 1', 'where 2', 'where 16', 'where 4294967295', 'continue', 'where 1'),
     'standing': lines('step 2 5', 'step 2 9', 'back', 'way', 'continue', 'back', 'way', 'step 0 99'),
     'deep': lines('step 0 255', 'step 0 9', 'step 0', 'back 255', 'step 1 9', 'way'),
@@ -264,7 +275,7 @@ TALKS = {
         'step +1', 'step x', 'step 0x1', 'step 1.0', 'step 4294967296', 'step 0 4294967296', 'step 0 18446744073709551617', 'Step 0', 'steps 0', 'step\t0',
         'continue 1', 'continue ', 'cont', 'back ', 'back 00', 'back -1', 'back 1 2', 'back 4294967296', 'place', 'place 0', 'place 0 1 2', 'place 0.1', 'place a 0',
         'place 0 4294967296', 'write', 'write 0', 'write 0+4', 'write 0 4 1', 'write 4294967296 0', 'delete 0', 'threads 0', 'threads\r', '\r', 'bytes', 'bytes 0',
-        'bytes 0 4 4', 'bytes 0x0 4', 'bytes 0 04', 'way 1', 'help me', 'help\r', 'event', 'event x', 'event 0 1 2', 'event 0 01', 'reverse 1', 'goto', 'goto 0', 'goto 0.1', 'goto 0 1 2', 'where', 'where 0 1', 'where x',
+        'bytes 0 4 4', 'bytes 0x0 4', 'bytes 0 04', 'way 1', 'help me', 'help\r', 'event', 'event x', 'event 0 1 2', 'event 0 01', 'reverse 1', 'goto', 'goto 0', 'goto 0.1', 'goto 0 1 2', 'where', 'where 0 1', 'where x', 'around', 'around x', 'around 0 1 2',
         'writer', 'writer 0 4', 'writer 0x0', 'readers', 'readers 4294967296', 'quit 0', 'quit\r', ' quit', 'quit ', 'Quit', '0', '# way', 'way;way')
            + b'\xff\xfe\nstep 0\0\nthr\xc3\xa9ads\nthreads\nway\nwrite 0 4',
     'long': b'x' * 1024 + b'\n' + b'x' * 1025 + b'\nway' + b' ' * 1021 + b'\n' + b'x' * 1024 + b'threads\nthreads',
@@ -279,11 +290,12 @@ def drawn_talk(words, threads, count):
     """Lines that numbers draw: `words` answers a number below another."""
     def some(most): return (0, 1, 2, 3, words(most + 1), words(most + 1))[words(6)]
     def line():
-        kind, n = words(22), words(threads + 1)
+        kind, n = words(23), words(threads + 1)
         if kind == 16: return 'event %d' % n + (' %d' % some(4) if words(3) else '')
         if kind == 17: return 'reverse'
         if kind == 18: return 'goto %d %d' % (n, some(4))
         if kind == 19: return 'where %d' % n
+        if kind == 22: return 'around %d' % n + (' %d' % some(4) if words(3) else '')
         if kind > 19: return '%s %d' % (('writer', 'readers')[kind - 20], (0, 63, 64, some(200))[words(4)])
         if kind < 5: return 'step %d' % n + (' %d' % some(9) if words(3) else '')
         if kind < 8: return 'continue'

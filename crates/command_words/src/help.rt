@@ -491,6 +491,7 @@ standard input, one in each line, and answers each on standard output:
   threads         how each thread stands, and where
   where T         how thread T stands, and where
   bytes FROM LEN  these bytes, and the versions of their blocks
+  around T [N]    the last N events of thread T (5), and its next, as listed
   writer FROM     which event wrote the block of this byte last, as T.P
   readers FROM    which events have read what was written there last
   way             the steps made so far, from the beginning on

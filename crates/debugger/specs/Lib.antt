@@ -2,6 +2,7 @@ pub mod Lines
 pub mod Kept
 pub mod Answers
 pub mod Talks
+pub mod Around
 pub mod Touched
 pub mod Replies
 pub mod At

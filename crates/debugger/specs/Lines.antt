@@ -6,7 +6,7 @@ use Rattle.std.specs.Str.Parse.{signed_digits_value, starts_with_minus}
 use Rattle.text_lines.specs.Integers.{is_decimal, bits_of}
 use Rattle.text_lines.specs.Parts.{words}
 use Rattle.debugger.specs.declared.command.Command.{Command}
-use Rattle.debugger.specs.declared.command.Command.TheVariants.{Step, Event, Continue, Back, Reverse, Goto, Place, Write, Delete, Threads, Where, Writer, Readers, Bytes, Way, Help, Quit}
+use Rattle.debugger.specs.declared.command.Command.TheVariants.{Step, Event, Continue, Back, Reverse, Goto, Place, Write, Delete, Threads, Where, Around, Writer, Readers, Bytes, Way, Help, Quit}
 use Rattle.debugger.specs.declared.command.Line.{Line}
 use Rattle.debugger.specs.declared.command.Line.TheVariants as line
 
@@ -34,8 +34,9 @@ with_one word (Some n) =
     if bytes_eq word (codes "event") then Some (Event n 1) else (
     if bytes_eq word (codes "back") then Some (Back n) else (
     if bytes_eq word (codes "where") then Some (Where n) else (
+    if bytes_eq word (codes "around") then Some (Around n 5) else (
     if bytes_eq word (codes "writer") then Some (Writer n) else (
-    if bytes_eq word (codes "readers") then Some (Readers n) else None)))))
+    if bytes_eq word (codes "readers") then Some (Readers n) else None))))))
 
 -- the command of a word and two numbers
 abbrev pub with_two : List ℕ → Option ℕ → Option ℕ → Option Command
@@ -45,9 +46,10 @@ with_two word (Some n) (Some k) =
     if bytes_eq word (codes "step") then Some (Step n k) else (
     if bytes_eq word (codes "event") then Some (Event n k) else (
     if bytes_eq word (codes "goto") then Some (Goto n k) else (
+    if bytes_eq word (codes "around") then Some (Around n k) else (
     if bytes_eq word (codes "place") then Some (Place n k) else (
     if bytes_eq word (codes "write") then Some (Write (record { from = n; len = k })) else (
-    if bytes_eq word (codes "bytes") then Some (Bytes (record { from = n; len = k })) else None)))))
+    if bytes_eq word (codes "bytes") then Some (Bytes (record { from = n; len = k })) else None))))))
 
 -- the command of these words
 abbrev pub command_of : List (List ℕ) → Option Command
@@ -79,6 +81,7 @@ ends (Write range) = false
 ends Delete = false
 ends Threads = false
 ends (Where thread) = false
+ends (Around thread events) = false
 ends (Writer address) = false
 ends (Readers address) = false
 ends (Bytes range) = false

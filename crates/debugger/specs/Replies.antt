@@ -42,9 +42,10 @@ use Rattle.debug_views.specs.Threads.{view_of_thread}
 use Rattle.debug_views.specs.Values.{memory_bytes, bytes_of_range}
 use Rattle.debug_views.specs.Writes.{IsWriteOfRange}
 use Rattle.debugger.specs.Answers.{memory_line}
+use Rattle.debugger.specs.Around.{around_text}
 use Rattle.debugger.specs.Touched.{events_of, sought_line}
 use Rattle.debugger.specs.declared.command.Command.{Command}
-use Rattle.debugger.specs.declared.command.Command.TheVariants.{Step, Event, Continue, Back, Reverse, Goto, Place, Write, Delete, Threads, Where, Writer, Readers, Bytes, Way, Help, Quit}
+use Rattle.debugger.specs.declared.command.Command.TheVariants.{Step, Event, Continue, Back, Reverse, Goto, Place, Write, Delete, Threads, Where, Around, Writer, Readers, Bytes, Way, Help, Quit}
 use Rattle.debugger.specs.declared.touched.Role.{Role}
 use Rattle.debugger.specs.declared.touched.Role.TheVariants as role
 use Rattle.debugger.specs.declared.touched.Sought.{Sought}
@@ -258,6 +259,11 @@ abbrev pub IsWhere : PlaceForm → ℕ → Option (ThreadAt CodeThread) → List
 IsWhere form thread None text = text ≡ no_thread
 IsWhere form thread (Some t) text = IsBody (thread_line form thread t) text
 
+-- what the log has of the last n events of a thread, and of its next, if there is one of that number
+abbrev pub IsAround : GatheredLog → ℕ → ℕ → Option (ThreadAt CodeThread) → List ℕ → Type 0
+IsAround log thread n None text = text ≡ no_thread
+IsAround log thread n (Some t) text = IsBody (around_text (gathered_log log) thread t.places n) text
+
 -- the version of the block that holds a byte
 abbrev pub sought_at : DebugAt → Role → ℕ → Sought
 sought_at s r address = record {
@@ -291,6 +297,7 @@ Replies (Write range) s text u = ((b : Break) × IsWriteOfRange s.power range.fr
 Replies Delete s text u = (text ≡ no_breaks) × (u ≡ with_breaks s [])
 Replies Threads s text u = IsBody (standing_text s.form s.world) text × (u ≡ s)
 Replies (Where thread) s text u = IsWhere s.form thread (slice_get s.world.threads thread) text × (u ≡ s)
+Replies (Around thread n) s text u = IsAround s.log thread n (slice_get s.world.threads thread) text × (u ≡ s)
 Replies (Writer address) s text u = (AreTold s role.Writer address text ⊎ ArePast s (byte_at address) text) × (u ≡ s)
 Replies (Readers address) s text u = (AreTold s role.Reader address text ⊎ ArePast s (byte_at address) text) × (u ≡ s)
 Replies (Bytes range) s text u = (AreShown s range text ⊎ ArePast s range text) × (u ≡ s)

@@ -27,6 +27,8 @@ pub enum Command {
     Threads,
     /// How a thread stands.
     Where { thread: u32 },
+    /// What the log has of so many of a thread's last events, and of its next.
+    Around { thread: u32, events: u32 },
     /// Which event wrote the block of this byte last.
     Writer { address: u32 },
     /// Which events read what was written there last.

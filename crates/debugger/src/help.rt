@@ -17,6 +17,7 @@ delete          forget all breaks
 threads         how each thread stands, and where
 where T         how thread T stands, and where
 bytes FROM LEN  these bytes, and the versions of their blocks
+around T [N]    the last N events of thread T (5), and its next, as listed
 writer FROM     which event wrote the block of this byte last, as T.P
 readers FROM    which events have read what was written there last
 way             the steps made so far, from the beginning on

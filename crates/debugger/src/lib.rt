@@ -7,6 +7,7 @@
 #![tactic(auto)]
 
 mod answer;
+mod around;
 mod command;
 mod debugger;
 mod debugging;

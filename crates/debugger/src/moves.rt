@@ -204,6 +204,7 @@ impl<'a> Respond for Debugger<'a> {
             Command::Delete => self.delete(alloc),
             Command::Threads => lines(standing_text(alloc, &self.places, self.session.world())),
             Command::Where { thread } => self.show_thread(alloc, thread),
+            Command::Around { thread, events } => self.around(alloc, thread, events),
             Command::Writer { address } => self.tell(alloc, Role::Writer, address),
             Command::Readers { address } => self.tell(alloc, Role::Reader, address),
             Command::Bytes(range) => self.show(alloc, range),

@@ -4,9 +4,10 @@ ghost use Rattle.std.specs.Prelude.{◌≡◌, ◌⊎◌, slice_get};
 ghost use Rattle.block_objects.specs.Objects.{block_of, block_object};
 ghost use Rattle.debugger.specs.Answers.{answer_text};
 ghost use Rattle.debugger.specs.At.{at_of};
-ghost use Rattle.debugger.specs.Replies.{AreShown, ArePast, AreTold, IsWhere, byte_at, sought_at};
+ghost use Rattle.debugger.specs.Replies.{AreShown, ArePast, AreTold, IsAround, IsWhere, byte_at, sought_at};
 
 use crate::answer::{Answer, line, lines};
+use crate::around::around_text;
 use crate::debugger::Debugger;
 use crate::shown_bytes::bytes_text;
 use crate::standing::thread_text;
@@ -41,6 +42,20 @@ impl<'a> Debugger<'a> {
         } else {
             line(alloc, NO_THREAD)
         }
+    }
+
+    /// Shows what the log has of a thread's last events and of its next.
+    pub(crate) fn around(&self, alloc: Global, thread: u32, events: u32) -> Answer
+        ensures { IsAround (at_of self.now).log thread events (slice_get (at_of self.now).world.threads thread) (answer_text result) }
+    {
+        let world = self.session.world();
+        if thread as usize >= world.count() {
+            return line(alloc, NO_THREAD);
+        }
+        let Some(places) = world.places(thread) else {
+            unreachable!()
+        };
+        lines(around_text(alloc, self.session.log(), thread, places, events))
     }
 
     /// Shows bytes.

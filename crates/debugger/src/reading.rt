@@ -31,6 +31,8 @@ const THREADS: &[u8] = b"threads";
 
 const WHERE: &[u8] = b"where";
 
+const AROUND: &[u8] = b"around";
+
 const WRITER: &[u8] = b"writer";
 
 const READERS: &[u8] = b"readers";
@@ -98,6 +100,11 @@ fn with_one(word: &[u8], first: &[u8]) -> Option<Command>
         Some(Command::Back { steps: number })
     } else if word == WHERE {
         Some(Command::Where { thread: number })
+    } else if word == AROUND {
+        Some(Command::Around {
+            thread: number,
+            events: 5,
+        })
     } else if word == WRITER {
         Some(Command::Writer { address: number })
     } else if word == READERS {
@@ -131,6 +138,11 @@ fn with_two(word: &[u8], first: &[u8], second: &[u8]) -> Option<Command>
         Some(Command::Goto {
             thread: first,
             place: second,
+        })
+    } else if word == AROUND {
+        Some(Command::Around {
+            thread: first,
+            events: second,
         })
     } else if word == PLACE {
         Some(Command::Place {

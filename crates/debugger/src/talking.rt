@@ -58,7 +58,7 @@ fn ends(command: Command) -> bool
         Command::Back { .. } | Command::Reverse | Command::Goto { .. } => false,
         Command::Place { .. } | Command::Write(_) | Command::Delete => false,
         Command::Threads | Command::Where { .. } | Command::Bytes(_) => false,
-        Command::Writer { .. } | Command::Readers { .. } => false,
+        Command::Around { .. } | Command::Writer { .. } | Command::Readers { .. } => false,
         Command::Way | Command::Help => false,
     }
 }
