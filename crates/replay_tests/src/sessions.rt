@@ -487,6 +487,66 @@ fn go_again(alloc: Global, session: &mut OfScripts<'_>, thread: u32, most: u64) 
     gone.ceased
 }
 
+/// Goes to a break, and where memory was wanted goes there again: the refused one left all as it was.
+fn go_to_again(
+    abort: &impl Abort,
+    alloc: Global,
+    session: &mut OfScripts<'_>,
+    breaks: &[Break],
+) -> Result<Stopped, NoMemory> {
+    let before = stand(session);
+    match session.go_to(alloc, breaks) {
+        Err(_) => {
+            assert!(abort; stand(session) == before);
+            session.go_to(alloc, breaks)
+        }
+        Ok(Stopped::Fault(ReplayFault::NoMemory)) => {
+            assert!(abort; stand(session) == before);
+            session.go_to(alloc, breaks)
+        }
+        stopped => stopped,
+    }
+}
+
+/// Goes back to a break, and where memory was wanted goes back again: the refused one left all as it was.
+fn reverse_again(
+    abort: &impl Abort,
+    alloc: Global,
+    session: &mut OfScripts<'_>,
+    breaks: &[Break],
+) -> Result<Option<usize>, NoMemory> {
+    let before = stand(session);
+    match session.reverse(alloc, breaks) {
+        Err(_) => {
+            assert!(abort; stand(session) == before);
+            session.reverse(alloc, breaks)
+        }
+        found => found,
+    }
+}
+
+/// Goes to behind the first event of thread 0, on to the end, back to that event and then to the beginning.
+fn reverse_all(
+    abort: &impl Abort,
+    alloc: Global,
+    session: &mut OfScripts<'_>,
+) -> Result<(), NoMemory> {
+    let breaks = [Break::Place {
+        thread: 0,
+        place: 1,
+    }];
+    let stopped = go_to_again(abort, alloc, session, &breaks)?;
+    assert!(abort; stopped == Stopped::Break(0) && session.world().places(0) == Some(1));
+    let there = all_steps(session.world());
+    let stopped = run_again(abort, alloc, session)?;
+    assert!(abort; stopped == Stopped::Finished && all_steps(session.world()) == 606);
+    let found = reverse_again(abort, alloc, session, &breaks)?;
+    assert!(abort; found == Some(0) && all_steps(session.world()) == there);
+    let found = reverse_again(abort, alloc, session, &breaks)?;
+    assert!(abort; found.is_none() && all_steps(session.world()) == 0);
+    Ok(())
+}
+
 /// A session's moves, each made again where memory was wanted: it comes to the same places.
 fn move_again(
     abort: &impl Abort,
@@ -511,7 +571,7 @@ fn move_again(
     assert!(abort; legs == 2 && last == Some(last_leg));
     back_again(abort, alloc, &mut session, 102)?;
     assert!(abort; session.legs().is_empty() && all_steps(session.world()) == 0);
-    Ok(())
+    reverse_all(abort, alloc, &mut session)
 }
 
 /// Where a growth is refused, as `refused` has it, the session goes on to the same places.
