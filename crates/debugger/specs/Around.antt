@@ -2,18 +2,13 @@
 use Rattle.std.specs.Prelude.{ℕ, zero, suc, ◌+◌, ◌-◌, List, [], ◌∷◌, ◌++◌, Option, Some, None, codes}
 use Rattle.std.specs.Fmt.{decimal}
 use Rattle.rw_objects.specs.declared.entry.Entry.{Entry}
-use Rattle.rw_objects.specs.Text.{entry_text}
 use Rattle.join_laws.specs.declared.flat.Flat.{Flat}
-use Rattle.join_laws.specs.declared.flat.Flat.TheVariants.{Known, Clash}
 use Rattle.replay_laws.specs.Log.{Log}
-
-abbrev pub words_of : Flat Entry → List ℕ
-words_of (Known e) = entry_text e
-words_of Clash = codes "clash"
+use Rattle.replica.specs.Listing.{item_text}
 
 -- `T.P access r33@2`, or `T.P clash`
 abbrev pub entry_line : ℕ → ℕ → Flat Entry → List ℕ
-entry_line thread place item = decimal thread ++ (codes "." ++ (decimal place ++ (codes " " ++ (words_of item ++ 10 ∷ []))))
+entry_line thread place item = decimal thread ++ (codes "." ++ (decimal place ++ (codes " " ++ (item_text item ++ 10 ∷ []))))
 
 abbrev pub item_line : ℕ → ℕ → Option (Flat Entry) → List ℕ
 item_line thread place None = []
