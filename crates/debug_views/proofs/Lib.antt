@@ -9,3 +9,5 @@ pub mod TraceLaws
 pub mod TraceRows
 pub mod Noting
 pub mod AtStep
+pub mod Pairs
+pub mod Behind

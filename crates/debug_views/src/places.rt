@@ -1,13 +1,14 @@
 //! How places in a module's code are written.
 
-ghost use Rattle.std.specs.Prelude.{◌≡◌, ◌++◌, ℕ, IfOk, IfSome, OnOk, codes, is_some, string_bytes};
+ghost use Rattle.std.specs.Prelude.{◌≡◌, ◌+◌, ◌≤◌, ◌++◌, ℕ, IfOk, IfSome, OnOk, codes, is_some, string_bytes};
 ghost use Rattle.std.specs.Fmt.{decimal};
+ghost use Rattle.arrayvec.specs.ArrayString.{array_string_len};
 ghost use Rattle.binary_decoder.specs.Kept.{offset_of};
 ghost use Rattle.binary_decoder.specs.Names.{function_name};
 ghost use Rattle.binary_decoder.specs.Offsets.{instruction_offset};
 ghost use Rattle.debug_views.specs.Standing.{PlaceForm, title, offset_text, offset_if, place_text};
 
-use crate::numbers::put_number;
+use crate::numbers::{Line, push_line, put_number};
 use binary_decoder::{FunctionNames, InstructionOffsets, fits_line};
 use integer_machine::CodePlace;
 use std::alloc::Global;
@@ -54,11 +55,30 @@ fn offsets_if(
     }
 }
 
-/// Writes the offset of an instruction, if there is one.
-fn write_offset(text: &mut String, offset: Option<usize>) -> Result<(), NoMemory>
-    ensures { OnOk result (string_bytes text.new ≡ string_bytes text.old ++ offset_text offset) }
+/// Puts a name behind a line that stands behind a text.
+#[inline(always)]
+fn put_name(text: &mut String, line: &mut Line, name: &str) -> Result<(), NoMemory>
+    requires { array_string_len line.old + 64 ≤ 1024 }
+    ensures text { OnOk result (string_bytes text.new ++ line.new.bytes ≡ (string_bytes text.old ++ line.old.bytes) ++ name.now) }
+    ensures short { OnOk result (array_string_len line.new ≤ array_string_len line.old + 64) }
+{
+    if name.len() <= 64 {
+        line.push_str(name);
+        return Ok(());
+    }
+    push_line(text, line)?;
+    text.push_str(name)?;
+    Ok(())
+}
+
+/// Puts the offset of an instruction, if there is one, behind a line that stands behind a text.
+#[inline(always)]
+fn put_offset(text: &mut String, line: &mut Line, offset: Option<usize>) -> Result<(), NoMemory>
+    ensures text { OnOk result (string_bytes text.new ++ line.new.bytes ≡ (string_bytes text.old ++ line.old.bytes) ++ offset_text offset) }
+    ensures short { OnOk result (array_string_len line.new ≤ array_string_len line.old) }
 {
     if let Some(offset) = offset {
+        push_line(text, line)?;
         write!(text, " 0x{offset:x}")?;
     }
     Ok(())
@@ -80,15 +100,21 @@ impl<'a> PlaceWriter<'a> {
         })
     }
 
-    /// Writes a function: by its name, or by its number where it has none that may be put into a line.
-    fn write_title(&self, text: &mut String, function: u32) -> Result<(), NoMemory>
-        ensures { OnOk result (string_bytes text.new ≡ string_bytes text.old ++ title (function_name self.now.source function) function) }
+    /// Puts a function, by its name, or by its number where it has none that may be put into a line, behind a line that
+    /// stands behind a text.
+    #[inline(always)]
+    fn put_title(&self, text: &mut String, line: &mut Line, function: u32) -> Result<(), NoMemory>
+        requires { array_string_len line.old + 64 ≤ 1024 }
+        ensures text { OnOk result (string_bytes text.new ++ line.new.bytes ≡ (string_bytes text.old ++ line.old.bytes) ++ title (function_name self.now.source function) function) }
+        ensures short { OnOk result (array_string_len line.new ≤ array_string_len line.old + 64) }
     {
         match self.names.get(function) {
-            Some(name) if fits_line(name) => text.push_str(name)?,
-            _ => put_number(text, u64::from(function))?,
+            Some(name) if fits_line(name) => put_name(text, line, name),
+            _ => {
+                put_number(line, u64::from(function));
+                Ok(())
+            }
         }
-        Ok(())
     }
 
     /// The offset of the instruction at a place, where offsets are asked for.
@@ -101,15 +127,33 @@ impl<'a> PlaceWriter<'a> {
         }
     }
 
+    /// Puts where a thread stands in a function, its title, the number of the instruction that comes next in it, and
+    /// perhaps the offset of that, behind a line that stands behind a text.
+    #[inline(always)]
+    pub(crate) fn put(
+        &self,
+        text: &mut String,
+        line: &mut Line,
+        place: CodePlace,
+    ) -> Result<(), NoMemory>
+        requires { array_string_len line.old + 85 ≤ 1024 }
+        ensures text { OnOk result (string_bytes text.new ++ line.new.bytes ≡ (string_bytes text.old ++ line.old.bytes) ++ place_text self.now place) }
+        ensures short { OnOk result (array_string_len line.new ≤ array_string_len line.old + 85) }
+    {
+        self.put_title(text, line, place.function)?;
+        line.push_str("+");
+        put_number(line, u64::from(place.instruction));
+        put_offset(text, line, self.offset(place))
+    }
+
     /// Writes where a thread stands in a function: its title, the number of the instruction that comes next in it, and
     /// perhaps the offset of that.
     pub(crate) fn write(&self, text: &mut String, place: CodePlace) -> Result<(), NoMemory>
         ensures { OnOk result (string_bytes text.new ≡ string_bytes text.old ++ place_text self.now place) }
     {
-        self.write_title(text, place.function)?;
-        text.push_str("+")?;
-        put_number(text, u64::from(place.instruction))?;
-        write_offset(text, self.offset(place))?;
+        let mut line = Line::new();
+        self.put(text, &mut line, place)?;
+        text.push_str(line.as_str())?;
         Ok(())
     }
 }

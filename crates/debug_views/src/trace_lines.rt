@@ -1,42 +1,44 @@
 //! Lines of a trace, behind where they stand in the code.
 
-ghost use Rattle.std.specs.Prelude.{◌≡◌, ◌++◌, OnOk, codes, string_bytes};
+ghost use Rattle.std.specs.Prelude.{◌≡◌, ◌+◌, ◌≤◌, ◌∷◌, ◌++◌, OnOk, Some, codes, length, string_bytes};
 ghost use Rattle.std.specs.Fmt.{decimal};
+ghost use Rattle.arrayvec.specs.ArrayString.{array_string_len};
 ghost use Rattle.wasm_types.specs.Accesses.{access_width, load_width, type_width};
+ghost use Rattle.wasm_types.specs.Text.{outcome_text};
 ghost use Rattle.wasm_types.specs.Widths.{width_of};
+ghost use Rattle.block_objects.specs.SharedMemory.{shared_memory};
+ghost use Rattle.event_core.specs.World.{world_of};
+ghost use Rattle.debug_views.specs.Trace.{measured, number_if, outcome_in};
+ghost use Rattle.debug_views.specs.Values.{memory_bytes};
 ghost use Rattle.debug_views.specs.TraceLines.{width_text, found_text, changed_text, unlike_text, access_text, rmw_word, action_text, stopped_text, done_text};
 
-use crate::numbers::{put_number, write_number};
+use crate::numbers::{Line, push_line, put_number, put_value};
+use crate::trace_seen::{Seen, number_in, pages_in};
+use event_core::World;
+use integer_machine::ThreadState;
 use std::fmt::Write;
-use wasm_types::{Access, Action, Load, NoMemory, Outcome, RmwOp, ValType, Width};
+use wasm_types::{Access, Action, Load, NoMemory, Outcome, RmwOp, Width};
+use wasm_world::SharedSpace;
 
-/// What an event did.
-#[derive(Clone, Copy, Debug)]
-pub(crate) struct Done {
-    pub(crate) action: Action,
-    /// The number at the action's address, or the pages, before the event.
-    pub(crate) found: Option<u64>,
-    /// The same behind it.
-    pub(crate) left: Option<u64>,
-    /// How the thread stands behind it.
-    pub(crate) outcome: Outcome,
-}
-
-/// The integer that fills a width.
-fn width_text(width: Width) -> &'static str
-    ensures { result.now ≡ width_text (width_of width) }
+/// Puts the integer that fills a width behind a line.
+#[inline(always)]
+fn put_width(line: &mut Line, width: Width)
+    requires { array_string_len line.old + 4 ≤ 1024 }
+    ensures text { line.new.bytes ≡ line.old.bytes ++ (32 ∷ width_text (width_of width)) }
+    ensures short { array_string_len line.new ≤ array_string_len line.old + 4 }
 {
     match width {
-        Width::One => "i8",
-        Width::Two => "i16",
-        Width::Four => "i32",
-        Width::Eight => "i64",
+        Width::One => line.push_str(" i8"),
+        Width::Two => line.push_str(" i16"),
+        Width::Four => line.push_str(" i32"),
+        Width::Eight => line.push_str(" i64"),
     }
 }
 
 /// The word of a read-modify-write.
 fn rmw_word(op: RmwOp) -> &'static str
-    ensures { result.now ≡ rmw_word op }
+    ensures word { result.now ≡ rmw_word op }
+    ensures short { length result.now ≤ 4 }
 {
     match op {
         RmwOp::Add => "add",
@@ -48,36 +50,54 @@ fn rmw_word(op: RmwOp) -> &'static str
     }
 }
 
-/// Writes what was found.
-fn write_found(text: &mut String, found: Option<u64>) -> Result<(), NoMemory>
-    ensures { OnOk result (string_bytes text.new ≡ string_bytes text.old ++ found_text found) }
+/// Puts what was found behind a line that stands behind a text.
+#[inline(always)]
+fn put_found(text: &mut String, line: &mut Line, found: Option<u64>) -> Result<(), NoMemory>
+    requires { array_string_len line.old + 21 ≤ 1024 }
+    ensures text { OnOk result (string_bytes text.new ++ line.new.bytes ≡ (string_bytes text.old ++ line.old.bytes) ++ found_text found) }
+    ensures short { OnOk result (array_string_len line.new ≤ array_string_len line.old + 21) }
 {
     match found {
         None => Ok(()),
         Some(number) => {
-            text.push_str(" ")?;
-            write_number(text, number)
+            line.push_str(" ");
+            put_value(text, line, number)
         }
     }
 }
 
-/// Writes what was found, and what was left.
-fn write_changed(text: &mut String, found: Option<u64>, left: Option<u64>) -> Result<(), NoMemory>
-    ensures { OnOk result (string_bytes text.new ≡ string_bytes text.old ++ changed_text found left) }
+/// Puts what was found, and what was left, behind a line that stands behind a text.
+#[inline(always)]
+fn put_changed(
+    text: &mut String,
+    line: &mut Line,
+    found: Option<u64>,
+    left: Option<u64>,
+) -> Result<(), NoMemory>
+    requires { array_string_len line.old + 45 ≤ 1024 }
+    ensures text { OnOk result (string_bytes text.new ++ line.new.bytes ≡ (string_bytes text.old ++ line.old.bytes) ++ changed_text found left) }
+    ensures short { OnOk result (array_string_len line.new ≤ array_string_len line.old + 45) }
 {
-    write_found(text, found)?;
+    put_found(text, line, found)?;
     match left {
         None => Ok(()),
         Some(number) => {
-            text.push_str(" -> ")?;
-            write_number(text, number)
+            line.push_str(" -> ");
+            put_value(text, line, number)
         }
     }
 }
 
-/// Writes the number that was looked for, where another was found.
-fn write_unlike(text: &mut String, found: Option<u64>, expected: u64) -> Result<(), NoMemory>
-    ensures { OnOk result (string_bytes text.new ≡ string_bytes text.old ++ unlike_text found expected) }
+/// Puts the number that was looked for, where another was found, behind a line that stands behind a text.
+fn put_unlike(
+    text: &mut String,
+    line: &mut Line,
+    found: Option<u64>,
+    expected: u64,
+) -> Result<(), NoMemory>
+    requires { array_string_len line.old + 25 ≤ 1024 }
+    ensures text { OnOk result (string_bytes text.new ++ line.new.bytes ≡ (string_bytes text.old ++ line.old.bytes) ++ unlike_text found expected) }
+    ensures short { OnOk result (array_string_len line.new ≤ array_string_len line.old + 25) }
 {
     match found {
         None => Ok(()),
@@ -85,149 +105,237 @@ fn write_unlike(text: &mut String, found: Option<u64>, expected: u64) -> Result<
             if number == expected {
                 return Ok(());
             }
-            text.push_str(" not ")?;
-            write_number(text, expected)
+            line.push_str(" not ");
+            put_value(text, line, expected)
         }
     }
 }
 
-/// Writes an access at an address.
-fn write_access(text: &mut String, word: &str, address: u32, width: Width) -> Result<(), NoMemory>
-    ensures { OnOk result (string_bytes text.new ≡ string_bytes text.old ++ access_text word.now address (width_of width)) }
+/// Puts an access at an address behind a line.
+#[inline(always)]
+fn put_access(line: &mut Line, word: &str, address: u32, width: Width)
+    requires room { array_string_len line.old + 34 ≤ 1024 }
+    requires word { length word.now ≤ 9 }
+    ensures text { line.new.bytes ≡ line.old.bytes ++ access_text word.now address (width_of width) }
+    ensures short { array_string_len line.new ≤ array_string_len line.old + 34 }
 {
-    text.push_str(word)?;
-    text.push_str(" ")?;
-    put_number(text, u64::from(address))?;
-    text.push_str(" ")?;
-    text.push_str(width_text(width))?;
-    Ok(())
+    line.push_str(word);
+    line.push_str(" ");
+    put_number(line, u64::from(address));
+    put_width(line, width);
 }
 
-/// Writes a load.
-fn write_load(
+/// Puts a wake of waiters at an address behind a line.
+fn put_notify(line: &mut Line, address: u32, count: u32)
+    requires { array_string_len line.old + 48 ≤ 1024 }
+    ensures text { line.new.bytes ≡ line.old.bytes ++ (codes "notify " ++ (decimal address ++ (32 ∷ decimal count))) }
+    ensures short { array_string_len line.new ≤ array_string_len line.old + 48 }
+{
+    line.push_str("notify ");
+    put_number(line, u64::from(address));
+    line.push_str(" ");
+    put_number(line, u64::from(count));
+}
+
+/// Puts a word and a number behind a line.
+fn put_numbered(line: &mut Line, word: &str, number: u32)
+    requires room { array_string_len line.old + 30 ≤ 1024 }
+    requires word { length word.now ≤ 10 }
+    ensures text { line.new.bytes ≡ line.old.bytes ++ (word.now ++ decimal number) }
+    ensures short { array_string_len line.new ≤ array_string_len line.old + 30 }
+{
+    line.push_str(word);
+    put_number(line, u64::from(number));
+}
+
+/// Puts a load behind a line that stands behind a text.
+#[inline(always)]
+fn put_load(
     text: &mut String,
+    line: &mut Line,
     load: Load,
     address: u32,
     found: Option<u64>,
 ) -> Result<(), NoMemory>
-    ensures { OnOk result (string_bytes text.new ≡ string_bytes text.old ++ (access_text (codes "load") address (load_width load) ++ found_text found)) }
+    requires { array_string_len line.old + 104 ≤ 1024 }
+    ensures text { OnOk result (string_bytes text.new ++ line.new.bytes ≡ (string_bytes text.old ++ line.old.bytes) ++ (access_text (codes "load") address (load_width load) ++ found_text found)) }
+    ensures short { OnOk result (array_string_len line.new ≤ array_string_len line.old + 104) }
 {
-    write_access(text, "load", address, load.width())?;
-    write_found(text, found)
+    put_access(line, "load", address, load.width());
+    put_found(text, line, found)
 }
 
-/// Writes an access that may change the number at its address.
-fn write_change(
+/// Puts an access that may change the number at its address behind a line that stands behind a text.
+#[inline(always)]
+fn put_change(
     text: &mut String,
+    line: &mut Line,
     word: &str,
     address: u32,
     access: Access,
-    done: &Done,
+    found: Option<u64>,
+    world: &World<ThreadState<'_>, SharedSpace>,
 ) -> Result<(), NoMemory>
-    ensures { OnOk result (string_bytes text.new ≡ string_bytes text.old ++ (access_text word.now address (access_width access) ++ changed_text done.now.found done.now.left)) }
+    requires room { array_string_len line.old + 79 ≤ 1024 }
+    requires word { length word.now ≤ 9 }
+    ensures text { OnOk result (string_bytes text.new ++ line.new.bytes ≡ (string_bytes text.old ++ line.old.bytes) ++ (access_text word.now address (access_width access) ++ changed_text found (number_if (access_width access) address (memory_bytes shared_memory (world_of world.now))))) }
+    ensures short { OnOk result (array_string_len line.new ≤ array_string_len line.old + 79) }
 {
-    write_access(text, word, address, access.width())?;
-    write_changed(text, done.found, done.left)
+    put_access(line, word, address, access.width());
+    put_changed(text, line, found, number_in(world, access, address))
 }
 
-/// Writes a compare-exchange.
-fn write_exchange(
+/// Puts a compare-exchange behind a line that stands behind a text.
+fn put_exchange(
     text: &mut String,
+    line: &mut Line,
     address: u32,
     access: Access,
     expected: u64,
-    done: &Done,
+    found: Option<u64>,
+    world: &World<ThreadState<'_>, SharedSpace>,
 ) -> Result<(), NoMemory>
-    ensures { OnOk result (string_bytes text.new ≡ string_bytes text.old ++ (access_text (codes "cmpxchg") address (access_width access) ++ (changed_text done.now.found done.now.left ++ unlike_text done.now.found expected))) }
+    requires { array_string_len line.old + 104 ≤ 1024 }
+    ensures text { OnOk result (string_bytes text.new ++ line.new.bytes ≡ (string_bytes text.old ++ line.old.bytes) ++ (access_text (codes "cmpxchg") address (access_width access) ++ (changed_text found (number_if (access_width access) address (memory_bytes shared_memory (world_of world.now))) ++ unlike_text found expected))) }
+    ensures short { OnOk result (array_string_len line.new ≤ array_string_len line.old + 104) }
 {
-    write_change(text, "cmpxchg", address, access, done)?;
-    write_unlike(text, done.found, expected)
+    put_change(text, line, "cmpxchg", address, access, found, world)?;
+    put_unlike(text, line, found, expected)
 }
 
-/// Writes a wait.
-fn write_wait(
+/// Puts `memory.size` behind a line that stands behind a text.
+fn put_size(text: &mut String, line: &mut Line, found: Option<u64>) -> Result<(), NoMemory>
+    requires { array_string_len line.old + 104 ≤ 1024 }
+    ensures text { OnOk result (string_bytes text.new ++ line.new.bytes ≡ (string_bytes text.old ++ line.old.bytes) ++ (codes "size" ++ found_text found)) }
+    ensures short { OnOk result (array_string_len line.new ≤ array_string_len line.old + 104) }
+{
+    line.push_str("size");
+    put_found(text, line, found)
+}
+
+/// Puts `memory.grow` behind a line that stands behind a text. These pages are there behind it.
+fn put_grow(
     text: &mut String,
+    line: &mut Line,
+    pages: u32,
+    found: Option<u64>,
+    left: u32,
+) -> Result<(), NoMemory>
+    requires { array_string_len line.old + 104 ≤ 1024 }
+    ensures text { OnOk result (string_bytes text.new ++ line.new.bytes ≡ (string_bytes text.old ++ line.old.bytes) ++ (codes "grow " ++ (decimal pages ++ changed_text found (Some left)))) }
+    ensures short { OnOk result (array_string_len line.new ≤ array_string_len line.old + 104) }
+{
+    put_numbered(line, "grow ", pages);
+    put_changed(text, line, found, Some(u64::from(left)))
+}
+
+/// Puts a wait behind a line that stands behind a text.
+fn put_wait(
+    text: &mut String,
+    line: &mut Line,
     address: u32,
-    width: ValType,
+    width: Width,
     expected: u64,
     found: Option<u64>,
 ) -> Result<(), NoMemory>
-    ensures { OnOk result (string_bytes text.new ≡ string_bytes text.old ++ (access_text (codes "wait") address (type_width width) ++ (found_text found ++ unlike_text found expected))) }
+    requires { array_string_len line.old + 104 ≤ 1024 }
+    ensures text { OnOk result (string_bytes text.new ++ line.new.bytes ≡ (string_bytes text.old ++ line.old.bytes) ++ (access_text (codes "wait") address (width_of width) ++ (found_text found ++ unlike_text found expected))) }
+    ensures short { OnOk result (array_string_len line.new ≤ array_string_len line.old + 104) }
 {
-    write_access(text, "wait", address, width.width())?;
-    write_found(text, found)?;
-    write_unlike(text, found, expected)
+    put_access(line, "wait", address, width);
+    put_found(text, line, found)?;
+    put_unlike(text, line, found, expected)
 }
 
-/// Writes `memory.size`.
-fn write_size(text: &mut String, found: Option<u64>) -> Result<(), NoMemory>
-    ensures { OnOk result (string_bytes text.new ≡ string_bytes text.old ++ (codes "size" ++ found_text found)) }
+/// Puts what an action did, by what was found before it and the world behind it, behind a line that stands behind a
+/// text.
+#[inline(always)]
+fn put_action(
+    text: &mut String,
+    line: &mut Line,
+    seen: &Seen,
+    world: &World<ThreadState<'_>, SharedSpace>,
+) -> Result<(), NoMemory>
+    requires { array_string_len line.old + 104 ≤ 1024 }
+    ensures text { OnOk result (string_bytes text.new ++ line.new.bytes ≡ (string_bytes text.old ++ line.old.bytes) ++ action_text seen.now.action seen.now.found (measured seen.now.action (world_of world.now))) }
+    ensures short { OnOk result (array_string_len line.new ≤ array_string_len line.old + 104) }
 {
-    text.push_str("size")?;
-    write_found(text, found)
-}
-
-/// Writes `memory.grow`.
-fn write_grow(text: &mut String, pages: u32, done: &Done) -> Result<(), NoMemory>
-    ensures { OnOk result (string_bytes text.new ≡ string_bytes text.old ++ (codes "grow " ++ (decimal pages ++ changed_text done.now.found done.now.left))) }
-{
-    write!(text, "grow {pages}")?;
-    write_changed(text, done.found, done.left)
-}
-
-/// Writes what an action did.
-fn write_action(text: &mut String, done: &Done) -> Result<(), NoMemory>
-    ensures { OnOk result (string_bytes text.new ≡ string_bytes text.old ++ action_text done.now.action done.now.found done.now.left) }
-{
-    match done.action {
-        Action::Load { load, address } => write_load(text, load, address, done.found),
+    let found = seen.found;
+    match seen.action {
+        Action::Load { load, address } => put_load(text, line, load, address, found),
         Action::Store {
             access,
             address,
             ..
-        } => write_change(text, "store", address, access, done),
+        } => put_change(text, line, "store", address, access, found, world),
         Action::Rmw {
             op,
             access,
             address,
             ..
-        } => write_change(text, rmw_word(op), address, access, done),
+        } => put_change(text, line, rmw_word(op), address, access, found, world),
         Action::CompareExchange {
             access,
             address,
             expected,
             ..
-        } => write_exchange(text, address, access, expected, done),
-        Action::Size => write_size(text, done.found),
-        Action::Grow { pages } => write_grow(text, pages, done),
+        } => put_exchange(text, line, address, access, expected, found, world),
+        Action::Size => put_size(text, line, found),
+        Action::Grow { pages } => put_grow(text, line, pages, found, pages_in(world)),
         Action::Wait {
             width,
             address,
             expected,
             ..
-        } => write_wait(text, address, width, expected, done.found),
-        Action::Notify { address, count } => Ok(write!(text, "notify {address} {count}")?),
-        Action::Resume { address, .. } => Ok(write!(text, "woken {address}")?),
-        Action::TimeOut { address, .. } => Ok(write!(text, "timed out {address}")?),
+        } => put_wait(text, line, address, width.width(), expected, found),
+        Action::Notify { address, count } => Ok(put_notify(line, address, count)),
+        Action::Resume { address, .. } => Ok(put_numbered(line, "woken ", address)),
+        Action::TimeOut { address, .. } => Ok(put_numbered(line, "timed out ", address)),
     }
 }
 
-/// Writes how a thread stands, unless it runs.
-fn write_stopped(text: &mut String, outcome: Outcome) -> Result<(), NoMemory>
-    ensures { OnOk result (string_bytes text.new ≡ string_bytes text.old ++ stopped_text outcome) }
+/// Puts how a thread stands that does not run behind a line that stands behind a text.
+fn put_outcome(text: &mut String, line: &mut Line, outcome: Outcome) -> Result<(), NoMemory>
+    ensures text { OnOk result (string_bytes text.new ++ line.new.bytes ≡ (string_bytes text.old ++ line.old.bytes) ++ (32 ∷ outcome_text outcome)) }
+    ensures short { OnOk result (array_string_len line.new ≤ array_string_len line.old) }
 {
-    match outcome {
-        Outcome::Running => Ok(()),
-        _ => Ok(write!(text, " {outcome}")?),
+    push_line(text, line)?;
+    write!(text, " {outcome}")?;
+    Ok(())
+}
+
+/// Puts how a thread stands in a world, unless it runs, behind a line that stands behind a text.
+#[inline(always)]
+fn put_stopped(
+    text: &mut String,
+    line: &mut Line,
+    world: &World<ThreadState<'_>, SharedSpace>,
+    thread: u32,
+) -> Result<(), NoMemory>
+    ensures text { OnOk result (string_bytes text.new ++ line.new.bytes ≡ (string_bytes text.old ++ line.old.bytes) ++ stopped_text (outcome_in (world_of world.now) thread)) }
+    ensures short { OnOk result (array_string_len line.new ≤ array_string_len line.old) }
+{
+    match world.outcome(thread) {
+        None | Some(Outcome::Running) => Ok(()),
+        Some(outcome) => put_outcome(text, line, outcome),
     }
 }
 
-/// Writes what an event did, and ends its line.
-pub(crate) fn write_done(text: &mut String, done: &Done) -> Result<(), NoMemory>
-    ensures { OnOk result (string_bytes text.new ≡ string_bytes text.old ++ done_text done.now.action done.now.found done.now.left done.now.outcome) }
+/// Puts what an event did, and how its thread stands behind it, behind a line that stands behind a text, and ends the
+/// line.
+#[inline(always)]
+pub(crate) fn put_done(
+    text: &mut String,
+    line: &mut Line,
+    seen: &Seen,
+    world: &World<ThreadState<'_>, SharedSpace>,
+    thread: u32,
+) -> Result<(), NoMemory>
+    requires { array_string_len line.old + 105 ≤ 1024 }
+    ensures { OnOk result (string_bytes text.new ++ line.new.bytes ≡ (string_bytes text.old ++ line.old.bytes) ++ done_text seen.now.action seen.now.found (measured seen.now.action (world_of world.now)) (outcome_in (world_of world.now) thread)) }
 {
-    write_action(text, done)?;
-    write_stopped(text, done.outcome)?;
-    text.push_str("\n")?;
+    put_action(text, line, seen, world)?;
+    put_stopped(text, line, world, thread)?;
+    line.push_str("\n");
     Ok(())
 }

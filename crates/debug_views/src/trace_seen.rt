@@ -1,9 +1,11 @@
 //! What is seen of a thread before its event.
 
 ghost use Rattle.std.specs.Prelude.{◌≡◌, Some, slice_get};
+ghost use Rattle.block_objects.specs.SharedMemory.{shared_memory};
 ghost use Rattle.event_core.specs.World.{world_of};
 ghost use Rattle.wasm_types.specs.Accesses.{access_width};
 ghost use Rattle.debug_views.specs.Trace.{action_if, action_of, accessed, is_of_length, pages_in, measured, number_if, seen_by};
+ghost use Rattle.debug_views.specs.Values.{memory_bytes};
 
 use block_objects::access_number;
 use event_core::{Input, Pick, PickStep, World};
@@ -50,6 +52,7 @@ pub(crate) fn action_of(world: &World<ThreadState<'_>, SharedSpace>, thread: u32
 }
 
 /// The number that an access finds at an address, where the bytes reach so far.
+#[inline(always)]
 fn number_if(bytes: &[u8], access: Access, address: u32) -> Option<u64>
     ensures { result ≡ number_if (access_width access) address bytes.now }
 {
@@ -99,10 +102,22 @@ fn is_of_length(action: &Action) -> bool
 }
 
 /// How many pages there are.
-fn pages_in(world: &World<ThreadState<'_>, SharedSpace>) -> u32
+pub(crate) fn pages_in(world: &World<ThreadState<'_>, SharedSpace>) -> u32
     ensures { result ≡ pages_in (world_of world.now) }
 {
     world.space().pages()
+}
+
+/// The number that an access finds at an address in memory, where this reaches so far.
+#[inline(always)]
+pub(crate) fn number_in(
+    world: &World<ThreadState<'_>, SharedSpace>,
+    access: Access,
+    address: u32,
+) -> Option<u64>
+    ensures { result ≡ number_if (access_width access) address (memory_bytes shared_memory (world_of world.now)) }
+{
+    number_if(world.space().bytes(), access, address)
 }
 
 /// The number at an action's address, or how many pages there are.
@@ -110,7 +125,7 @@ pub(crate) fn measured(action: &Action, world: &World<ThreadState<'_>, SharedSpa
     ensures { result ≡ measured action.now (world_of world.now) }
 {
     match accessed(action) {
-        Some((access, address)) => number_if(world.space().bytes(), access, address),
+        Some((access, address)) => number_in(world, access, address),
         None => {
             if is_of_length(action) {
                 Some(u64::from(pages_in(world)))

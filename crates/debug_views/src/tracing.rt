@@ -39,7 +39,7 @@ pub enum TraceFault {
 
 /// What was traced, with the view behind it.
 fn with_view(tracer: Tracer<'_>, view: &str) -> Result<String, NoMemory>
-    ensures { IfOk result (λ text. (tracer.entry.is_wanting ≡ false) × (string_bytes text ≡ string_bytes tracer.entry.text ++ view.now)) }
+    ensures { IfOk result (λ text. (tracer.entry.is_wanting ≡ false) × (string_bytes text ≡ (string_bytes tracer.entry.text ++ tracer.entry.line.bytes) ++ view.now)) }
 {
     let mut text = tracer.into_text()?;
     text.push_str(view)?;

@@ -1,5 +1,6 @@
 -- What a turn and the test of the breaks behind it tell.
-use Rattle.std.proofs.Common.{Bool, ◌≡◌, ℕ, ◌⊎◌, true, false, List, Some, refl, sym, ap, ◌∙◌, subst, inl, inr}
+use Rattle.std.proofs.Common.{Bool, ◌≡◌, ℕ, ◌⊎◌, true, false, List, None, Some, length, refl, sym, ap, ◌∙◌, subst, inl, inr, arith}
+use Rattle.std.proofs.lemmas.Option.{slice_get_past}
 use Rattle.rw_objects.specs.Space.{Space}
 use Rattle.rw_objects.specs.Code.{Code}
 use Rattle.event_core.specs.World.{WorldAt}
@@ -22,6 +23,10 @@ use Rattle.replay_breaks.specs.Tests.{holds_by, IsFirst, HoldsNone}
 use Rattle.replay_breaks.specs.Breaks.{Hits, NoneHits, FirstHits}
 use Rattle.replay_breaks.specs.Stops.{GoesOn, is_passed_over, is_done, taken_of, TurnTakes, Diverges}
 use Rattle.replay_breaks.proofs.Testing.{MarksTell, passes_holds, fails_holds}
+
+-- where there is no break none holds
+pub none_holds : {State Op Reply Value Fixed : Type 0} (code : Code State Op Reply Fixed) (breaks : List Break) (t : ℕ) (d : Turned) (marks : Marks) (v : WorldAt State Value Fixed) → length breaks ≡ 0 → HoldsNone code breaks t d marks v
+none_holds code breaks t d marks v none j b at = let past : None ≡ Some b = sym (slice_get_past breaks j (omega (arith, none))) ∙ at in absurd cc
 
 -- ---- answers
 

@@ -225,6 +225,9 @@ fn go_on<M: Machine<S>, S: ObjectSpace, L: ReadLog, O: OpenWorld<M, S>, W: Watch
         Ok(Ready::Not) => Ok(Ready::Not),
         Ok(Ready::Event) => {
             watch.take_note(replay.world(), thread);
+            if breaks.is_empty() {
+                return Ok(Ready::Event);
+            }
             let marks = marks_of_item(alloc, L::held(reader, thread));
             match first_that_holds(breaks, thread, Turned::Event, &marks, replay.world()) {
                 Some(index) => Err(Stopped::Break(index)),

@@ -31,7 +31,7 @@ returns-in-Ok-with_view c =
     let opened = world_of c.in-Ok.replay.world in
     let v = world_of c.run_watched-stopped.new.replay.world in
     let asked = asked_of m c.args.choice in
-    let lines = string_bytes c.run_watched-stopped.new.watch.text in
+    let lines = string_bytes c.run_watched-stopped.new.watch.text ++ c.run_watched-stopped.new.watch.line.bytes in
     let of_module = c.in-Ok-new.ensures ∙ ap (λ bytes. record { source = bytes; offsets = c.args.choice.offsets }) (c.as_slice-source.ensures ∙ ap (λ x. x.source) c.module.ensures.module) in
     let noted = c.run_watched-stopped.ensures.noted in
     let same = asked_same m c.new-tracer.result.places.now c.new-tracer.result.choice c.args.choice (c.new-tracer.ensures.places ∙ of_module) c.new-tracer.ensures.choice in
