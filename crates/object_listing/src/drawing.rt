@@ -62,7 +62,7 @@ fn put_thread_head(text: &mut String, thread: u32) -> Result<(), AllocError>
 {
     put_attribute(text, "<text x=\"", column_of(thread))?;
     text.push_str(" y=\"20\">thread ")?;
-    put_number(text, u128::from(thread))?;
+    put_number(text, thread)?;
     text.push_str("</text>\n")?;
     Ok(())
 }
@@ -218,7 +218,7 @@ fn put_mark(text: &mut String, mark: &Mark) -> Result<(), AllocError>
     ensures { OnOk result (string_bytes text.new ≡ string_bytes text.old ++ mark_text mark.now) }
 {
     text.push_str(touch_word(mark.is_write))?;
-    put_number(text, u128::from(mark.object))?;
+    put_number(text, mark.object)?;
     text.push_str("@")?;
     put_number(text, mark.version)?;
     text.push_str(unread_word(mark.is_unread))?;
@@ -304,7 +304,7 @@ fn put_more_words(text: &mut String, lines: usize, more: usize) -> Result<(), Al
 {
     put_attribute(text, "<text x=\"10\" y=\"", height_of(lines) + 24)?;
     text.push_str(" fill=\"gray\">")?;
-    put_number(text, more as u128)?;
+    put_number(text, more)?;
     text.push_str(" more accesses: what they met is not known</text>\n")?;
     Ok(())
 }

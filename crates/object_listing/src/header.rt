@@ -15,7 +15,7 @@ pub(crate) fn put_header(text: &mut String, block: Block, object: u32) -> Result
     ensures { OnOk result (string_bytes text.new ≡ string_bytes text.old ++ header_line (object_text block) object) }
 {
     text.push_str("object ")?;
-    put_number(text, u128::from(object))?;
+    put_number(text, object)?;
     text.push_str(": ")?;
     text.push_str(&object_text(block, object))?;
     text.push_str("\n")

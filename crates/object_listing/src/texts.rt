@@ -2,16 +2,15 @@
 
 ghost use Rattle.std.specs.Prelude.{◌≡◌, ◌++◌, OnOk};
 ghost use Rattle.std.specs.String.{string_bytes};
-ghost use Rattle.std.specs.Fmt.{decimal};
 ghost use Rattle.replica.specs.Contradictions.{event_text};
 
-use itoa::Buffer;
+use itoa::{Buffer, Integer};
 use replica::EventAt;
 use std::alloc::AllocError;
 
 /// Puts a number behind a text.
-pub(crate) fn put_number(text: &mut String, number: u128) -> Result<(), AllocError>
-    ensures { OnOk result (string_bytes text.new ≡ string_bytes text.old ++ decimal number) }
+pub(crate) fn put_number<I: Integer>(text: &mut String, number: I) -> Result<(), AllocError>
+    ensures { OnOk result (string_bytes text.new ≡ string_bytes text.old ++ I.text number) }
 {
     let mut buffer = Buffer::new();
     text.push_str(buffer.format(number))
@@ -21,7 +20,7 @@ pub(crate) fn put_number(text: &mut String, number: u128) -> Result<(), AllocErr
 pub(crate) fn put_event(text: &mut String, at: EventAt) -> Result<(), AllocError>
     ensures { OnOk result (string_bytes text.new ≡ string_bytes text.old ++ event_text at) }
 {
-    put_number(text, u128::from(at.thread))?;
+    put_number(text, at.thread)?;
     text.push_str(".")?;
-    put_number(text, u128::from(at.place))
+    put_number(text, at.place)
 }

@@ -121,7 +121,7 @@ fn put_version(
 ) -> Result<(), AllocError>
     ensures { OnOk result (string_bytes text.new ≡ string_bytes text.old ++ version_line object version (has_thread threads.now) touches.now) }
 {
-    put_number(text, u128::from(object))?;
+    put_number(text, object)?;
     text.push_str("@")?;
     put_number(text, version)?;
     put_writes(text, version, threads, touches)?;

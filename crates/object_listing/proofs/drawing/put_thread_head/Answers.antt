@@ -7,5 +7,5 @@ use Rattle.object_listing.proofs.drawing.put_thread_head.Goals as goal
 
 pub returns : goal.returns
 returns c =
-    rw (c.in_ok-push_str-2.ensures.bytes, c.in_ok-put_number.ensures, c.from.ensures, c.in_ok-push_str.ensures.bytes, c.in_ok-put_attribute.ensures, c.column_of.ensures.value)
+    rw (c.in_ok-push_str-2.ensures.bytes, c.in_ok-put_number.ensures, c.in_ok-push_str.ensures.bytes, c.in_ok-put_attribute.ensures, c.column_of.ensures.value)
     (four (string_bytes c.args.text.now) (attribute (codes "<text x=\"") (column_of c.args.thread)) (codes " y=\"20\">thread ") (decimal c.args.thread) (codes "</text>\n"))
