@@ -9,6 +9,9 @@ pub mod TurnAnswers
 pub mod Keeping
 pub mod Together
 pub mod GoingAgain
+pub mod UntilTests
+pub mod PausedRounds
+pub mod PausedRuns
 pub mod Refusals
 pub mod Reaching
 pub mod LastHits

@@ -1,5 +1,5 @@
 -- What a refusal behind turns of a thread tells of the log.
-use Rattle.std.proofs.Common.{◌≡◌, ℕ, subst, inl, inr}
+use Rattle.std.proofs.Common.{◌≡◌, ℕ, Option, subst, inl, inr}
 use Rattle.rw_objects.specs.Space.{Space, SpaceLaws}
 use Rattle.rw_objects.specs.Code.{Code, CodeLaws}
 use Rattle.event_core.specs.Opening.{IsOpeningWorld}
@@ -12,6 +12,7 @@ use Rattle.replay_session.specs.declared.gone.Ceased.{Ceased}
 use Rattle.replay_session.specs.declared.gone.Ceased.TheVariants as ceased
 use Rattle.replay_session.specs.Events.{EventsCease}
 use Rattle.replay_session.specs.Gone.{CeasesSo, IfFault}
+use Rattle.replay_session.specs.Until.{UntilCeases}
 
 module _ {State Op Reply Value Fixed : Type 0} (space : Space Op Reply Value Fixed) (code : Code State Op Reply Fixed) where
   -- a gated run from the same log and opening world
@@ -42,3 +43,14 @@ module _ {State Op Reply Value Fixed : Type 0} (space : Space Op Reply Value Fix
     free_events w ceased.Done h = tt
     free_events w (ceased.Fault f) (inl e) = free_merely space code laws rules log opened v t f o leads (inl e)
     free_events w (ceased.Fault f) (inr h) = free_merely space code laws rules log opened v t f o leads (inr h.1)
+
+    module _ (holds : WorldAt State Value Fixed → ℕ → Option ℕ) (w : WorldAt State Value Fixed) where
+      pub right_until : (x : Ceased) → UntilCeases space code log holds t steps w v x → IfFault x (IsRightRefusal space code log opened)
+      right_until ceased.All h = tt
+      right_until ceased.Done h = tt
+      right_until (ceased.Fault f) h = right_merely space code laws rules log opened v t f o leads h.1
+
+      pub free_until : (x : Ceased) → UntilCeases space code log holds t steps w v x → IfFault x (IsFreeRefusal space code log opened)
+      free_until ceased.All h = tt
+      free_until ceased.Done h = tt
+      free_until (ceased.Fault f) h = free_merely space code laws rules log opened v t f o leads h.1

@@ -6,3 +6,6 @@ pub mod Gone
 pub mod Events
 pub mod Reaching
 pub mod Reverse
+pub mod Until
+pub mod Meets
+pub mod Pauses

@@ -1,6 +1,7 @@
-//! The laws of ways.
+//! The laws of ways, and of runs up to a test.
 
 ghost use Rattle.replay_session.specs.OneWay.{WaysLeadOnce, WaysCountSteps, FirstStepsLead};
+ghost use Rattle.replay_session.specs.Pauses.{PausesAsStops};
 
 use rw_objects::{Machine, ObjectSpace};
 
@@ -17,4 +18,9 @@ pub fn ways_count_steps<M: Machine<S>, S: ObjectSpace>()
 /// Where a way leads from a world to another, so do its first steps.
 pub fn first_steps_lead<M: Machine<S>, S: ObjectSpace>()
     ensures { FirstStepsLead S.meaning M.code }
+{}
+
+/// Where a test holds in no world, rounds up to a break or this test pause just where they stop at the breaks.
+pub fn pauses_as_stops<M: Machine<S>, S: ObjectSpace>()
+    ensures { PausesAsStops S.meaning M.code }
 {}

@@ -12,17 +12,23 @@ ghost use Rattle.replay_breaks.specs.Stops.{StopsAt, StopsRight, StopsFree};
 ghost use Rattle.replay_session.specs.Events.{events_on, EventsCease};
 ghost use Rattle.replay_session.specs.Gone.{steps_of_turn, CeasesSo, IfFault};
 ghost use Rattle.replay_session.specs.Legs.{steps_of_way, with_thread, with_rounds, without_last};
+ghost use Rattle.replay_session.specs.Pauses.{PausesAt, PausesRight, PausesFree};
 ghost use Rattle.replay_session.specs.Reaching.{is_break, GoesTo};
-ghost use Rattle.replay_session.specs.Reverse.{StepOfWay, IsLastHit, GoesBackTo};
+ghost use Rattle.replay_session.specs.Reverse.{StepOfWay, IsLastHit, GoesBackUntil, GoesBackTo};
+ghost use Rattle.replay_session.specs.Until.{UntilCeases};
 ghost use Rattle.replay_session.specs.Ways.{ThreadLeads, WayLeads};
 
 use crate::events::go_events;
 use crate::going::go_way;
 use crate::gone::{Ceased, Gone};
 use crate::legs::{Leg, first_steps, put_rounds, put_thread, steps_of_way};
+use crate::paused::{Met, Paused};
+use crate::pausing::rounds_until;
 use crate::reverse::{Hit, last_hit};
 use crate::sums::steps_of_world;
+use crate::test::{Never, Test};
 use crate::threads::{go_thread, steps_of};
+use crate::until::go_until;
 use event_core::World;
 use replay_breaks::{Break, Stopped, run_to};
 use replay_gate::{OpenWorld, ReadLog, Replay, ReplayFault, Turned};
@@ -182,6 +188,63 @@ impl<M: Machine<S>, S: ObjectSpace, L: ReadLog, O: OpenWorld<M, S>> Session<M, S
             }
         }
     }
+
+    /// Turns of a thread, one behind the other, until the test holds behind a step, or a turn makes no step: the thread
+    /// is done, or the turn is refused. The world at the beginning is not tested. The way goes on by the steps that
+    /// were made. On a log below that of a run nothing clashes and no thread diverges; on the whole log of a run a turn
+    /// is refused by a shut gate alone.
+    pub fn thread_until<T: Test<M, S>>(&mut self, alloc: Global, thread: u32, test: &T) -> Gone
+        ensures log { self.new.replay.log ≡ self.old.replay.log }
+        ensures opens { self.new.replay.opens ≡ self.old.replay.opens }
+        ensures leads { ThreadLeads S.meaning M.code (L.log self.old.replay.log) thread result.steps (world_of self.old.replay.world) (world_of self.new.replay.world) }
+        ensures legs { self.new.legs.items ≡ with_thread self.old.legs.items thread result.steps }
+        ensures ceased { UntilCeases S.meaning M.code (L.log self.old.replay.log) (T.holds test.now) thread result.steps (world_of self.old.replay.world) (world_of self.new.replay.world) result.ceased }
+        ensures right { IfFault result.ceased (IsRightRefusal S.meaning M.code (L.log self.old.replay.log) (O.opened self.old.replay.opens)) }
+        ensures free { IfFault result.ceased (IsFreeRefusal S.meaning M.code (L.log self.old.replay.log) (O.opened self.old.replay.opens)) }
+    {
+        match self.legs.reserve(1) {
+            Err(_) => Gone {
+                steps: 0,
+                ceased: Ceased::Fault(ReplayFault::NoMemory),
+            },
+            Ok(()) => {
+                let gone = go_until(alloc, &mut self.replay, thread, test);
+                put_thread(&mut self.legs, thread, gone.steps);
+                gone
+            }
+        }
+    }
+
+    /// Takes turns of threads 0, 1, .. in rounds, one by one, until behind a step a break of the list or the test
+    /// holds, no thread has a step any more, or a turn is refused for divergence or want of memory. The way goes on by
+    /// the steps that all threads made. Where the test never holds it pauses where `run_on` stops. On a log below that
+    /// of a run no thread diverges; on the whole log of a run it is never stuck.
+    pub fn run_until<T: Test<M, S>>(
+        &mut self,
+        alloc: Global,
+        breaks: &[Break],
+        test: &T,
+    ) -> Result<Paused, NoMemory>
+        ensures log { self.new.replay.log ≡ self.old.replay.log }
+        ensures opens { self.new.replay.opens ≡ self.old.replay.opens }
+        ensures pauses { IfOk result (PausesAt S.meaning M.code (L.log self.old.replay.log) breaks.now (T.holds test.now) (world_of self.old.replay.world) (world_of self.new.replay.world)) }
+        ensures right { IfOk result (PausesRight S.meaning M.code (L.log self.old.replay.log) (O.opened self.old.replay.opens)) }
+        ensures free { IfOk result (PausesFree S.meaning M.code (L.log self.old.replay.log) (O.opened self.old.replay.opens)) }
+        ensures legs { OnOk result (self.new.legs.items ≡ with_rounds self.old.legs.items (all_steps M.code (world_of self.new.replay.world).threads - all_steps M.code (world_of self.old.replay.world).threads)) }
+        ensures unchanged { OnErr result (world_of self.new.replay.world ≡ world_of self.old.replay.world) }
+        ensures kept { OnErr result (self.new.legs.items ≡ self.old.legs.items) }
+    {
+        match self.legs.reserve(1) {
+            Err(_) => Err(NoMemory),
+            Ok(()) => {
+                let before = steps_of_world(self.replay.world());
+                let paused = rounds_until(alloc, &mut self.replay, breaks, test);
+                let after = steps_of_world(self.replay.world());
+                put_rounds(&mut self.legs, after - before);
+                Ok(paused)
+            }
+        }
+    }
 }
 
 impl<M: Machine<S> + Drop, S: ObjectSpace, L: ReadLog, O: OpenWorld<M, S>> Session<M, S, L, O> {
@@ -272,10 +335,15 @@ impl<
         Ok(stopped)
     }
 
-    /// The last step of its way, before the one that led to its world, behind which a break holds.
-    fn last_break(&self, alloc: Global, breaks: &[Break]) -> Result<Option<Hit>, NoMemory>
+    /// The last step of its way, before the one that led to its world, behind which a break or the test holds.
+    fn last_met<T: Test<M, S>>(
+        &self,
+        alloc: Global,
+        breaks: &[Break],
+        test: &T,
+    ) -> Result<Option<Hit>, NoMemory>
         requires { O.suits self.now.opens }
-        ensures { IfOk result (IsLastHit S.meaning M.code (L.log self.now.replay.log) breaks.now (StepOfWay S.meaning M.code (L.log self.now.replay.log) self.now.legs.items (O.opened self.now.replay.opens)) (steps_of_way self.now.legs.items - 1)) }
+        ensures { IfOk result (IsLastHit S.meaning M.code (L.log self.now.replay.log) breaks.now (T.holds test.now) (StepOfWay S.meaning M.code (L.log self.now.replay.log) self.now.legs.items (O.opened self.now.replay.opens)) (steps_of_way self.now.legs.items - 1)) }
     {
         let all = steps_of_way(self.legs.as_slice());
         let Ok(legs) = first_steps(alloc, self.legs.as_slice(), all.saturating_sub(1)) else {
@@ -284,7 +352,7 @@ impl<
         let Ok(mut replay) = Replay::new(alloc, self.opens, self.log) else {
             return Err(NoMemory);
         };
-        last_hit(alloc, &mut replay, legs.as_slice(), breaks)
+        last_hit(alloc, &mut replay, legs.as_slice(), breaks, test)
     }
 
     /// Goes back to the opening world.
@@ -306,6 +374,38 @@ impl<
         }
     }
 
+    /// Goes back to behind the last step of its way, before the one that led to its world, behind which a break of the
+    /// list or the test holds, and answers what holds there; to the opening world where there is no such step. Where
+    /// memory could not be had all is as it was.
+    pub fn reverse_until<T: Test<M, S>>(
+        &mut self,
+        alloc: Global,
+        breaks: &[Break],
+        test: &T,
+    ) -> Result<Option<Met>, NoMemory>
+        requires { O.suits self.old.opens }
+        ensures log { self.new.replay.log ≡ self.old.replay.log }
+        ensures opens { self.new.replay.opens ≡ self.old.replay.opens }
+        ensures goes { IfOk result (GoesBackUntil S.meaning M.code (L.log self.old.replay.log) breaks.now (T.holds test.now) (O.opened self.old.replay.opens) self.old.legs.items self.new.legs.items) }
+        ensures unchanged { OnErr result (world_of self.new.replay.world ≡ world_of self.old.replay.world) }
+        ensures kept { OnErr result (self.new.legs.items ≡ self.old.legs.items) }
+    {
+        let all = steps_of_way(self.legs.as_slice());
+        let Ok(last) = self.last_met(alloc, breaks, test) else {
+            return Err(NoMemory);
+        };
+        match last {
+            None => match self.restart(alloc) {
+                Err(error) => Err(error),
+                Ok(()) => Ok(None),
+            },
+            Some(hit) => match self.back(alloc, all - hit.steps) {
+                Err(error) => Err(error),
+                Ok(()) => Ok(Some(hit.met)),
+            },
+        }
+    }
+
     /// Goes back to behind the last step of its way, before the one that led to its world, behind which a break holds,
     /// and answers which break of the list that is, the first of it; to the opening world where there is no such step.
     /// Where memory could not be had all is as it was.
@@ -317,19 +417,11 @@ impl<
         ensures unchanged { OnErr result (world_of self.new.replay.world ≡ world_of self.old.replay.world) }
         ensures kept { OnErr result (self.new.legs.items ≡ self.old.legs.items) }
     {
-        let all = steps_of_way(self.legs.as_slice());
-        let Ok(last) = self.last_break(alloc, breaks) else {
-            return Err(NoMemory);
-        };
-        match last {
-            None => match self.restart(alloc) {
-                Err(error) => Err(error),
-                Ok(()) => Ok(None),
-            },
-            Some(hit) => match self.back(alloc, all - hit.steps) {
-                Err(error) => Err(error),
-                Ok(()) => Ok(Some(hit.index)),
-            },
+        match self.reverse_until(alloc, breaks, &Never) {
+            Err(error) => Err(error),
+            Ok(None) => Ok(None),
+            Ok(Some(Met::Break(index))) => Ok(Some(index)),
+            Ok(Some(Met::Test(_))) => unreachable!(),
         }
     }
 }

@@ -1,2 +1,3 @@
 pub mod Claimed
+pub mod Made
 pub mod Resting

@@ -14,6 +14,8 @@ mod recordings;
 #[cfg(test)]
 mod refused;
 #[cfg(test)]
+mod refused_moves;
+#[cfg(test)]
 mod replays;
 #[cfg(test)]
 mod resting;

@@ -1,9 +1,11 @@
 //! Sessions beside replays whose turns are taken one by one from the opening world: wherever a session goes, forward or
 //! back, both stand alike, and its way is the one that the test keeps.
 
-ghost use Rattle.std.specs.Prelude.{◌≡◌, ◌≤◌, ◌∷◌, [], ⊤, option_copied};
+ghost use Rattle.std.specs.Prelude.{◌≡◌, ◌≤◌, ◌∷◌, [], ⊤, option_copied, option_map, slice_get};
 ghost use Rattle.replay_tests.specs.Claimed.{scripts_world, scripts_open};
+ghost use Rattle.replay_tests.specs.Made.{part_made};
 ghost use Rattle.replay_tests.specs.Resting.{resting, few_rested};
+ghost use Rattle.scripted.specs.Script.{script_code};
 
 use crate::breaks::{ACCESSES, SUMS};
 use crate::logs::{Accesses, ClaimedLog};
@@ -13,20 +15,19 @@ use join_laws::Flat;
 use log_pieces::End;
 use rand_core::utils::NextWord;
 use rand_pcg::Pcg32;
-use replay_breaks::{Break, Every, ObjectRange, Stopped, run_to};
+use replay_breaks::{Break, Every, ObjectRange, Stopped, Taken, run_to, turn_to};
 use replay_gate::{OpenWorld, ReadLog, Replay, ReplayFault, Turned};
-use replay_session::{Ceased, Gone, Leg, Session};
+use replay_session::{Ceased, Gone, Leg, Met, Paused, Session, Test};
 use rw_objects::{Count, Entry, Found, Versions};
 use scripted::{Cells, Script, ScriptStep, open_scripts};
 use std::alloc::Global;
-use std::process::Abort;
 use std::test::Fail;
 use wasm_types::{NoMemory, Outcome};
 
 /// A log of threads that rest, which is another's.
 #[derive(Clone, Copy)]
-struct LentLog<'a> {
-    log: &'a RestingLog,
+pub(crate) struct LentLog<'a> {
+    pub(crate) log: &'a RestingLog,
 }
 
 impl<'a> ReadLog for LentLog<'a> {
@@ -66,10 +67,10 @@ impl<'a> ReadLog for LentLog<'a> {
 
 /// Three scripts over cells that hold 0.
 #[derive(Clone, Copy)]
-struct ThreeScripts<'a> {
-    first: &'a [ScriptStep],
-    second: &'a [ScriptStep],
-    third: &'a [ScriptStep],
+pub(crate) struct ThreeScripts<'a> {
+    pub(crate) first: &'a [ScriptStep],
+    pub(crate) second: &'a [ScriptStep],
+    pub(crate) third: &'a [ScriptStep],
 }
 
 impl<'a> OpenWorld<Script, Cells> for ThreeScripts<'a> {
@@ -85,8 +86,34 @@ impl<'a> OpenWorld<Script, Cells> for ThreeScripts<'a> {
     ghost opening = { λ s few. scripts_open (s.first.now ∷ s.second.now ∷ s.third.now ∷ []) few };
 }
 
+/// A test of two parts: a thread has made so many steps, or so many others.
+#[derive(Clone, Copy)]
+pub(crate) struct Made {
+    pub(crate) first: u32,
+    pub(crate) second: u32,
+}
+
+impl Test<Script, Cells> for Made {
+    ghost holds = { λ s w t. part_made s.first s.second (option_map (λ th. script_code.steps th.state) (slice_get w.threads t)) };
+
+    fn test(&self, world: &World<Script, Cells>, thread: u32) -> Option<usize> {
+        match world.steps(thread) {
+            None => None,
+            Some(steps) => {
+                if steps == self.first {
+                    Some(0)
+                } else if steps == self.second {
+                    Some(1)
+                } else {
+                    None
+                }
+            }
+        }
+    }
+}
+
 /// A session of three scripts.
-type OfScripts<'a> = Session<Script, Cells, LentLog<'a>, ThreeScripts<'a>>;
+pub(crate) type OfScripts<'a> = Session<Script, Cells, LentLog<'a>, ThreeScripts<'a>>;
 
 /// A replay of them.
 type Plain<'a> = Replay<Script, Cells, LentLog<'a>, ThreeScripts<'a>>;
@@ -94,15 +121,15 @@ type Plain<'a> = Replay<Script, Cells, LentLog<'a>, ThreeScripts<'a>>;
 /// What can be seen of a world: how many steps and events each thread has made and how it stands, how often each cell
 /// was written and read, and what it holds.
 #[derive(Clone, Copy, Debug, PartialEq, Eq)]
-struct Seen {
-    steps: [Option<u32>; 3],
+pub(crate) struct Seen {
+    pub(crate) steps: [Option<u32>; 3],
     places: [Option<u32>; 3],
     outcomes: [Option<Outcome>; 3],
     counts: [Count; 3],
     cells: [u64; 3],
 }
 
-fn look(world: &World<Script, Cells>) -> Seen {
+pub(crate) fn look(world: &World<Script, Cells>) -> Seen {
     let versions = world.versions();
     Seen {
         steps: [world.steps(0), world.steps(1), world.steps(2)],
@@ -114,7 +141,7 @@ fn look(world: &World<Script, Cells>) -> Seen {
 }
 
 /// How many steps the three threads made together.
-fn all_steps(world: &World<Script, Cells>) -> u64 {
+pub(crate) fn all_steps(world: &World<Script, Cells>) -> u64 {
     let [first, second, third] = look(world).steps;
     u64::from(first.unwrap_or(0)) + u64::from(second.unwrap_or(0)) + u64::from(third.unwrap_or(0))
 }
@@ -196,6 +223,86 @@ fn plain_steps(
         steps: u64::from(most),
         ceased: Ceased::All,
     })
+}
+
+/// Turns of one thread until the test holds behind one, or a turn makes no step, which is within a thousand turns.
+fn plain_until(
+    alloc: Global,
+    beside: &mut Beside<'_>,
+    thread: u32,
+    test: Made,
+) -> Result<Gone, NoMemory> {
+    for made in 0..1_000u32 {
+        let ceased = match plain_turn(alloc, beside, thread)? {
+            Ok(Turned::Local | Turned::Event) => Ceased::All,
+            Ok(Turned::Done) => Ceased::Done,
+            Err(fault) => Ceased::Fault(fault),
+        };
+        let steps = u64::from(made);
+        if ceased != Ceased::All {
+            return Ok(Gone { steps, ceased });
+        }
+        if test.test(beside.plain.world(), thread).is_some() {
+            let steps = steps + 1;
+            return Ok(Gone { steps, ceased });
+        }
+    }
+    Ok(Gone {
+        steps: 0,
+        ceased: Ceased::All,
+    })
+}
+
+/// A turn of the plain replay, and the tests behind it: what it did where none holds, else why rounds pause there.
+fn plain_tested(
+    alloc: Global,
+    beside: &mut Beside<'_>,
+    thread: u32,
+    breaks: &[Break],
+    test: Made,
+) -> Result<Result<Taken, Paused>, NoMemory> {
+    let mut reader = beside.plain.reader();
+    match turn_to(alloc, &mut beside.plain, &mut reader, thread, breaks) {
+        Ok(Taken::Step) => {
+            beside.turns.push(thread)?;
+            Ok(match test.test(beside.plain.world(), thread) {
+                Some(part) => Err(Paused::Met(Met::Test(part))),
+                None => Ok(Taken::Step),
+            })
+        }
+        Ok(taken) => Ok(Ok(taken)),
+        Err(Stopped::Break(index)) => {
+            beside.turns.push(thread)?;
+            Ok(Err(Paused::Met(Met::Break(index))))
+        }
+        Err(Stopped::Fault(fault)) => Ok(Err(Paused::Fault(fault))),
+        Err(Stopped::Finished | Stopped::Stuck) => Ok(Err(Paused::Stuck)),
+    }
+}
+
+/// Turns in rounds until a break or the test holds behind one, or a round makes no step, which is within a thousand
+/// rounds.
+fn plain_rounds_until(
+    alloc: Global,
+    beside: &mut Beside<'_>,
+    breaks: &[Break],
+    test: Made,
+) -> Result<Paused, NoMemory> {
+    for _ in 0..1_000u32 {
+        let before = beside.turns.len();
+        let mut rest = Paused::Finished;
+        for thread in 0..3 {
+            match plain_tested(alloc, beside, thread, breaks, test)? {
+                Ok(Taken::Held) => rest = Paused::Stuck,
+                Ok(Taken::Done | Taken::Step) => {}
+                Err(paused) => return Ok(paused),
+            }
+        }
+        if beside.turns.len() == before {
+            return Ok(rest);
+        }
+    }
+    Ok(Paused::Fault(ReplayFault::Stuck))
 }
 
 /// Turns in rounds until all threads made so many steps together, which is within a thousand rounds.
@@ -287,6 +394,36 @@ fn run_both(alloc: Global, beside: &mut Beside<'_>, breaks: &[Break]) -> Result<
     Ok(stopped == want)
 }
 
+/// Turns of one thread up to a test, of both.
+fn until_both(
+    alloc: Global,
+    beside: &mut Beside<'_>,
+    thread: u32,
+    test: Made,
+) -> Result<bool, NoMemory> {
+    let gone = beside.session.thread_until(alloc, thread, &test);
+    let want = plain_until(alloc, beside, thread, test)?;
+    put(&mut beside.legs, thread, want.steps)?;
+    Ok(gone == want)
+}
+
+/// Rounds of both up to breaks or a test.
+fn rounds_both(
+    alloc: Global,
+    beside: &mut Beside<'_>,
+    breaks: &[Break],
+    test: Made,
+) -> Result<bool, NoMemory> {
+    let paused = beside.session.run_until(alloc, breaks, &test)?;
+    let before = beside.turns.len();
+    let want = plain_rounds_until(alloc, beside, breaks, test)?;
+    let steps = beside.turns.len().saturating_sub(before) as u64;
+    if steps > 0 {
+        beside.legs.push(Leg::Rounds { steps })?;
+    }
+    Ok(paused == want)
+}
+
 /// Both go back: of the plain replay the turns are taken again without the last ones.
 fn back_both(alloc: Global, beside: &mut Beside<'_>, steps: u32) -> Result<bool, NoMemory> {
     beside.session.back(alloc, u64::from(steps))?;
@@ -323,10 +460,16 @@ fn move_both(alloc: Global, beside: &mut Beside<'_>, word: u32) -> Result<bool, 
     let thread = (word >> 4) % 4;
     let most = if (word >> 8) % 2 == 0 { 4 } else { 300 };
     let steps = (word >> 16) % most;
-    match word % 8 {
+    let test = Made {
+        first: steps,
+        second: (word >> 20) % 210,
+    };
+    match word % 12 {
         0 | 1 => turn_both(alloc, beside, thread),
         2 | 3 => go_both(alloc, beside, thread, steps),
         4 | 5 => run_both(alloc, beside, &[break_of(word >> 3), break_of(word)]),
+        6 => until_both(alloc, beside, thread, test),
+        7 | 8 => rounds_both(alloc, beside, &[break_of(word >> 3)], test),
         _ => back_both(alloc, beside, steps),
     }
 }
@@ -356,7 +499,7 @@ fn differs(
 }
 
 /// What is claimed in a log of three threads: the accesses, and the sums with which they end.
-type Claims = (Accesses, [Option<u64>; 3]);
+pub(crate) type Claims = (Accesses, [Option<u64>; 3]);
 
 /// An access that reads an object at this version.
 const fn read(object: u32, version: u64) -> Option<Option<Found>> {
@@ -391,7 +534,7 @@ fn claims() -> [Claims; 4] {
 }
 
 /// The log of these claims.
-fn log_of(alloc: Global, claims: Claims) -> RestingLog {
+pub(crate) fn log_of(alloc: Global, claims: Claims) -> RestingLog {
     let (accesses, sums) = claims;
     let claimed = ClaimedLog {
         alloc,
@@ -417,174 +560,5 @@ fn sessions_go_as_turns_do(rt: HostRuntime) -> Result<(), Fail> {
             assert!(rt; differs.is_none(), "{number} {differs:?}");
         }
     }
-    Ok(())
-}
-
-/// How a session stands: what can be seen of its world, how many legs its way has, and the last of them.
-fn stand(session: &OfScripts<'_>) -> (Seen, usize, Option<Leg>) {
-    let legs = session.legs();
-    (look(session.world()), legs.len(), legs.last().copied())
-}
-
-/// Takes a turn, and where memory was wanted takes it again: the refused one left all as it was.
-fn turn_again(
-    abort: &impl Abort,
-    alloc: Global,
-    session: &mut OfScripts<'_>,
-    thread: u32,
-) -> Result<Turned, ReplayFault> {
-    let before = stand(session);
-    match session.turn(alloc, thread) {
-        Err(ReplayFault::NoMemory) => {
-            assert!(abort; stand(session) == before);
-            session.turn(alloc, thread)
-        }
-        taken => taken,
-    }
-}
-
-/// Goes on to where the replay stops, and where memory was wanted goes on from there.
-fn run_again(
-    abort: &impl Abort,
-    alloc: Global,
-    session: &mut OfScripts<'_>,
-) -> Result<Stopped, NoMemory> {
-    let before = stand(session);
-    match session.run_on(alloc, &[]) {
-        Err(_) => {
-            assert!(abort; stand(session) == before);
-            session.run_on(alloc, &[])
-        }
-        Ok(Stopped::Fault(ReplayFault::NoMemory)) => session.run_on(alloc, &[]),
-        stopped => stopped,
-    }
-}
-
-/// Goes back, and where memory was wanted goes back again: the refused one left all as it was.
-fn back_again(
-    abort: &impl Abort,
-    alloc: Global,
-    session: &mut OfScripts<'_>,
-    steps: u64,
-) -> Result<(), NoMemory> {
-    let before = stand(session);
-    match session.back(alloc, steps) {
-        Err(_) => {
-            assert!(abort; stand(session) == before);
-            session.back(alloc, steps)
-        }
-        Ok(()) => Ok(()),
-    }
-}
-
-/// Turns of a thread, and where memory was wanted the rest of them: the way has those that were made.
-fn go_again(alloc: Global, session: &mut OfScripts<'_>, thread: u32, most: u64) -> Ceased {
-    let gone = session.thread_steps(alloc, thread, most);
-    if gone.ceased == Ceased::Fault(ReplayFault::NoMemory) {
-        let rest = most.saturating_sub(gone.steps);
-        return session.thread_steps(alloc, thread, rest).ceased;
-    }
-    gone.ceased
-}
-
-/// Goes to a break, and where memory was wanted goes there again: the refused one left all as it was.
-fn go_to_again(
-    abort: &impl Abort,
-    alloc: Global,
-    session: &mut OfScripts<'_>,
-    breaks: &[Break],
-) -> Result<Stopped, NoMemory> {
-    let before = stand(session);
-    match session.go_to(alloc, breaks) {
-        Err(_) => {
-            assert!(abort; stand(session) == before);
-            session.go_to(alloc, breaks)
-        }
-        Ok(Stopped::Fault(ReplayFault::NoMemory)) => {
-            assert!(abort; stand(session) == before);
-            session.go_to(alloc, breaks)
-        }
-        stopped => stopped,
-    }
-}
-
-/// Goes back to a break, and where memory was wanted goes back again: the refused one left all as it was.
-fn reverse_again(
-    abort: &impl Abort,
-    alloc: Global,
-    session: &mut OfScripts<'_>,
-    breaks: &[Break],
-) -> Result<Option<usize>, NoMemory> {
-    let before = stand(session);
-    match session.reverse(alloc, breaks) {
-        Err(_) => {
-            assert!(abort; stand(session) == before);
-            session.reverse(alloc, breaks)
-        }
-        found => found,
-    }
-}
-
-/// Goes to behind the first event of thread 0, on to the end, back to that event and then to the beginning.
-fn reverse_all(
-    abort: &impl Abort,
-    alloc: Global,
-    session: &mut OfScripts<'_>,
-) -> Result<(), NoMemory> {
-    let breaks = [Break::Place {
-        thread: 0,
-        place: 1,
-    }];
-    let stopped = go_to_again(abort, alloc, session, &breaks)?;
-    assert!(abort; stopped == Stopped::Break(0) && session.world().places(0) == Some(1));
-    let there = all_steps(session.world());
-    let stopped = run_again(abort, alloc, session)?;
-    assert!(abort; stopped == Stopped::Finished && all_steps(session.world()) == 606);
-    let found = reverse_again(abort, alloc, session, &breaks)?;
-    assert!(abort; found == Some(0) && all_steps(session.world()) == there);
-    let found = reverse_again(abort, alloc, session, &breaks)?;
-    assert!(abort; found.is_none() && all_steps(session.world()) == 0);
-    Ok(())
-}
-
-/// A session's moves, each made again where memory was wanted: it comes to the same places.
-fn move_again(
-    abort: &impl Abort,
-    alloc: Global,
-    opens: ThreeScripts<'_>,
-    log: LentLog<'_>,
-) -> Result<(), NoMemory> {
-    let mut session = Session::new(alloc, &opens, &log)?;
-    let turned = turn_again(abort, alloc, &mut session, 0);
-    assert!(abort; turned == Ok(Turned::Event));
-    let ceased = go_again(alloc, &mut session, 1, 101);
-    assert!(abort; ceased == Ceased::All);
-    let stopped = run_again(abort, alloc, &mut session)?;
-    assert!(abort; stopped == Stopped::Finished && all_steps(session.world()) == 606);
-    back_again(abort, alloc, &mut session, 504)?;
-    let (seen, legs, last) = stand(&session);
-    let last_leg = Leg::Thread {
-        thread: 1,
-        steps: 101,
-    };
-    assert!(abort; seen.steps == [Some(1), Some(101), Some(0)]);
-    assert!(abort; legs == 2 && last == Some(last_leg));
-    back_again(abort, alloc, &mut session, 102)?;
-    assert!(abort; session.legs().is_empty() && all_steps(session.world()) == 0);
-    reverse_all(abort, alloc, &mut session)
-}
-
-/// Where a growth is refused, as `refused` has it, the session goes on to the same places.
-#[test]
-fn refused_moves_are_made_again(rt: HostRuntime) -> Result<(), Fail> {
-    let alloc = rt.alloc();
-    let [first, second, third] = scripts(alloc)?;
-    let opens = ThreeScripts {
-        first: &first,
-        second: &second,
-        third: &third,
-    };
-    let log = log_of(alloc, (ACCESSES, SUMS));
-    move_again(&rt, alloc, opens, LentLog { log: &log })?;
     Ok(())
 }

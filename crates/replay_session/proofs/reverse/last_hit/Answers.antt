@@ -17,11 +17,12 @@ loop-leg-init g c =
     let laws = g.met.M.Machine.laws in
     let log = g.L.ReadLog.log c.args.replay.now.log in
     let breaks = c.args.breaks.now in
+    let holds = g.T.Test.holds c.args.test.now in
     let w = world_of c.args.replay.now.world in
     record {
       rest = c.requires.leads;
       through = through_start space code laws log c.args.legs.now w;
-      last = no_steps_yet space code log breaks (StepOfWay space code log c.args.legs.now w);
+      last = no_steps_yet space code log breaks holds (StepOfWay space code log c.args.legs.now w);
       log = refl;
       opens = refl;
     }
@@ -48,6 +49,7 @@ last_of-last-requires g c =
     let laws = g.met.M.Machine.laws in
     let log = g.L.ReadLog.log c.args.replay.now.log in
     let breaks = c.args.breaks.now in
+    let holds = g.T.Test.holds c.args.test.now in
     let w = world_of c.args.replay.now.world in
     let legs = c.args.legs.now in
     let k = c.loop-leg.leg-index in
@@ -57,10 +59,10 @@ last_of-last-requires g c =
     let split = drop_more legs k (leg.Thread 0 0) c.loop-leg-test.true in
     let b = c.loop-leg.before in
     let through = subst (λ ls. GoesThrough space code log legs w b ls u) split inv.through in
-    let hit = subst (λ r. IsLastHit space code (g.L.ReadLog.log r) breaks (StepOfLeg space code (g.L.ReadLog.log r) first u) (steps_of_leg first) c.in-Ok.of_leg) inv.log c.in-Ok.ensures.last in
+    let hit = subst (λ r. IsLastHit space code (g.L.ReadLog.log r) breaks holds (StepOfLeg space code (g.L.ReadLog.log r) first u) (steps_of_leg first) c.in-Ok.of_leg) inv.log c.in-Ok.ensures.last in
     let few = through_few space code laws log legs w b first (drop (k + 1) legs) u through in
     let most = c.requires.few in
-    few_hit space code log breaks (StepOfLeg space code log first u) b (steps_of_leg first) 16000000000 c.in-Ok.of_leg (omega (arith, few, most)) hit
+    few_hit space code log breaks holds (StepOfLeg space code log first u) b (steps_of_leg first) 16000000000 c.in-Ok.of_leg (omega (arith, few, most)) hit
 
 pub overflow_add-before : goal.overflow_add-before
 overflow_add-before g c =
@@ -89,6 +91,7 @@ loop-leg-preserved g c =
     let laws = g.met.M.Machine.laws in
     let log = g.L.ReadLog.log c.args.replay.now.log in
     let breaks = c.args.breaks.now in
+    let holds = g.T.Test.holds c.args.test.now in
     let w = world_of c.args.replay.now.world in
     let legs = c.args.legs.now in
     let k = c.loop-leg.leg-index in
@@ -98,18 +101,18 @@ loop-leg-preserved g c =
     let split = drop_more legs k (leg.Thread 0 0) c.loop-leg-test.true in
     let b = c.loop-leg.before in
     let through = subst (λ ls. GoesThrough space code log legs w b ls u) split inv.through in
-    let hit = subst (λ r. IsLastHit space code (g.L.ReadLog.log r) breaks (StepOfLeg space code (g.L.ReadLog.log r) first u) (steps_of_leg first) c.in-Ok.of_leg) inv.log c.in-Ok.ensures.last in
+    let hit = subst (λ r. IsLastHit space code (g.L.ReadLog.log r) breaks holds (StepOfLeg space code (g.L.ReadLog.log r) first u) (steps_of_leg first) c.in-Ok.of_leg) inv.log c.in-Ok.ensures.last in
     let x = world_of c.test_leg.new.replay.world in
     let lead = subst (λ r. LegLeads space code (g.L.ReadLog.log r) first u x) inv.log c.in-Ok.ensures.leads in
     let rest = subst (λ ls. ∥ ((v : WorldAt _ _ _) × WayLeads space code log ls u v) ∥₁) split inv.rest in
     let told = sym c.steps-before.ensures in
-    let last = last_joined space code log breaks (StepOfWay space code log legs w) (StepOfLeg space code log first u) b (steps_of_leg first) (leg_forth space code laws log legs w b first (drop (k + 1) legs) u through)
+    let last = last_joined space code log breaks holds (StepOfWay space code log legs w) (StepOfLeg space code log first u) b (steps_of_leg first) (leg_forth space code laws log legs w b first (drop (k + 1) legs) u through)
     (leg_back space code laws log legs w b first (drop (k + 1) legs) u through) c.loop-leg.last c.in-Ok.of_leg inv.last hit in
     record {
       rest = rest_leads space code laws log first (drop (k + 1) legs) u x lead rest;
       through = subst (λ n. GoesThrough space code log legs w (b + n) (drop (k + 1) legs) x) told (through_leg space code laws log legs w b first (drop (k + 1) legs) u x lead through);
-      last = subst (λ n. IsLastHit space code log breaks (StepOfWay space code log legs w) (b + n) c.last_of-last.result) told
-          (subst (IsLastHit space code log breaks (StepOfWay space code log legs w) (b + steps_of_leg first)) (sym c.last_of-last.ensures) last);
+      last = subst (λ n. IsLastHit space code log breaks holds (StepOfWay space code log legs w) (b + n) c.last_of-last.result) told
+          (subst (IsLastHit space code log breaks holds (StepOfWay space code log legs w) (b + steps_of_leg first)) (sym c.last_of-last.ensures) last);
       log = c.in-Ok.ensures.log ∙ inv.log;
       opens = c.in-Ok.ensures.opens ∙ inv.opens;
     }
@@ -120,6 +123,7 @@ returns g c =
     let code = g.M.Machine.code in
     let log = g.L.ReadLog.log c.args.replay.now.log in
     let breaks = c.args.breaks.now in
+    let holds = g.T.Test.holds c.args.test.now in
     let w = world_of c.args.replay.now.world in
     let legs = c.args.legs.now in
     let inv = c.loop-leg.invariant in
@@ -127,4 +131,4 @@ returns g c =
     let all = inv.through.count in
     let e = ap steps_of_way none in
     let end : c.loop-leg.before ≡ steps_of_way legs = omega (arith, all, e) in
-    subst (λ n. IsLastHit space code log breaks (StepOfWay space code log legs w) n c.loop-leg.last) end inv.last
+    subst (λ n. IsLastHit space code log breaks holds (StepOfWay space code log legs w) n c.loop-leg.last) end inv.last

@@ -9,7 +9,7 @@ abbrev pub invariant-loop-leg : goal.invariant-loop-leg
 invariant-loop-leg g l = record {
   rest : ∥ ((v : WorldAt _ _ _) × WayLeads g.S.ObjectSpace.meaning g.M.Machine.code (g.L.ReadLog.log l.fn.replay.log) (drop l.leg-index l.legs) (world_of l.replay.world) v) ∥₁;
   through : GoesThrough g.S.ObjectSpace.meaning g.M.Machine.code (g.L.ReadLog.log l.fn.replay.log) l.legs (world_of l.fn.replay.world) l.before (drop l.leg-index l.legs) (world_of l.replay.world);
-  last : IsLastHit g.S.ObjectSpace.meaning g.M.Machine.code (g.L.ReadLog.log l.fn.replay.log) l.breaks (StepOfWay g.S.ObjectSpace.meaning g.M.Machine.code (g.L.ReadLog.log l.fn.replay.log) l.legs (world_of l.fn.replay.world)) l.before l.last;
+  last : IsLastHit g.S.ObjectSpace.meaning g.M.Machine.code (g.L.ReadLog.log l.fn.replay.log) l.breaks (g.T.Test.holds l.test) (StepOfWay g.S.ObjectSpace.meaning g.M.Machine.code (g.L.ReadLog.log l.fn.replay.log) l.legs (world_of l.fn.replay.world)) l.before l.last;
   log : l.replay.log ≡ l.fn.replay.log;
   opens : l.replay.opens ≡ l.fn.replay.opens;
 }

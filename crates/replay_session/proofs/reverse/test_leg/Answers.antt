@@ -20,8 +20,9 @@ returns-in-Thread-clause-last g c =
     let code = g.M.Machine.code in
     let log = g.L.ReadLog.log c.args.replay.now.log in
     let breaks = c.args.breaks.now in
+    let holds = g.T.Test.holds c.args.test.now in
     let w = world_of c.args.replay.now.world in
-    subst (λ l. IfOk c.test_thread.result (IsLastHit space code log breaks (StepOfLeg space code log l w) (steps_of_leg l))) (sym c.in-Thread.is) c.test_thread.ensures.last
+    subst (λ l. IfOk c.test_thread.result (IsLastHit space code log breaks holds (StepOfLeg space code log l w) (steps_of_leg l))) (sym c.in-Thread.is) c.test_thread.ensures.last
 
 pub test_rounds-requires : goal.test_rounds-requires
 test_rounds-requires g c =
@@ -37,5 +38,6 @@ returns-in-Rounds-clause-last g c =
     let code = g.M.Machine.code in
     let log = g.L.ReadLog.log c.args.replay.now.log in
     let breaks = c.args.breaks.now in
+    let holds = g.T.Test.holds c.args.test.now in
     let w = world_of c.args.replay.now.world in
-    subst (λ l. IfOk c.test_rounds.result (IsLastHit space code log breaks (StepOfLeg space code log l w) (steps_of_leg l))) (sym c.in-Rounds.is) c.test_rounds.ensures.last
+    subst (λ l. IfOk c.test_rounds.result (IsLastHit space code log breaks holds (StepOfLeg space code log l w) (steps_of_leg l))) (sym c.in-Rounds.is) c.test_rounds.ensures.last

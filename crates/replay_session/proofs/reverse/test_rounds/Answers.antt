@@ -26,7 +26,7 @@ loop-made-init g c =
       within = omega arith;
       all = c.count-count.ensures.count ∙ ap (λ x. length (world_of x).threads) c.world.ensures.same;
       most = omega (arith, most);
-      last = no_steps_yet space code log c.args.breaks.now (StepInRounds space code log w);
+      last = no_steps_yet space code log c.args.breaks.now (g.T.Test.holds c.args.test.now) (StepInRounds space code log w);
       reads = c.reader-reader.ensures;
       log = refl;
       opens = refl;
@@ -39,6 +39,7 @@ loop-made-preserved-in-Ok g c =
     let laws = g.met.M.Machine.laws in
     let log = g.L.ReadLog.log c.args.replay.now.log in
     let breaks = c.args.breaks.now in
+    let holds = g.T.Test.holds c.args.test.now in
     let w = world_of c.args.replay.now.world in
     let u = world_of c.loop-made.replay.world in
     let k = c.loop-made.next in
@@ -54,12 +55,12 @@ loop-made-preserved-in-Ok g c =
     let all = inv.all in
     let since = inv.since in
     let few : k < length w.threads = omega (arith, next, all) in
-    let tests = subst (λ r. TurnTests space code (g.L.ReadLog.log r) breaks k u v x) inv.log c.in-Ok.ensures.tests in
-    let passes = test_passes space code log breaks k u v x tests in
+    let tests = subst (λ r. TurnTests space code (g.L.ReadLog.log r) breaks holds k u v x) inv.log c.in-Ok.ensures.tests in
+    let passes = test_passes space code log breaks holds k u v x tests in
     let told = c.steps-made.ensures in
     let one = few_tested x in
     let counted = turn_made space code laws log w spaces limits k m (steps_of_test x) u v passes inv.made in
-    let last = last_on space code log breaks (StepInRounds space code log w) m c.loop-made.last u v k x tests (λ makes. round_step space code laws log w r k m u few inv.at.1 inv.made makes)
+    let last = last_on space code log breaks holds (StepInRounds space code log w) m c.loop-made.last u v k x tests (λ makes. round_step space code laws log w r k m u few inv.at.1 inv.made makes)
     (λ here y s h. round_once space code laws log w spaces limits m u y k s here h) inv.last in
     record {
       at = (r, round_next space code laws log w r k u v (steps_of_test x) few inv.at.1 passes);
@@ -70,8 +71,8 @@ loop-made-preserved-in-Ok g c =
       within = omega (arith, next);
       all = inv.all;
       most = inv.most;
-      last = subst (IsLastHit space code log breaks (StepInRounds space code log w) (m + c.steps-made.result)) (sym c.last_behind-last.ensures)
-          (subst (λ s. IsLastHit space code log breaks (StepInRounds space code log w) (m + s) (last_behind c.loop-made.last m x)) (sym told) last);
+      last = subst (IsLastHit space code log breaks holds (StepInRounds space code log w) (m + c.steps-made.result)) (sym c.last_behind-last.ensures)
+          (subst (λ s. IsLastHit space code log breaks holds (StepInRounds space code log w) (m + s) (last_behind c.loop-made.last m x)) (sym told) last);
       reads = c.in-Ok.ensures.reads;
       log = c.in-Ok.ensures.log ∙ inv.log;
       opens = c.in-Ok.ensures.opens ∙ inv.opens;
@@ -142,10 +143,11 @@ returns-clause-last g c =
     let code = g.M.Machine.code in
     let log = g.L.ReadLog.log c.args.replay.now.log in
     let breaks = c.args.breaks.now in
+    let holds = g.T.Test.holds c.args.test.now in
     let w = world_of c.args.replay.now.world in
     let inv = c.loop-made.invariant in
     let few = inv.few in
     let past = c.loop-made-test.false in
     let end : c.loop-made.made ≡ c.args.steps = omega (arith, few, past) in
-    last_told space code log breaks (StepInRounds space code log w) (StepOfLeg space code log (leg.Rounds c.args.steps) w) c.args.steps (λ n x t l h. (l, h)) (λ n x t l h. h.1) c.loop-made.last
-    (subst (λ b. IsLastHit space code log breaks (StepInRounds space code log w) b c.loop-made.last) end inv.last)
+    last_told space code log breaks holds (StepInRounds space code log w) (StepOfLeg space code log (leg.Rounds c.args.steps) w) c.args.steps (λ n x t l h. (l, h)) (λ n x t l h. h.1) c.loop-made.last
+    (subst (λ b. IsLastHit space code log breaks holds (StepInRounds space code log w) b c.loop-made.last) end inv.last)

@@ -17,7 +17,7 @@ invariant-loop-made g l = record {
   within : l.next ≤ l.count;
   all : l.count ≡ length (world_of l.fn.replay.world).threads;
   most : l.count ≤ 16;
-  last : IsLastHit g.S.ObjectSpace.meaning g.M.Machine.code (g.L.ReadLog.log l.fn.replay.log) l.breaks (StepInRounds g.S.ObjectSpace.meaning g.M.Machine.code (g.L.ReadLog.log l.fn.replay.log) (world_of l.fn.replay.world)) l.made l.last;
+  last : IsLastHit g.S.ObjectSpace.meaning g.M.Machine.code (g.L.ReadLog.log l.fn.replay.log) l.breaks (g.T.Test.holds l.test) (StepInRounds g.S.ObjectSpace.meaning g.M.Machine.code (g.L.ReadLog.log l.fn.replay.log) (world_of l.fn.replay.world)) l.made l.last;
   reads : g.L.ReadLog.reads l.replay.log l.reader;
   log : l.replay.log ≡ l.fn.replay.log;
   opens : l.replay.opens ≡ l.fn.replay.opens;

@@ -16,6 +16,7 @@ loop-made-preserved g c =
     let laws = g.met.M.Machine.laws in
     let log = g.L.ReadLog.log c.args.replay.now.log in
     let breaks = c.args.breaks.now in
+    let holds = g.T.Test.holds c.args.test.now in
     let w = world_of c.args.replay.now.world in
     let t = c.args.thread in
     let n = c.loop-made.made in
@@ -24,15 +25,15 @@ loop-made-preserved g c =
     let v = world_of c.test_turn.new.replay.world in
     let x = c.in-Ok.tested in
     let below = c.loop-made-test.true in
-    let tests = subst (λ r. TurnTests space code (g.L.ReadLog.log r) breaks t u v x) inv.log c.in-Ok.ensures.tests in
-    let passes = test_passes space code log breaks t u v x tests in
+    let tests = subst (λ r. TurnTests space code (g.L.ReadLog.log r) breaks holds t u v x) inv.log c.in-Ok.ensures.tests in
+    let passes = test_passes space code log breaks holds t u v x tests in
     let makes : makes_step (turn_of space code log u t) ≡ true = ap (λ y. makes_step (turn_of space code log y t)) inv.at ∙ thread_makes space code laws log t c.args.steps w c.requires n below in
     let one : steps_of_test x ≡ 1 = passes.0 ∙ sym (makes_one (turn_of space code log u t) makes) in
-    let last = last_on space code log breaks (StepOfLeg space code log (leg.Thread t c.args.steps) w) n c.loop-made.last u v t x tests (λ made. (below, inv.at, refl)) (λ here y s h. (h.1 ∙ sym inv.at, h.2)) inv.last in
+    let last = last_on space code log breaks holds (StepOfLeg space code log (leg.Thread t c.args.steps) w) n c.loop-made.last u v t x tests (λ made. (below, inv.at, refl)) (λ here y s h. (h.1 ∙ sym inv.at, h.2)) inv.last in
     record {
       at = thread_next space code laws log t n w u v (steps_of_test x) inv.at makes passes;
-      last = subst (IsLastHit space code log breaks (StepOfLeg space code log (leg.Thread t c.args.steps) w) (n + 1)) (sym c.last_behind-last.ensures)
-          (subst (λ k. IsLastHit space code log breaks (StepOfLeg space code log (leg.Thread t c.args.steps) w) (n + k) (last_behind c.loop-made.last n x)) one last);
+      last = subst (IsLastHit space code log breaks holds (StepOfLeg space code log (leg.Thread t c.args.steps) w) (n + 1)) (sym c.last_behind-last.ensures)
+          (subst (λ k. IsLastHit space code log breaks holds (StepOfLeg space code log (leg.Thread t c.args.steps) w) (n + k) (last_behind c.loop-made.last n x)) one last);
       reads = c.in-Ok.ensures.reads;
       log = c.in-Ok.ensures.log ∙ inv.log;
       opens = c.in-Ok.ensures.opens ∙ inv.opens;
@@ -59,6 +60,7 @@ returns-clause-last g c =
     let code = g.M.Machine.code in
     let log = g.L.ReadLog.log c.args.replay.now.log in
     let breaks = c.args.breaks.now in
+    let holds = g.T.Test.holds c.args.test.now in
     let w = world_of c.args.replay.now.world in
     let t = c.args.thread in
     let n = c.loop-made.made in
@@ -66,4 +68,4 @@ returns-clause-last g c =
     let a = c.loop-made.auto.made-end in
     let b = c.loop-made-test.false in
     let end : n ≡ c.args.steps = omega (arith, a, b) in
-    subst (λ m. IsLastHit space code log breaks (StepOfLeg space code log (leg.Thread t c.args.steps) w) m c.loop-made.last) end inv.last
+    subst (λ m. IsLastHit space code log breaks holds (StepOfLeg space code log (leg.Thread t c.args.steps) w) m c.loop-made.last) end inv.last

@@ -1,14 +1,14 @@
-use Rattle.std.proofs.Common.{ap, arith}
-use Rattle.event_core.specs.World.{world_of}
-use Rattle.replay_session.specs.Legs.{steps_of_way}
-use Rattle.replay_session.proofs.Keeping.{few_steps}
+use Rattle.std.proofs.Common.{None, Some, ap, ◌∙◌, subst}
+use Rattle.replay_session.specs.Reverse.{GoesBackUntil}
 use Rattle.replay_session.proofs.session.Session.reverse.Goals as goal
 
-pub steps_of_way-all-requires : goal.steps_of_way-all-requires
-steps_of_way-all-requires g c =
+pub returns-in-Ok-Some-Break-clause-goes : goal.returns-in-Ok-Some-Break-clause-goes
+returns-in-Ok-Some-Break-clause-goes g c =
+    let space = g.S.ObjectSpace.meaning in
+    let code = g.M.Machine.code in
     let log = g.L.ReadLog.log c.args.self.now.replay.log in
-    let limits = g.met.L.ReadLog.limits c.args.self.now.replay.log in
     let opened = g.O.OpenWorld.opened c.args.self.now.replay.opens in
-    let e = ap steps_of_way c.as_slice.ensures.value in
-    let few = few_steps g.S.ObjectSpace.meaning g.M.Machine.code g.met.S.ObjectSpace.laws g.met.M.Machine.laws log limits opened (world_of c.args.self.now.replay.world) c.args.self.now.legs.items c.args.self.now.replay.world.sound c.args.self.now.leads in
-    omega (arith, e, few)
+    let old = c.args.self.now.legs.items in
+    let new = c.reverse_until.new.self.legs.items in
+    let found = c.in-Ok-Some-Break.field-0-is ∙ ap Some c.in-Ok-Some-Break.field-0-0-is in
+    subst (GoesBackUntil space code log c.args.breaks.now (λ w t. None) opened old new) found c.in-Ok-Some-Break.ensures.goes

@@ -6,7 +6,7 @@ use Rattle.replay_session.specs.Ways.{WayLeads}
 use Rattle.replay_session.proofs.Keeping.{few_steps, goes_again}
 use Rattle.replay_session.proofs.Reversing.{on_ok, last_of_first}
 use Rattle.replay_session.proofs.StepsOfWays.{first_count}
-use Rattle.replay_session.proofs.session.Session.last_break.Goals as goal
+use Rattle.replay_session.proofs.session.Session.last_met.Goals as goal
 
 pub steps_of_way-all-requires : goal.steps_of_way-all-requires
 steps_of_way-all-requires g c =
@@ -61,8 +61,8 @@ returns g c =
     let all = c.steps_of_way-all.ensures ∙ ap steps_of_way c.as_slice.ensures.value in
     let sub = c.saturating_sub.ensures in
     let is : n ≡ steps_of_way legs - 1 = omega (arith, all, sub) in
-    on_ok c.last_hit.result (IsLastHit space code again c.args.breaks.now (StepOfWay space code again c.as_slice-3.result.now start) (steps_of_way c.as_slice-3.result.now)) (IsLastHit space code log c.args.breaks.now (StepOfWay space code log legs opened) (steps_of_way legs - 1))
+    on_ok c.last_hit.result (IsLastHit space code again c.args.breaks.now (g.T.Test.holds c.args.test.now) (StepOfWay space code again c.as_slice-3.result.now start) (steps_of_way c.as_slice-3.result.now)) (IsLastHit space code log c.args.breaks.now (g.T.Test.holds c.args.test.now) (StepOfWay space code log legs opened) (steps_of_way legs - 1))
     c.last_hit.ensures
-    (λ last h. subst (λ m. IsLastHit space code log c.args.breaks.now (StepOfWay space code log legs opened) m last) is
-    (last_of_first space code c.args.breaks.now g.met.M.Machine.laws log again opened start legs c.as_slice-3.result.now n last (ap g.L.ReadLog.log (c.in-Ok-new.ensures.log ∙ sym c.args.self.now.same_log))
+    (λ last h. subst (λ m. IsLastHit space code log c.args.breaks.now (g.T.Test.holds c.args.test.now) (StepOfWay space code log legs opened) m last) is
+    (last_of_first space code c.args.breaks.now (g.T.Test.holds c.args.test.now) g.met.M.Machine.laws log again opened start legs c.as_slice-3.result.now n last (ap g.L.ReadLog.log (c.in-Ok-new.ensures.log ∙ sym c.args.self.now.same_log))
     (c.in-Ok-new.ensures.world ∙ ap g.O.OpenWorld.opened (sym c.args.self.now.same_opens)) first (omega (arith, is)) h))
