@@ -83,10 +83,14 @@ UNKNOWN = 'error: no such command, try help\n'
 HELP = '''\
 step T [N]      go on with thread T alone, by N steps (1)
 event T [N]     go on with thread T alone, up to behind its Nth event (1) from here
+finish T        go on with thread T alone, until the function that it is in returns
 continue        go on with all threads, up to a break
+again N         go on with all threads, past N breaks and up to the next
 back [N]        go back by N steps (1), of whichever threads made them
 reverse         go back to the break before, or to the beginning
 goto T P        go to where thread T has made P events, from the beginning on
+writer! FROM    go to behind the event that wrote the block of this byte last
+break F [N]     break where a thread comes to instruction N (0) of function F
 place T P       break behind the event of thread T after which it has made P
 write FROM LEN  break behind a write of a block that holds one of these bytes
 delete          forget all breaks
@@ -94,6 +98,7 @@ threads         how each thread stands, and where
 where T         how thread T stands, and where
 bytes FROM LEN  these bytes, and the versions of their blocks
 around T [N]    the last N events of thread T (5), and its next, as listed
+object O        which bytes object O is, its version, who wrote and read that
 writer FROM     which event wrote the block of this byte last, as T.P
 readers FROM    which events have read what was written there last
 way             the steps made so far, from the beginning on
@@ -106,18 +111,20 @@ def number(word):
 
 class Debugger:
     def __init__(self, module, plan, log):
-        self.log, self.passed, self.legs, self.breaks = log, [World(module, plan, log.block)], [], []
+        self.log, self.passed, self.legs, self.breaks, self.instructions = log, [World(module, plan, log.block)], [], [], []
         self.forms = {(b'step', 1): lambda n: self.step(n, 1), (b'step', 2): self.step, (b'continue', 0): self.run_on,
                       (b'event', 1): lambda n: self.event(n, 1), (b'event', 2): self.event, (b'reverse', 0): self.reverse, (b'goto', 2): self.goto,
                       (b'back', 0): lambda: self.back(1), (b'back', 1): self.back, (b'place', 2): self.place, (b'write', 2): self.write,
                       (b'delete', 0): self.delete, (b'threads', 0): self.threads, (b'where', 1): self.where, (b'around', 1): lambda n: self.around(n, 5), (b'around', 2): self.around, (b'bytes', 2): self.bytes,
                       (b'writer', 1): lambda at: self.who(at, 'written', 'w%d@%d/', 1), (b'readers', 1): lambda at: self.who(at, 'read', 'r%d@%d', 0),
+                      (b'finish', 1): self.finish, (b'again', 1): self.again, (b'object', 1): self.object, (b'writer!', 1): self.to_writer,
                       (b'way', 0): self.way, (b'help', 0): lambda: HELP}
     world = property(lambda self: self.passed[-1])
     def answer(self, line):
         """What is answered to a line that is not `quit`."""
         if not line: return ''
         word, *numbers = line.split(b' ')
+        if word == b'break' and len(line) <= 1024 and len(numbers) in (1, 2) and len(numbers[0]) <= 64: return self.break_in(numbers[0], *map(number, numbers[1:]))
         numbers = [number(n) for n in numbers]
         form = self.forms.get((word, len(numbers)))
         return UNKNOWN if len(line) > 1024 or form is None or None in numbers else form(*numbers)
@@ -140,13 +147,20 @@ class Debugger:
             text += 'next ' * (place == made) + '%d.%d %s\n' % (n, place, 'clash' if entry is CLASH else ' '.join([entry[0], *entry[1]]))
         return text
     def threads(self): return ''.join(self.where(n) for n in range(len(self.world.threads)))
-    def step(self, n, most): return self.go(n, most, ('local', 'event'))
-    def event(self, n, most): return self.go(n, most, ('event',))
-    def go(self, n, most, counted):
+    def step(self, n, most): return self.go(n, most, lambda did: True)
+    def event(self, n, most): return self.go(n, most, lambda did: did == 'event')
+    def finish(self, n):
+        depth = self.depth(n)
+        return self.go(n, 1, lambda did: self.depth(n) < depth)
+    def depth(self, n):
+        """In how many functions a thread is."""
+        t = self.world.threads[n] if n < len(self.world.threads) else None
+        return len(t.standing()) if t is not None and t.out is None else 0
+    def go(self, n, most, counts):
         made, left, why = 0, most, ''
         while left and not why:
             did, after = turn(self.world, self.log, n)
-            if did in ('local', 'event'): self.passed.append(after); made += 1; left -= did in counted
+            if did in ('local', 'event'): self.passed.append(after); made += 1; left -= counts(did)
             else: why = ' ' + did
         if made and self.legs and self.legs[-1][0] == n: self.legs[-1][1] += made
         elif made: self.legs.append([n, made])
@@ -158,6 +172,8 @@ class Debugger:
             blocks = range(first // self.log.block, (first + second - 1) // self.log.block + 1) if kind == 'write' and second else ()
             changed = {(o - 1) // 2 for o, version in after.version.items() if o % 2 and version != before.version.get(o, 0)}
             if any(block in blocks for block in changed): return kind
+        t = after.threads[n]
+        if t.out is None and t.standing()[0] in self.instructions: return 'instruction'
     def rounds(self):
         """Turns of all threads, again and again; answers where that ends."""
         while True:
@@ -171,10 +187,15 @@ class Debugger:
                 kind = self.held(n, did, before, after)
                 if kind: return 'stopped ' + kind
             if self.world is begun: return 'finished' if all(stands(begun, t) == self.log.ends.get(t.n) for t in begun.threads) else 'stuck'
-    def run_on(self):
+    def run(self):
         before = len(self.passed)
         stopped = self.rounds()
         if len(self.passed) > before: self.legs.append(['rounds', len(self.passed) - before])
+        return stopped
+    def run_on(self): return self.run() + '\n' + self.threads()
+    def again(self, passes):
+        stopped = self.run()
+        while passes and stopped.startswith('stopped') and stopped != 'stopped diverged': passes -= 1; stopped = self.run()
         return stopped + '\n' + self.threads()
     def back(self, steps):
         steps = min(steps, len(self.passed) - 1)
@@ -193,32 +214,52 @@ class Debugger:
             if kind: return self.back(len(self.passed) - 1 - behind).replace('back', 'stopped ' + kind, 1)
         return self.back(len(self.passed)).replace('back', 'no break before', 1)
     def goto(self, n, place):
-        kept = self.passed, self.legs, self.breaks
-        self.passed, self.breaks = self.passed[:1], [('place', n, place)]
+        kept = self.passed, self.legs, self.breaks, self.instructions
+        self.passed, self.breaks, self.instructions = self.passed[:1], [('place', n, place)], []
         stopped = self.rounds()
         if stopped != 'stopped place':
-            self.passed, self.legs, self.breaks = kept
+            self.passed, self.legs, self.breaks, self.instructions = kept
             return 'error: no such place: %s\n' % stopped
-        self.legs, self.breaks = [['rounds', len(self.passed) - 1]], kept[2]
+        self.legs, self.breaks, self.instructions = [['rounds', len(self.passed) - 1]], *kept[2:]
         return stopped + '\n' + self.threads()
-    def put_break(self, *one):
-        self.breaks.append(one)
-        return 'break %d\n' % (len(self.breaks) - 1)
+    def put_break(self, *one, at=None):
+        (self.breaks if at is None else self.instructions).append(at or one)
+        return 'break %d\n' % (len(self.breaks) + len(self.instructions) - 1)
+    def break_in(self, name, n=0):
+        if n is None: return UNKNOWN
+        funcs = self.world.m.funcs
+        called = [f for f in range(len(funcs)) if name in (b'%d' % f, self.world.m.title(f).encode())]
+        if not called: return 'error: no such function\n'
+        if n >= len(funcs[called[0]][3]): return 'error: no such instruction\n'
+        return self.put_break(at=(called[0], n))
     def place(self, n, place): return self.put_break('place', n, place)
     def write(self, start, length): return self.put_break('write', start, length)
     def delete(self):
-        self.breaks = []
+        self.breaks, self.instructions = [], []
         return 'no breaks\n'
     def bytes(self, start, length):
         return bytes_shown(self.world, start, length) if start + length <= self.world.length else 'error: the memory ends before\n'
-    def who(self, at, word, form, more):
+    def events(self, o, form, more):
+        """The events that touched the present version of an object so."""
+        sought = form % (o, self.world.version.get(o, 0) - more)
+        return ['%d.%d' % (t.n, place) for t in self.world.threads for place, (_, touched) in enumerate(t.entries)
+                if any(it.startswith(sought) if more else it == sought for it in touched)]
+    def told(self, o, word, form, more):
+        return 'object %d version %d %s by %s\n' % (o, self.world.version.get(o, 0), word, ' '.join(self.events(o, form, more)) or 'nobody')
+    def who(self, at, *how):
+        return self.told(1 + 2 * (at // self.world.block), *how) if at < self.world.length else 'error: the memory ends before\n'
+    def to_writer(self, at):
         if at >= self.world.length: return 'error: the memory ends before\n'
-        o = 1 + 2 * (at // self.world.block)
-        version = self.world.version.get(o, 0)
-        sought = form % (o, version - more)
-        events = ['%d.%d' % (t.n, place) for t in self.world.threads for place, (_, touched) in enumerate(t.entries)
-                  if any(it.startswith(sought) if more else it == sought for it in touched)]
-        return 'object %d version %d %s by %s\n' % (o, version, word, ' '.join(events) or 'nobody')
+        events = self.events(1 + 2 * (at // self.world.block), 'w%d@%d/', 1)
+        if not events: return 'error: nobody wrote it\n'
+        n, place = map(int, events[0].split('.'))
+        return self.goto(n, place + 1)
+    def object(self, o):
+        if o > 2 * (self.world.capacity // self.world.block): return 'error: no such object\n'
+        size, first = self.world.block, (o - 1) // 2 * self.world.block
+        which = '%s %d..%d' % (('waiters', 'bytes')[o % 2], first, first + size - 1) if o else 'length'
+        return ('object %d %s version %d reads %d\n' % (o, which, self.world.version.get(o, 0), self.world.reads.get(o, 0))
+                + self.told(o, 'written', 'w%d@%d/', 1) + self.told(o, 'read', 'r%d@%d', 0))
     def way(self): return ''.join('%s steps %d\n' % (name if name == 'rounds' else 'thread %d' % name, steps) for name, steps in self.legs)
 
 def talk(module, plan, lines, text):
@@ -266,6 +307,17 @@ TALKS = {
                  'writer 64', 'writer 65535', 'writer 65536', 'readers 65536', 'readers 4294967295', 'back 4', 'writer 0', 'readers 0'),
     'around': lines('around 0', 'around 1 0', 'around 2', 'event 0', 'around 0', 'around 0 1', 'around 0 0', 'continue', 'around 0', 'around 1 1', 'around 1 4294967295',
                     'around 3', 'around 4294967295 1'),
+    'finish': lines('finish 0', 'way', 'threads', 'back 99', 'step 0 2', 'finish 0', 'finish 0', 'finish 0', 'finish 1', 'finish 1', 'finish 2', 'finish 7', 'way', 'back 2',
+                    'finish 0', 'way'),
+    'again': lines('again 0', 'again 1', 'back 99', 'write 0 64', 'place 0 1', 'again 0', 'again 1', 'way', 'again 4294967295', 'way', 'back 4', 'again 1', 'again 2', 'way',
+                   'delete', 'again 3', 'way'),
+    'objects': lines('object 0', 'object 1', 'object 2', 'event 0 2', 'object 1', 'object 3', 'event 1 2', 'object 1', 'object 2', 'continue', 'object 1', 'object 2', 'object 0',
+                     'object 2048', 'object 2049', 'object 4096', 'object 8193', 'object 4294967295'),
+    'writers': lines('writer! 0', 'writer! 65536', 'writer! 4294967295', 'continue', 'writer 0', 'writer! 0', 'way', 'writer! 3', 'way', 'writer! 64', 'way', 'back', 'writer! 0', 'way'),
+    'functions': lines('break 0', 'break 1', 'break 1 2', 'break 0 1', 'break 9', 'break 0 99', 'break nobody', 'break nobody 1', 'continue', 'continue', 'way', 'again 2', 'way',
+                       'reverse', 'reverse', 'way', 'place 0 1', 'back 99', 'again 1', 'continue', 'way', 'delete', 'continue', 'way', 'reverse'),
+    'named': lines('break first', 'break divide 2', 'break gr\u00f6\u00dfe::of 1', 'break past', 'break 10', 'break 12 1', 'break atomic wait', 'break two\nlines', 'break ', 'break main 1',
+                   'continue', 'continue', 'again 3', 'finish 0', 'way', 'reverse', 'way', 'continue', 'finish 1', 'writer! 64', 'object 3'),
     'asked': lines('where 0', 'where 1', 'where 2', 'where 16', 'where 4294967295', 'continue', 'where 1'),
     'standing': lines('step 2 5', 'step 2 9', 'back', 'way', 'continue', 'back', 'way', 'step 0 99'),
     'deep': lines('step 0 255', 'step 0 9', 'step 0', 'back 255', 'step 1 9', 'way'),
@@ -276,7 +328,8 @@ TALKS = {
         'continue 1', 'continue ', 'cont', 'back ', 'back 00', 'back -1', 'back 1 2', 'back 4294967296', 'place', 'place 0', 'place 0 1 2', 'place 0.1', 'place a 0',
         'place 0 4294967296', 'write', 'write 0', 'write 0+4', 'write 0 4 1', 'write 4294967296 0', 'delete 0', 'threads 0', 'threads\r', '\r', 'bytes', 'bytes 0',
         'bytes 0 4 4', 'bytes 0x0 4', 'bytes 0 04', 'way 1', 'help me', 'help\r', 'event', 'event x', 'event 0 1 2', 'event 0 01', 'reverse 1', 'goto', 'goto 0', 'goto 0.1', 'goto 0 1 2', 'where', 'where 0 1', 'where x', 'around', 'around x', 'around 0 1 2',
-        'writer', 'writer 0 4', 'writer 0x0', 'readers', 'readers 4294967296', 'quit 0', 'quit\r', ' quit', 'quit ', 'Quit', '0', '# way', 'way;way')
+        'writer', 'writer 0 4', 'writer 0x0', 'readers', 'readers 4294967296', 'finish', 'finish x', 'finish 0 1', 'again', 'again -1', 'again 1 2', 'object', 'object 01', 'object 1 2', 'writer!', 'writer! 0 1', 'writer ! 0', 'break', 'break 0 x', 'break 0 1 2',
+        'break  0', 'break 0 01', 'break 0 4294967296', 'break ' + 64 * 'x', 'break ' + 65 * 'x', 'break ' + 65 * 'x' + ' 1', 'quit 0', 'quit\r', ' quit', 'quit ', 'Quit', '0', '# way', 'way;way')
            + b'\xff\xfe\nstep 0\0\nthr\xc3\xa9ads\nthreads\nway\nwrite 0 4',
     'long': b'x' * 1024 + b'\n' + b'x' * 1025 + b'\nway' + b' ' * 1021 + b'\n' + b'x' * 1024 + b'threads\nthreads',
     'blank': b'\n\nthreads\n\n\nstep 1\n\n',
@@ -290,7 +343,12 @@ def drawn_talk(words, threads, count):
     """Lines that numbers draw: `words` answers a number below another."""
     def some(most): return (0, 1, 2, 3, words(most + 1), words(most + 1))[words(6)]
     def line():
-        kind, n = words(23), words(threads + 1)
+        kind, n = words(29), words(threads + 1)
+        if kind == 23: return 'finish %d' % n
+        if kind == 24: return 'again %d' % some(3)
+        if kind == 25: return 'object %d' % some(8)
+        if kind == 26: return 'writer! %d' % (0, 63, 64, some(200))[words(4)]
+        if kind > 26: return 'break %d' % some(3) + (' %d' % some(6) if words(2) else '')
         if kind == 16: return 'event %d' % n + (' %d' % some(4) if words(3) else '')
         if kind == 17: return 'reverse'
         if kind == 18: return 'goto %d %d' % (n, some(4))

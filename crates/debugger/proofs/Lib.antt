@@ -1,3 +1,5 @@
+pub mod Padded
+pub mod Pausing
 pub mod MoreLines
 pub mod Writing
 pub mod Closing

@@ -1,5 +1,5 @@
 -- A stop on the way to a place is at a break of the list, or at none.
-use Rattle.std.proofs.Common.{ℕ, List}
+use Rattle.std.proofs.Common.{List}
 use Rattle.std.proofs.lemmas.Option.{slice_get_within}
 use Rattle.block_objects.specs.SharedMemory.{shared_memory}
 use Rattle.wasm_world.specs.Opening.{WasmWorld}

@@ -6,6 +6,7 @@ use Rattle.debugger.specs.declared.debugger.Debugger.{Debugger}
 
 abbrev pub at_of : Debugger → DebugAt
 at_of d = record {
+  code = d.valid.now;
   log = d.session.replay.log.log.now;
   form = d.places;
   power = d.block;
@@ -13,6 +14,7 @@ at_of d = record {
   legs = d.session.legs.items;
   world = world_of d.session.replay.world;
   breaks = d.breaks.items;
+  instructions = d.instructions.items;
 }
 
 -- its opening world can be opened again

@@ -3,6 +3,8 @@ pub mod Kept
 pub mod Answers
 pub mod Talks
 pub mod Around
+pub mod CodeTests
+pub mod Functions
 pub mod Touched
 pub mod Replies
 pub mod At

@@ -1,12 +1,13 @@
 -- What lines ask a debugger for.
-use Rattle.std.specs.Prelude.{◌≢◌, ℕ, Bool, false, true, List, [], ◌∷◌, ◌++◌, All, Option, Some, None, codes, length, nat_le, if◌then◌else◌}
+use Rattle.std.specs.Prelude.{◌≢◌, ℕ, ◌-◌, Bool, false, true, List, [], ◌∷◌, ◌++◌, All, Option, Some, None, codes, length, nat_le, replicate, if◌then◌else◌}
 use Rattle.std.specs.List.{flat_map}
 use Rattle.std.specs.Str.{bytes_eq}
 use Rattle.std.specs.Str.Parse.{signed_digits_value, starts_with_minus}
 use Rattle.text_lines.specs.Integers.{is_decimal, bits_of}
 use Rattle.text_lines.specs.Parts.{words}
 use Rattle.debugger.specs.declared.command.Command.{Command}
-use Rattle.debugger.specs.declared.command.Command.TheVariants.{Step, Event, Continue, Back, Reverse, Goto, Place, Write, Delete, Threads, Where, Around, Writer, Readers, Bytes, Way, Help, Quit}
+use Rattle.debugger.specs.declared.command.Command.TheVariants.{Step, Event, Finish, Continue, Again, Back, Reverse, Goto, GotoWriter, Place, Function, Write, Delete, Threads, Where, Around, Object, Writer, Readers, Bytes, Way, Help, Quit}
+use Rattle.debugger.specs.declared.word.Word.{Word}
 use Rattle.debugger.specs.declared.command.Line.{Line}
 use Rattle.debugger.specs.declared.command.Line.TheVariants as line
 
@@ -26,23 +27,53 @@ alone word =
     if bytes_eq word (codes "help") then Some Help else (
     if bytes_eq word (codes "quit") then Some Quit else None)))))))
 
--- the command of a word and a number
-abbrev pub with_one : List ℕ → Option ℕ → Option Command
-with_one word None = None
-with_one word (Some n) =
+-- a word of at most 64 bytes, with zeros behind it
+abbrev pub word_of : List ℕ → Option Word
+word_of text = if nat_le (length text) 64 then Some (record { bytes = text ++ replicate (64 - length text) 0 }) else None
+
+-- of a thread
+abbrev pub of_thread : List ℕ → ℕ → Option Command
+of_thread word n =
     if bytes_eq word (codes "step") then Some (Step n 1) else (
     if bytes_eq word (codes "event") then Some (Event n 1) else (
-    if bytes_eq word (codes "back") then Some (Back n) else (
+    if bytes_eq word (codes "finish") then Some (Finish n) else (
     if bytes_eq word (codes "where") then Some (Where n) else (
-    if bytes_eq word (codes "around") then Some (Around n 5) else (
+    if bytes_eq word (codes "around") then Some (Around n 5) else None))))
+
+-- of anything else
+abbrev pub of_number : List ℕ → ℕ → Option Command
+of_number word n =
+    if bytes_eq word (codes "again") then Some (Again n) else (
+    if bytes_eq word (codes "back") then Some (Back n) else (
+    if bytes_eq word (codes "object") then Some (Object n) else (
     if bytes_eq word (codes "writer") then Some (Writer n) else (
-    if bytes_eq word (codes "readers") then Some (Readers n) else None))))))
+    if bytes_eq word (codes "writer!") then Some (GotoWriter n) else (
+    if bytes_eq word (codes "readers") then Some (Readers n) else None)))))
+
+abbrev pub or_of_number : Option Command → List ℕ → ℕ → Option Command
+or_of_number (Some command) word n = Some command
+or_of_number None word n = of_number word n
+
+-- the command of a word and a number
+abbrev pub with_number : List ℕ → Option ℕ → Option Command
+with_number word None = None
+with_number word (Some n) = or_of_number (of_thread word n) word n
+
+-- a break at an instruction of a function that is called so
+abbrev pub function_break : Option Word → Option ℕ → Option Command
+function_break None n = None
+function_break (Some name) None = None
+function_break (Some name) (Some n) = Some (Function name n)
+
+-- the command of two words
+abbrev pub with_one : List ℕ → List ℕ → Option Command
+with_one word first = if bytes_eq word (codes "break") then function_break (word_of first) (Some 0) else with_number word (number_of first)
 
 -- the command of a word and two numbers
-abbrev pub with_two : List ℕ → Option ℕ → Option ℕ → Option Command
-with_two word None second = None
-with_two word (Some n) None = None
-with_two word (Some n) (Some k) =
+abbrev pub with_numbers : List ℕ → Option ℕ → Option ℕ → Option Command
+with_numbers word None second = None
+with_numbers word (Some n) None = None
+with_numbers word (Some n) (Some k) =
     if bytes_eq word (codes "step") then Some (Step n k) else (
     if bytes_eq word (codes "event") then Some (Event n k) else (
     if bytes_eq word (codes "goto") then Some (Goto n k) else (
@@ -51,12 +82,17 @@ with_two word (Some n) (Some k) =
     if bytes_eq word (codes "write") then Some (Write (record { from = n; len = k })) else (
     if bytes_eq word (codes "bytes") then Some (Bytes (record { from = n; len = k })) else None))))))
 
+-- the command of three words
+abbrev pub with_two : List ℕ → List ℕ → List ℕ → Option Command
+with_two word first second =
+    if bytes_eq word (codes "break") then function_break (word_of first) (number_of second) else with_numbers word (number_of first) (number_of second)
+
 -- the command of these words
 abbrev pub command_of : List (List ℕ) → Option Command
 command_of [] = None
 command_of (word ∷ []) = alone word
-command_of (word ∷ first ∷ []) = with_one word (number_of first)
-command_of (word ∷ first ∷ second ∷ []) = with_two word (number_of first) (number_of second)
+command_of (word ∷ first ∷ []) = with_one word first
+command_of (word ∷ first ∷ second ∷ []) = with_two word first second
 command_of (word ∷ first ∷ second ∷ more ∷ others) = None
 
 abbrev pub line_by : Option Command → Line
@@ -72,16 +108,21 @@ line_of (b ∷ bs) = if nat_le (length (b ∷ bs)) 1024 then line_by (command_of
 abbrev pub ends : Command → Bool
 ends (Step thread steps) = false
 ends (Event thread events) = false
+ends (Finish thread) = false
 ends Continue = false
+ends (Again passes) = false
 ends (Back steps) = false
 ends Reverse = false
 ends (Goto thread place) = false
+ends (GotoWriter address) = false
 ends (Place thread place) = false
+ends (Function name instruction) = false
 ends (Write range) = false
 ends Delete = false
 ends Threads = false
 ends (Where thread) = false
 ends (Around thread events) = false
+ends (Object object) = false
 ends (Writer address) = false
 ends (Readers address) = false
 ends (Bytes range) = false

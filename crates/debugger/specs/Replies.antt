@@ -1,18 +1,21 @@
 -- What a debugger of a replay answers to its commands.
-use Rattle.std.specs.Prelude.{◌≡◌, ◌⊎◌, ℕ, ◌+◌, ◌-◌, ◌/◌, ◌<◌, ◌≤◌, true, List, [], ◌∷◌, ◌++◌, Option, Some, None, codes, length, slice_get}
+use Rattle.std.specs.Prelude.{◌≡◌, ◌⊎◌, ℕ, zero, suc, ◌+◌, ◌-◌, ◌/◌, ◌<◌, ◌≤◌, Bool, true, false, List, [], ◌∷◌, ◌++◌, Option, Some, None, codes, length, slice_get}
 use Rattle.std.specs.List.{flat_map}
 use Rattle.std.specs.Fmt.{decimal}
 use Rattle.wasm_types.specs.declared.range.ByteRange.{ByteRange}
 use Rattle.wasm_types.specs.declared.modules.Module.{Module}
 use Rattle.wasm_types.specs.Memories.{block_power}
+use Rattle.rw_objects.specs.declared.count.Count.{Count}
 use Rattle.block_objects.specs.Objects.{block_of, block_object}
 use Rattle.block_objects.specs.SharedMemory.{shared_memory}
 use Rattle.event_core.specs.Threads.{ThreadAt, all_steps}
+use Rattle.integer_machine.specs.declared.standing.CodePlace.{CodePlace}
 use Rattle.wasm_world.specs.Opening.{WasmWorld}
 use Rattle.wasm_world.specs.Plans.{PlanValue}
 use Rattle.wasm_world.specs.ThreadCode.{thread_code, ThreadAt as CodeThread}
 use Rattle.replica.specs.declared.log.Log.{Log as GatheredLog}
 use Rattle.replica.specs.Log.{key_of}
+use Rattle.replica.specs.declared.diverging.EventAt.{EventAt}
 use Rattle.replay_gate.specs.declared.answers.ReplayFault.{ReplayFault}
 use Rattle.replay_gate.specs.declared.answers.ReplayFault.TheVariants as fault
 use Rattle.replay_gate.specs.Shows.{ShowsRecorded}
@@ -21,17 +24,23 @@ use Rattle.replay_breaks.specs.declared.breaks.Break.{Break}
 use Rattle.replay_breaks.specs.declared.breaks.Break.TheVariants as break
 use Rattle.replay_breaks.specs.declared.breaks.Stopped.{Stopped}
 use Rattle.replay_breaks.specs.declared.breaks.Stopped.TheVariants as stopped
-use Rattle.replay_breaks.specs.Stops.{StopsAt, StopsRight, StopsFree}
+use Rattle.replay_breaks.specs.Stops.{StopsRight, StopsFree}
 use Rattle.replay_session.specs.declared.legs.Leg.{Leg}
 use Rattle.replay_session.specs.declared.legs.Leg.TheVariants as leg
 use Rattle.replay_session.specs.declared.gone.Ceased.{Ceased}
 use Rattle.replay_session.specs.declared.gone.Ceased.TheVariants as ceased
 use Rattle.replay_session.specs.declared.gone.Gone.{Gone}
+use Rattle.replay_session.specs.declared.paused.Met.{Met}
+use Rattle.replay_session.specs.declared.paused.Met.TheVariants as met
+use Rattle.replay_session.specs.declared.paused.Paused.{Paused}
+use Rattle.replay_session.specs.declared.paused.Paused.TheVariants as paused
 use Rattle.replay_session.specs.Events.{EventsCease, events_on}
 use Rattle.replay_session.specs.Gone.{CeasesSo, IfFault}
 use Rattle.replay_session.specs.Legs.{with_thread, with_rounds, without_last}
+use Rattle.replay_session.specs.Pauses.{PausesAt, PausesRight, PausesFree}
 use Rattle.replay_session.specs.Reaching.{GoesTo}
-use Rattle.replay_session.specs.Reverse.{GoesBackTo}
+use Rattle.replay_session.specs.Reverse.{GoesBackUntil}
+use Rattle.replay_session.specs.Until.{UntilCeases}
 use Rattle.replay_session.specs.Ways.{ThreadLeads, WayLeads}
 use Rattle.wasm_replay.specs.Replays.{Opens, gathered_log}
 use Rattle.debug_views.specs.Blocks.{AreHolding}
@@ -39,20 +48,25 @@ use Rattle.debug_views.specs.declared.blocks.BlockRange.{BlockRange}
 use Rattle.debug_views.specs.Standing.{PlaceForm, note_of}
 use Rattle.debug_views.specs.Text.{thread_text, objects_text, rows_text, stop_words}
 use Rattle.debug_views.specs.Threads.{view_of_thread}
-use Rattle.debug_views.specs.Values.{memory_bytes, bytes_of_range}
+use Rattle.debug_views.specs.Values.{memory_bytes, bytes_of_range, count_of_object}
 use Rattle.debug_views.specs.Writes.{IsWriteOfRange}
 use Rattle.debugger.specs.Answers.{memory_line}
 use Rattle.debugger.specs.Around.{around_text}
-use Rattle.debugger.specs.Touched.{events_of, sought_line}
+use Rattle.debugger.specs.CodeTests.{depth_in, is_out, stands_at}
+use Rattle.debugger.specs.Functions.{IsMeant, IsShort, NoneCalled}
+use Rattle.debugger.specs.Touched.{events_of, object_text, sought_line, IsFirstEvent, NoEvent}
+use Rattle.debugger.specs.declared.word.Word.{Word}
 use Rattle.debugger.specs.declared.command.Command.{Command}
-use Rattle.debugger.specs.declared.command.Command.TheVariants.{Step, Event, Continue, Back, Reverse, Goto, Place, Write, Delete, Threads, Where, Around, Writer, Readers, Bytes, Way, Help, Quit}
+use Rattle.debugger.specs.declared.command.Command.TheVariants.{Step, Event, Finish, Continue, Again, Back, Reverse, Goto, GotoWriter, Place, Function, Write, Delete, Threads, Where, Around, Object, Writer, Readers, Bytes, Way, Help, Quit}
 use Rattle.debugger.specs.declared.touched.Role.{Role}
 use Rattle.debugger.specs.declared.touched.Role.TheVariants as role
 use Rattle.debugger.specs.declared.touched.Sought.{Sought}
 
--- where a debugger stands: the log, how places in code are written, blocks of 2 ^ power bytes and the opening world,
--- which stay; the way that it has gone, the world to which that leads, and its breaks
+-- where a debugger stands: the module, the log, how places in code are written, blocks of 2 ^ power bytes and the
+-- opening world, which stay; the way that it has gone, the world to which that leads, and its breaks, those at
+-- instructions apart
 pub record DebugAt : Type 0 where
+  pub code : Module
   pub log : GatheredLog
   pub form : PlaceForm
   pub power : ℕ
@@ -60,9 +74,11 @@ pub record DebugAt : Type 0 where
   pub legs : List Leg
   pub world : WasmWorld
   pub breaks : List Break
+  pub instructions : List CodePlace
 
 -- before the first command
 pub record IsOpening (m : Module) (plan : PlanValue) (log : GatheredLog) (s : DebugAt) : Type 0 where
+  pub code_is : s.code ≡ m
   pub log_is : s.log ≡ log
   pub source : s.form.source ≡ m.source
   pub offsets : s.form.offsets ≡ true
@@ -71,6 +87,7 @@ pub record IsOpening (m : Module) (plan : PlanValue) (log : GatheredLog) (s : De
   pub world : s.world ≡ s.opening
   pub legs : s.legs ≡ []
   pub breaks : s.breaks ≡ []
+  pub instructions : s.instructions ≡ []
 
 -- elsewhere on the way; with other breaks
 abbrev pub moved : DebugAt → List Leg → WasmWorld → DebugAt
@@ -78,6 +95,16 @@ moved s legs world = record s { legs = legs; world = world }
 
 abbrev pub with_breaks : DebugAt → List Break → DebugAt
 with_breaks s breaks = record s { breaks = breaks }
+
+abbrev pub with_instructions : DebugAt → List CodePlace → DebugAt
+with_instructions s places = record s { instructions = places }
+
+abbrev pub without_breaks : DebugAt → DebugAt
+without_breaks s = record s { breaks = []; instructions = [] }
+
+-- how many breaks there are
+abbrev pub break_count : DebugAt → ℕ
+break_count s = length s.breaks + length s.instructions
 
 -- threads that are numbered from `thread` on: how each stands, and in which functions
 abbrev pub thread_line : PlaceForm → ℕ → ThreadAt CodeThread → List ℕ
@@ -126,6 +153,29 @@ stopped_line stopped.Finished breaks = codes "finished\n"
 stopped_line stopped.Stuck breaks = codes "stuck\n"
 stopped_line (stopped.Fault f) breaks = codes "stopped" ++ fault_words f
 
+-- the same where they may have stopped at a break at an instruction
+abbrev pub paused_line : Paused → List Break → List ℕ
+paused_line (paused.Met (met.Break index)) breaks = stopped_line (stopped.Break index) breaks
+paused_line (paused.Met (met.Test index)) breaks = codes "stopped instruction\n"
+paused_line paused.Finished breaks = stopped_line stopped.Finished breaks
+paused_line paused.Stuck breaks = stopped_line stopped.Stuck breaks
+paused_line (paused.Fault f) breaks = stopped_line (stopped.Fault f) breaks
+
+-- at a break of the list, or at none
+abbrev pub IsPauseOf : Paused → List Break → Type 0
+IsPauseOf (paused.Met (met.Break index)) breaks = index < length breaks
+IsPauseOf (paused.Met (met.Test index)) breaks = Unit {0}
+IsPauseOf paused.Finished breaks = Unit {0}
+IsPauseOf paused.Stuck breaks = Unit {0}
+IsPauseOf (paused.Fault f) breaks = Unit {0}
+
+-- whether a break stopped them
+abbrev pub is_met : Paused → Bool
+is_met (paused.Met m) = true
+is_met paused.Finished = false
+is_met paused.Stuck = false
+is_met (paused.Fault f) = false
+
 -- a stop at a break of the list, or at none
 abbrev pub IsStopOf : Stopped → List Break → Type 0
 IsStopOf (stopped.Break index) breaks = index < length breaks
@@ -137,8 +187,8 @@ abbrev pub back_line : List ℕ
 back_line = codes "back\n"
 
 -- at which break a move back ends
-abbrev pub reverse_line : Option ℕ → List Break → List ℕ
-reverse_line (Some index) breaks = stopped_line (stopped.Break index) breaks
+abbrev pub reverse_line : Option Met → List Break → List ℕ
+reverse_line (Some m) breaks = paused_line (paused.Met m) breaks
 reverse_line None breaks = codes "no break before\n"
 
 -- a break by its number, from 0
@@ -147,6 +197,18 @@ break_line number = codes "break " ++ (decimal number ++ 10 ∷ [])
 
 abbrev pub no_breaks : List ℕ
 no_breaks = codes "no breaks\n"
+
+abbrev pub no_function : List ℕ
+no_function = codes "error: no such function\n"
+
+abbrev pub no_instruction : List ℕ
+no_instruction = codes "error: no such instruction\n"
+
+abbrev pub no_object : List ℕ
+no_object = codes "error: no such object\n"
+
+abbrev pub nobody_line : List ℕ
+nobody_line = codes "error: nobody wrote it\n"
 
 abbrev pub no_bytes : List ℕ
 no_bytes = codes "error: the memory ends before\n"
@@ -203,15 +265,49 @@ pub record MakesEvents (s : DebugAt) (thread most : ℕ) (text : List ℕ) (u : 
   pub legs : u.legs ≡ with_thread s.legs thread gone.steps
   pub moves : Moves s (gone_line gone) text u
 
--- turns of all threads in rounds, up to a break: on a log below that of a run no thread diverges, and on the whole log
--- of a run they are never stuck
-pub record Continues (s : DebugAt) (text : List ℕ) (u : DebugAt) : Type 0 where
-  pub stopped : Stopped
-  pub stops : StopsAt shared_memory thread_code (gathered_log s.log) s.world [] s.breaks u.world stopped
-  pub right : StopsRight shared_memory thread_code (gathered_log s.log) s.opening stopped
-  pub free : StopsFree shared_memory thread_code (gathered_log s.log) s.opening stopped
+-- steps of a thread, up to behind the first after which it is in fewer functions
+pub record Finishes (s : DebugAt) (thread : ℕ) (text : List ℕ) (u : DebugAt) : Type 0 where
+  pub gone : Gone
+  pub leads : ThreadLeads shared_memory thread_code (gathered_log s.log) thread gone.steps s.world u.world
+  pub ceased : UntilCeases shared_memory thread_code (gathered_log s.log) (is_out (depth_in s.world thread)) thread gone.steps s.world u.world gone.ceased
+  pub right : IfFault gone.ceased (IsRightRefusal shared_memory thread_code (gathered_log s.log) s.opening)
+  pub free : IfFault gone.ceased (IsFreeRefusal shared_memory thread_code (gathered_log s.log) s.opening)
+  pub legs : u.legs ≡ with_thread s.legs thread gone.steps
+  pub moves : Moves s (gone_line gone) text u
+
+-- turns of all threads in rounds from state s to state u, up to a break: on a log below that of a run no thread
+-- diverges, and on the whole log of a run they are never stuck
+pub record RunsOn (s u : DebugAt) (how : Paused) : Type 0 where
+  pub pauses : PausesAt shared_memory thread_code (gathered_log s.log) s.breaks (stands_at s.instructions) s.world u.world how
+  pub right : PausesRight shared_memory thread_code (gathered_log s.log) s.opening how
+  pub free : PausesFree shared_memory thread_code (gathered_log s.log) s.opening how
   pub legs : u.legs ≡ with_rounds s.legs (all_steps thread_code u.world.threads - all_steps thread_code s.world.threads)
-  pub moves : Moves s (stopped_line stopped s.breaks) text u
+  pub same : u ≡ moved s u.legs u.world
+
+pub record Continues (s : DebugAt) (text : List ℕ) (u : DebugAt) : Type 0 where
+  pub how : Paused
+  pub runs : RunsOn s u how
+  pub moves : Moves s (paused_line how s.breaks) text u
+
+-- n breaks stopped the threads on the way from state s to state x
+abbrev pub Passed : ℕ → DebugAt → DebugAt → Type 0
+Passed zero s x = x ≡ s
+Passed (suc n) s x = (y : DebugAt) × (m : Met) × Passed n s y × RunsOn y x (paused.Met m)
+
+-- from state s past n breaks: fewer stopped the threads only where something else did behind them; where memory for the
+-- way is wanting they stay at the last
+pub record RunsPast (s : DebugAt) (n : ℕ) (u : DebugAt) (how : Paused) : Type 0 where
+  pub passed : ℕ
+  pub few : passed ≤ n
+  pub last : DebugAt
+  pub way : Passed passed s last
+  pub runs : RunsOn last u how ⊎ ((u ≡ last) × (how ≡ paused.Fault fault.NoMemory))
+  pub all : is_met how ≡ true → passed ≡ n
+
+pub record Passes (s : DebugAt) (n : ℕ) (text : List ℕ) (u : DebugAt) : Type 0 where
+  pub how : Paused
+  pub runs : RunsPast s n u how
+  pub moves : Moves s (paused_line how s.breaks) text u
 
 -- the way without its last steps
 pub record GoesBack (s : DebugAt) (steps : ℕ) (text : List ℕ) (u : DebugAt) : Type 0 where
@@ -220,8 +316,8 @@ pub record GoesBack (s : DebugAt) (steps : ℕ) (text : List ℕ) (u : DebugAt) 
 
 -- back to behind the last step, before the one that led here, behind which a break holds
 pub record Reverses (s : DebugAt) (text : List ℕ) (u : DebugAt) : Type 0 where
-  pub found : Option ℕ
-  pub goes : GoesBackTo shared_memory thread_code (gathered_log s.log) s.breaks s.opening s.legs u.legs found
+  pub found : Option Met
+  pub goes : GoesBackUntil shared_memory thread_code (gathered_log s.log) s.breaks (stands_at s.instructions) s.opening s.legs u.legs found
   pub moves : Moves s (reverse_line found s.breaks) text u
 
 -- the move to a place, by the break there; or that the replay does not come there, and nothing changed
@@ -242,8 +338,22 @@ pub record Reaches (s : DebugAt) (thread place : ℕ) (text : List ℕ) (u : Deb
 
 -- one more break
 pub record Breaks (s : DebugAt) (b : Break) (text : List ℕ) (u : DebugAt) : Type 0 where
-  pub is : text ≡ break_line (length s.breaks)
+  pub is : text ≡ break_line (break_count s)
   pub more : u ≡ with_breaks s (s.breaks ++ b ∷ [])
+
+-- one more break, at an instruction
+pub record BreaksAt (s : DebugAt) (place : CodePlace) (text : List ℕ) (u : DebugAt) : Type 0 where
+  pub is : text ≡ break_line (break_count s)
+  pub more : u ≡ with_instructions s (s.instructions ++ place ∷ [])
+
+-- that of the first function that is called so
+abbrev pub BreaksIn : DebugAt → Word → ℕ → List ℕ → DebugAt → Type 0
+BreaksIn s name n text u = (place : CodePlace) × IsMeant s.code name n place × BreaksAt s place text u
+
+-- or there is none, and nothing changed
+abbrev pub IsNoInstruction : DebugAt → Word → ℕ → List ℕ → DebugAt → Type 0
+IsNoInstruction s name n text u =
+    ((NoneCalled s.code.source name (length s.code.functions) × (text ≡ no_function)) ⊎ (IsShort s.code name n × (text ≡ no_instruction))) × (u ≡ s)
 
 -- the range is shown, as far as memory can be had; or it passes the memory's end
 pub record AreShown (s : DebugAt) (r : ByteRange) (text : List ℕ) : Type 0 where
@@ -277,6 +387,14 @@ pub record AreTold (s : DebugAt) (r : Role) (address : ℕ) (text : List ℕ) : 
   pub within : address + 1 ≤ length (memory_bytes shared_memory s.world)
   pub is : IsBody (sought_line (sought_at s r address) (events_of (gathered_log s.log) (sought_at s r address) 0 s.world.threads)) text
 
+-- what an object is, if there is one of that number
+abbrev pub IsObject : DebugAt → ℕ → Option Count → List ℕ → Type 0
+IsObject s object None text = text ≡ no_object
+IsObject s object (Some c) text = IsBody (object_text (gathered_log s.log) s.power s.world.threads object c) text
+
+abbrev pub counted : DebugAt → ℕ → Option Count
+counted s object = count_of_object (shared_memory.objects s.world.memory.fixed) s.world.memory.counts object
+
 -- a byte alone
 abbrev pub byte_at : ℕ → ByteRange
 byte_at address = record { from = address; len = 1 }
@@ -285,19 +403,30 @@ byte_at address = record { from = address; len = 1 }
 abbrev pub Wants : DebugAt → List ℕ → DebugAt → Type 0
 Wants s text u = (text ≡ memory_line) × (u ≡ s)
 
+-- to behind the event that wrote a byte's block last; or nobody did, and nothing changed
+pub record GoesToWriter (s : DebugAt) (address : ℕ) (text : List ℕ) (u : DebugAt) : Type 0 where
+  pub within : address + 1 ≤ length (memory_bytes shared_memory s.world)
+  pub goes : ((e : EventAt) × IsFirstEvent (gathered_log s.log) (sought_at s role.Writer address) s.world.threads e × (Reaches s e.thread (e.place + 1) text u ⊎ Wants s text u))
+      ⊎ (NoEvent (gathered_log s.log) (sought_at s role.Writer address) s.world.threads × (text ≡ nobody_line) × (u ≡ s))
+
 abbrev pub Replies : Command → DebugAt → List ℕ → DebugAt → Type 0
 Replies (Step thread steps) s text u = Steps s thread steps text u
 Replies (Event thread events) s text u = MakesEvents s thread events text u
+Replies (Finish thread) s text u = Finishes s thread text u
 Replies Continue s text u = Continues s text u ⊎ Wants s text u
+Replies (Again passes) s text u = Passes s passes text u
 Replies (Back steps) s text u = GoesBack s steps text u ⊎ Wants s text u
 Replies Reverse s text u = Reverses s text u ⊎ Wants s text u
 Replies (Goto thread place) s text u = Reaches s thread place text u ⊎ Wants s text u
+Replies (GotoWriter address) s text u = GoesToWriter s address text u ⊎ (ArePast s (byte_at address) text × (u ≡ s))
+Replies (Function name n) s text u = BreaksIn s name n text u ⊎ (IsNoInstruction s name n text u ⊎ Wants s text u)
 Replies (Place thread place) s text u = Breaks s (break.Place thread place) text u ⊎ Wants s text u
 Replies (Write range) s text u = ((b : Break) × IsWriteOfRange s.power range.from range.len b × Breaks s b text u) ⊎ Wants s text u
-Replies Delete s text u = (text ≡ no_breaks) × (u ≡ with_breaks s [])
+Replies Delete s text u = (text ≡ no_breaks) × (u ≡ without_breaks s)
 Replies Threads s text u = IsBody (standing_text s.form s.world) text × (u ≡ s)
 Replies (Where thread) s text u = IsWhere s.form thread (slice_get s.world.threads thread) text × (u ≡ s)
 Replies (Around thread n) s text u = IsAround s.log thread n (slice_get s.world.threads thread) text × (u ≡ s)
+Replies (Object object) s text u = IsObject s object (counted s object) text × (u ≡ s)
 Replies (Writer address) s text u = (AreTold s role.Writer address text ⊎ ArePast s (byte_at address) text) × (u ≡ s)
 Replies (Readers address) s text u = (AreTold s role.Reader address text ⊎ ArePast s (byte_at address) text) × (u ≡ s)
 Replies (Bytes range) s text u = (AreShown s range text ⊎ ArePast s range text) × (u ≡ s)

@@ -1,7 +1,8 @@
 -- Which events made a version of an object, and which read it (LeBlanc and Mellor-Crummey 1987).
-use Rattle.std.specs.Prelude.{ℕ, zero, suc, ◌+◌, ◌==◌, ◌&&◌, Bool, true, false, List, [], ◌∷◌, ◌++◌, Option, Some, None, codes}
+use Rattle.std.specs.Prelude.{◌≡◌, ℕ, zero, suc, ◌+◌, ◌<◌, ◌==◌, ◌&&◌, Bool, true, false, List, [], ◌∷◌, ◌++◌, Option, Some, None, codes, slice_get}
 use Rattle.std.specs.List.{list_any}
 use Rattle.std.specs.Fmt.{decimal}
+use Rattle.rw_objects.specs.declared.count.Count.{Count}
 use Rattle.rw_objects.specs.declared.entry.Entry.{Entry}
 use Rattle.rw_objects.specs.declared.touch.Found.{Found}
 use Rattle.rw_objects.specs.declared.touch.Found.TheVariants as found
@@ -9,6 +10,8 @@ use Rattle.join_laws.specs.declared.flat.Flat.{Flat}
 use Rattle.join_laws.specs.declared.flat.Flat.TheVariants.{Known, Clash}
 use Rattle.event_core.specs.Threads.{ThreadAt}
 use Rattle.replay_laws.specs.Log.{Log}
+use Rattle.replica.specs.declared.diverging.EventAt.{EventAt}
+use Rattle.replica.specs.Objects.{object_text as bytes_of_object}
 use Rattle.debugger.specs.declared.touched.Role.{Role}
 use Rattle.debugger.specs.declared.touched.Role.TheVariants as role
 use Rattle.debugger.specs.declared.touched.Sought.{Sought}
@@ -49,6 +52,38 @@ abbrev pub events_of : {State : Type 0} → Log → Sought → ℕ → List (Thr
 events_of log s thread [] = []
 events_of log s thread (t ∷ ts) = events_of_thread log s thread t.places ++ events_of log s (thread + 1) ts
 
+-- none of a thread's first events did
+abbrev pub NoEventOfThread : Log → Sought → (thread places : ℕ) → Type 0
+NoEventOfThread log s thread places = (q : ℕ) → q < places → is_sought_item s (log.entry thread q) ≡ false
+
+-- the first of a thread's first events that did
+pub record IsFirstOfThread (log : Log) (s : Sought) (thread places p : ℕ) : Type 0 where
+  pub made : p < places
+  pub sought : is_sought_item s (log.entry thread p) ≡ true
+  pub first : NoEventOfThread log s thread p
+
+abbrev pub IsFoundOfThread : Log → Sought → (thread places : ℕ) → Option ℕ → Type 0
+IsFoundOfThread log s thread places None = NoEventOfThread log s thread places
+IsFoundOfThread log s thread places (Some p) = IsFirstOfThread log s thread places p
+
+-- of the events that threads made, those of threads below n did not
+abbrev pub NoEventBelow : {State : Type 0} → Log → Sought → List (ThreadAt State) → ℕ → Type 0
+NoEventBelow {State} log s threads n = (t : ℕ) → t < n → (at : ThreadAt State) → slice_get threads t ≡ Some at → NoEventOfThread log s t at.places
+
+-- the first of them, by thread and place, that did
+pub record IsFirstEvent {State : Type 0} (log : Log) (s : Sought) (threads : List (ThreadAt State)) (e : EventAt) : Type 0 where
+  pub at : ThreadAt State
+  pub thread : slice_get threads e.thread ≡ Some at
+  pub first : IsFirstOfThread log s e.thread at.places e.place
+  pub none : NoEventBelow log s threads e.thread
+
+abbrev pub NoEvent : {State : Type 0} → Log → Sought → List (ThreadAt State) → Type 0
+NoEvent {State} log s threads = (t : ℕ) (at : ThreadAt State) → slice_get threads t ≡ Some at → NoEventOfThread log s t at.places
+
+abbrev pub IsFoundEvent : {State : Type 0} → Log → Sought → List (ThreadAt State) → Option EventAt → Type 0
+IsFoundEvent log s threads None = NoEvent log s threads
+IsFoundEvent log s threads (Some e) = IsFirstEvent log s threads e
+
 abbrev pub role_words : Role → List ℕ
 role_words role.Writer = codes " written by"
 role_words role.Reader = codes " read by"
@@ -60,3 +95,17 @@ or_nobody (b ∷ bs) = b ∷ bs
 -- `object O version V written by T.P`
 abbrev pub sought_line : Sought → List ℕ → List ℕ
 sought_line s events = codes "object " ++ (decimal s.object ++ (codes " version " ++ (decimal s.version ++ (role_words s.role ++ (or_nobody events ++ 10 ∷ [])))))
+
+-- a version of an object, and what is sought of it
+abbrev pub sought_of : Role → ℕ → Count → Sought
+sought_of r object c = record { role = r; object = object; version = c.version }
+
+abbrev pub told_of : {State : Type 0} → Log → List (ThreadAt State) → Sought → List ℕ
+told_of log threads s = sought_line s (events_of log s 0 threads)
+
+-- `object O bytes F..L version V reads R`, which of the events that threads made wrote that version, and which read it;
+-- in blocks of 2 ^ power bytes
+abbrev pub object_text : {State : Type 0} → Log → ℕ → List (ThreadAt State) → ℕ → Count → List ℕ
+object_text log power threads object c =
+    codes "object " ++ (decimal object ++ (codes " " ++ (bytes_of_object power object ++ (codes " version " ++ (decimal c.version ++ (codes " reads " ++ (decimal c.reads ++ (10 ∷
+    (told_of log threads (sought_of role.Writer object c) ++ told_of log threads (sought_of role.Reader object c))))))))))

@@ -1,5 +1,6 @@
 //! What lines ask a debugger for.
 
+use crate::word::Word;
 use wasm_types::ByteRange;
 
 /// What the debugger can be asked for.
@@ -9,16 +10,24 @@ pub enum Command {
     Step { thread: u32, steps: u32 },
     /// Steps of a thread, up to behind so many events of it.
     Event { thread: u32, events: u32 },
+    /// Steps of a thread, up to behind the return of the function that it is in.
+    Finish { thread: u32 },
     /// Turns of all threads, up to a break.
     Continue,
+    /// Turns of all threads, past so many breaks and up to the next.
+    Again { passes: u32 },
     /// Back by so many steps.
     Back { steps: u32 },
     /// Back to the break before.
     Reverse,
     /// To where a thread has made so many events, from the beginning on.
     Goto { thread: u32, place: u32 },
+    /// The same, to behind the event that wrote the block of this byte last.
+    GotoWriter { address: u32 },
     /// A break behind the event of a thread that has then made so many.
     Place { thread: u32, place: u32 },
+    /// A break behind a step after which a thread stands at this instruction of the function that is called so.
+    Function { name: Word, instruction: u32 },
     /// A break behind the writes of a range of bytes.
     Write(ByteRange),
     /// No more breaks.
@@ -29,6 +38,8 @@ pub enum Command {
     Where { thread: u32 },
     /// What the log has of so many of a thread's last events, and of its next.
     Around { thread: u32, events: u32 },
+    /// Which bytes an object is, its version, who wrote that, and who read it.
+    Object { object: u32 },
     /// Which event wrote the block of this byte last.
     Writer { address: u32 },
     /// Which events read what was written there last.

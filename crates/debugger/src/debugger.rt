@@ -2,14 +2,19 @@
 
 use crate::opening::WasmSession;
 use debug_views::PlaceWriter;
+use integer_machine::CodePlace;
 use replay_breaks::Break;
 use wasm_types::Block;
+use wasm_world::Valid;
 
 /// A debugger of the replay of a gathered log of a module and a plan. Contracts see by `at_of` where it stands.
 #[derive(Drop)]
 pub struct Debugger<'a> {
+    pub(crate) valid: &'a Valid,
     pub(crate) session: WasmSession<'a>,
     pub(crate) places: PlaceWriter<'a>,
     pub(crate) block: Block,
     pub(crate) breaks: Vec<Break>,
+    /// The instructions at which there are breaks.
+    pub(crate) instructions: Vec<CodePlace>,
 }

@@ -1,13 +1,14 @@
 //! The lines of answers that take no memory.
 
-ghost use Rattle.std.specs.Prelude.{◌≡◌, ◌<◌, ◌≤◌, IfSome, length};
-ghost use Rattle.debugger.specs.Replies.{back_line, fault_words, ceased_words, gone_line, stopped_line, unreached_line, reverse_line, break_line, IsStopOf};
+ghost use Rattle.std.specs.Prelude.{◌≡◌, ◌≤◌, IfSome, length};
+ghost use Rattle.debugger.specs.Replies.{back_line, fault_words, ceased_words, gone_line, stopped_line, unreached_line, reverse_line, break_line, paused_line, IsPauseOf, IsStopOf};
+ghost use Rattle.replay_session.specs.declared.paused.Paused.TheVariants as paused;
 
 use arrayvec::ArrayString;
 use debug_views::stop_words;
 use itoa::Buffer;
 use replay_breaks::{Break, Stopped};
-use replay_session::{Ceased, Gone};
+use replay_session::{Ceased, Gone, Met, Paused};
 use wasm_replay::ReplayFault;
 
 /// Why a replay does not go on, in words.
@@ -68,6 +69,24 @@ pub(crate) fn stopped_line(stopped: Stopped, breaks: &[Break]) -> ArrayString<64
     line
 }
 
+/// Where all threads stopped, perhaps at a break at an instruction.
+pub(crate) fn paused_line(how: Paused, breaks: &[Break]) -> ArrayString<64>
+    requires { IsPauseOf how breaks.now }
+    ensures { result.bytes ≡ paused_line how breaks.now }
+{
+    match how {
+        Paused::Met(Met::Break(index)) => stopped_line(Stopped::Break(index), breaks),
+        Paused::Met(Met::Test(_)) => {
+            let mut line = ArrayString::<64>::new();
+            line.push_str("stopped instruction\n");
+            line
+        }
+        Paused::Finished => stopped_line(Stopped::Finished, breaks),
+        Paused::Stuck => stopped_line(Stopped::Stuck, breaks),
+        Paused::Fault(fault) => stopped_line(Stopped::Fault(fault), breaks),
+    }
+}
+
 /// That a place was not reached, and where all threads stopped.
 pub(crate) fn unreached_line(stopped: Stopped, breaks: &[Break]) -> ArrayString<64>
     requires { IsStopOf stopped breaks.now }
@@ -79,13 +98,13 @@ pub(crate) fn unreached_line(stopped: Stopped, breaks: &[Break]) -> ArrayString<
     line
 }
 
-/// At which break of the list a move back ends.
-pub(crate) fn reverse_line(found: Option<usize>, breaks: &[Break]) -> ArrayString<64>
-    requires { IfSome found (λ index. index < length breaks.now) }
+/// At which break a move back ends.
+pub(crate) fn reverse_line(found: Option<Met>, breaks: &[Break]) -> ArrayString<64>
+    requires { IfSome found (λ m. IsPauseOf (paused.Met m) breaks.now) }
     ensures { result.bytes ≡ reverse_line found breaks.now }
 {
     match found {
-        Some(index) => stopped_line(Stopped::Break(index), breaks),
+        Some(met) => paused_line(Paused::Met(met), breaks),
         None => {
             let mut line = ArrayString::<64>::new();
             line.push_str("no break before\n");

@@ -8,22 +8,29 @@
 
 mod answer;
 mod around;
+mod code_tests;
 mod command;
 mod debugger;
 mod debugging;
+mod functions;
 mod heads;
 mod help;
 mod kept;
 mod lines;
+mod made_by;
 mod moves;
+mod objects;
 mod opening;
 mod questions;
 mod reading;
+mod running;
+mod seeking;
 mod shown_bytes;
 mod standing;
 mod talking;
 mod touched;
 mod way;
+mod word;
 
 pub use answer::Answer;
 pub use command::{Command, Line};
@@ -31,3 +38,4 @@ pub use debugger::Debugger;
 pub use debugging::{DebugFault, debug_log};
 pub use talking::{Respond, TalkFault, talk};
 pub use touched::{Role, Sought};
+pub use word::Word;

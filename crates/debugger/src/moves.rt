@@ -5,13 +5,13 @@ ghost use Rattle.wasm_world.specs.Plans.{IsPlanOf};
 ghost use Rattle.wasm_replay.specs.Replays.{IsNotOpened, IsOfRun};
 ghost use Rattle.debugger.specs.Answers.{answer_text};
 ghost use Rattle.debugger.specs.At.{at_of, CanOpen};
-ghost use Rattle.debugger.specs.Replies.{IsLed, IsMove, IsOpening, Replies, Steps, MakesEvents, Breaks, Wants};
-ghost use Rattle.debugger.specs.declared.command.Command.TheVariants.{Continue, Back, Reverse, Goto, Delete};
+ghost use Rattle.debugger.specs.Replies.{break_count, IsLed, IsMove, IsOpening, Replies, Steps, MakesEvents, Breaks, Wants};
+ghost use Rattle.debugger.specs.declared.command.Command.TheVariants.{Back, Goto, Delete};
 
 use crate::answer::{Answer, line, lines, wanting};
 use crate::command::Command;
 use crate::debugger::Debugger;
-use crate::heads::{back_line, break_line, gone_line, reverse_line, stopped_line, unreached_line};
+use crate::heads::{back_line, break_line, gone_line, stopped_line, unreached_line};
 use crate::help::help_text;
 use crate::opening::open_session;
 use crate::standing::standing_text;
@@ -62,15 +62,17 @@ impl<'a> Debugger<'a> {
             return Err(unopened(valid, plan, log, wanting));
         };
         Ok(Debugger {
+            valid,
             session,
             places,
             block: memory_limits(valid.module(), log.key().profile).block,
             breaks: Vec::new(alloc),
+            instructions: Vec::new(alloc),
         })
     }
 
     /// An answer behind a move: a line, and how threads stand.
-    fn moved(&self, alloc: Global, head: ArrayString<64>) -> Answer
+    pub(crate) fn moved(&self, alloc: Global, head: ArrayString<64>) -> Answer
         ensures tells { IsMove head.bytes (at_of self.now).form (at_of self.now).world (answer_text result) }
         ensures led { IsLed (at_of self.now) }
     {
@@ -98,17 +100,6 @@ impl<'a> Debugger<'a> {
         self.moved(alloc, gone_line(gone))
     }
 
-    /// Goes on with all threads, up to a break.
-    fn run_on(&mut self, alloc: Global) -> Answer
-        ensures opens { self.new.session.replay.opens ≡ self.old.session.replay.opens }
-        ensures replies { Replies Continue (at_of self.old) (answer_text result) (at_of self.new) }
-    {
-        match self.session.run_on(alloc, &self.breaks) {
-            Ok(stopped) => self.moved(alloc, stopped_line(stopped, &self.breaks)),
-            Err(NoMemory) => wanting(),
-        }
-    }
-
     /// Goes back.
     fn back(&mut self, alloc: Global, steps: u32) -> Answer
         requires { CanOpen self.old }
@@ -121,20 +112,8 @@ impl<'a> Debugger<'a> {
         }
     }
 
-    /// Goes back to the break before.
-    fn reverse(&mut self, alloc: Global) -> Answer
-        requires { CanOpen self.old }
-        ensures opens { self.new.session.replay.opens ≡ self.old.session.replay.opens }
-        ensures replies { Replies Reverse (at_of self.old) (answer_text result) (at_of self.new) }
-    {
-        match self.session.reverse(alloc, &self.breaks) {
-            Ok(found) => self.moved(alloc, reverse_line(found, &self.breaks)),
-            Err(NoMemory) => wanting(),
-        }
-    }
-
     /// Goes to where a thread has made so many events, from the opening world on.
-    fn go_to(&mut self, alloc: Global, thread: u32, place: u32) -> Answer
+    pub(crate) fn go_to(&mut self, alloc: Global, thread: u32, place: u32) -> Answer
         requires { CanOpen self.old }
         ensures opens { self.new.session.replay.opens ≡ self.old.session.replay.opens }
         ensures replies { Replies (Goto thread place) (at_of self.old) (answer_text result) (at_of self.new) }
@@ -151,12 +130,19 @@ impl<'a> Debugger<'a> {
         }
     }
 
+    /// How many breaks there are.
+    pub(crate) fn break_count(&self) -> usize
+        ensures { result ≡ break_count (at_of self.now) }
+    {
+        self.breaks.len() + self.instructions.len()
+    }
+
     /// Puts a break behind the others.
     fn put_break(&mut self, alloc: Global, one: Break) -> Answer
         ensures opens { self.new.session.replay.opens ≡ self.old.session.replay.opens }
         ensures replies { Breaks (at_of self.old) one (answer_text result) (at_of self.new) ⊎ Wants (at_of self.old) (answer_text result) (at_of self.new) }
     {
-        let number = self.breaks.len();
+        let number = self.break_count();
         match self.breaks.push(one) {
             Ok(()) => Answer::of_line(alloc, break_line(number)),
             Err(_) => wanting(),
@@ -169,6 +155,7 @@ impl<'a> Debugger<'a> {
         ensures replies { Replies Delete (at_of self.old) (answer_text result) (at_of self.new) }
     {
         self.breaks.clear();
+        self.instructions.clear();
         line(alloc, NO_BREAKS)
     }
 }
@@ -189,10 +176,14 @@ impl<'a> Respond for Debugger<'a> {
         match command {
             Command::Step { thread, steps } => self.step(alloc, thread, steps),
             Command::Event { thread, events } => self.event(alloc, thread, events),
+            Command::Finish { thread } => self.finish(alloc, thread),
             Command::Continue => self.run_on(alloc),
+            Command::Again { passes } => self.run_past(alloc, passes),
             Command::Back { steps } => self.back(alloc, steps),
             Command::Reverse => self.reverse(alloc),
             Command::Goto { thread, place } => self.go_to(alloc, thread, place),
+            Command::GotoWriter { address } => self.go_to_writer(alloc, address),
+            Command::Function { name, instruction } => self.break_in(alloc, &name, instruction),
             Command::Place { thread, place } => self.put_break(
                 alloc,
                 Break::Place { thread, place },
@@ -205,6 +196,7 @@ impl<'a> Respond for Debugger<'a> {
             Command::Threads => lines(standing_text(alloc, &self.places, self.session.world())),
             Command::Where { thread } => self.show_thread(alloc, thread),
             Command::Around { thread, events } => self.around(alloc, thread, events),
+            Command::Object { object } => self.show_object(alloc, object),
             Command::Writer { address } => self.tell(alloc, Role::Writer, address),
             Command::Readers { address } => self.tell(alloc, Role::Reader, address),
             Command::Bytes(range) => self.show(alloc, range),

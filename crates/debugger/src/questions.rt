@@ -4,21 +4,25 @@ ghost use Rattle.std.specs.Prelude.{◌≡◌, ◌⊎◌, slice_get};
 ghost use Rattle.block_objects.specs.Objects.{block_of, block_object};
 ghost use Rattle.debugger.specs.Answers.{answer_text};
 ghost use Rattle.debugger.specs.At.{at_of};
-ghost use Rattle.debugger.specs.Replies.{AreShown, ArePast, AreTold, IsAround, IsWhere, byte_at, sought_at};
+ghost use Rattle.debugger.specs.Replies.{AreShown, ArePast, AreTold, IsAround, IsObject, IsWhere, byte_at, counted, sought_at};
 
 use crate::answer::{Answer, line, lines};
 use crate::around::around_text;
 use crate::debugger::Debugger;
+use crate::objects::object_text;
 use crate::shown_bytes::bytes_text;
 use crate::standing::thread_text;
 use crate::touched::{Role, Sought, sought_text};
 use block_objects::block_number;
-use debug_views::is_in_view;
+use debug_views::{is_in_view, versions};
 use std::alloc::Global;
 use wasm_types::{Block, ByteRange};
 
 /// What is said of bytes that the memory does not have.
-const NO_BYTES: &str = "error: the memory ends before\n";
+pub(crate) const NO_BYTES: &str = "error: the memory ends before\n";
+
+/// What is said of an object that there is not.
+const NO_OBJECT: &str = "error: no such object\n";
 
 /// What is said of a thread that there is not.
 const NO_THREAD: &str = "error: no such thread\n";
@@ -70,8 +74,22 @@ impl<'a> Debugger<'a> {
         }
     }
 
+    /// Shows what an object is.
+    pub(crate) fn show_object(&self, alloc: Global, object: u32) -> Answer
+        ensures { IsObject (at_of self.now) object (counted (at_of self.now) object) (answer_text result) }
+    {
+        let world = self.session.world();
+        match versions(world, object) {
+            None => line(alloc, NO_OBJECT),
+            Some(count) => {
+                let log = self.session.log();
+                lines(object_text(alloc, world, log, self.block, object, count))
+            }
+        }
+    }
+
     /// What is asked of the version of a byte's block.
-    fn sought_at(&self, role: Role, address: u32) -> Sought
+    pub(crate) fn sought_at(&self, role: Role, address: u32) -> Sought
         ensures { result ≡ sought_at (at_of self.now) role address }
     {
         let object = object_at(self.block, address);

@@ -1,10 +1,11 @@
 //! Commands out of lines.
 
-ghost use Rattle.std.specs.Prelude.{◌≡◌, ◌≤◌, ◌∷◌, [], length};
+ghost use Rattle.std.specs.Prelude.{◌≡◌, ◌≤◌, ◌∷◌, [], Some, length};
 ghost use Rattle.text_lines.specs.Parts.{words};
-ghost use Rattle.debugger.specs.Lines.{number_of, alone, with_one, with_two, command_of, line_of};
+ghost use Rattle.debugger.specs.Lines.{number_of, alone, function_break, of_thread, of_number, with_number, with_numbers, with_one, with_two, word_of, command_of, line_of};
 
 use crate::command::{Command, Line};
+use crate::word::word_of;
 use text_lines::{Parts, bits_32, is_integer};
 use wasm_types::ByteRange;
 
@@ -13,7 +14,11 @@ const STEP: &[u8] = b"step";
 
 const EVENT: &[u8] = b"event";
 
+const FINISH: &[u8] = b"finish";
+
 const CONTINUE: &[u8] = b"continue";
+
+const AGAIN: &[u8] = b"again";
 
 const BACK: &[u8] = b"back";
 
@@ -22,6 +27,8 @@ const REVERSE: &[u8] = b"reverse";
 const GOTO: &[u8] = b"goto";
 
 const PLACE: &[u8] = b"place";
+
+const BREAK: &[u8] = b"break";
 
 const WRITE: &[u8] = b"write";
 
@@ -33,7 +40,11 @@ const WHERE: &[u8] = b"where";
 
 const AROUND: &[u8] = b"around";
 
+const OBJECT: &[u8] = b"object";
+
 const WRITER: &[u8] = b"writer";
+
+const GOTO_WRITER: &[u8] = b"writer!";
 
 const READERS: &[u8] = b"readers";
 
@@ -81,32 +92,39 @@ fn alone(word: &[u8]) -> Option<Command>
     }
 }
 
-/// The command of a word and a number.
-fn with_one(word: &[u8], first: &[u8]) -> Option<Command>
-    ensures { result ≡ with_one word.now (number_of first.now) }
+/// The command of a word and a thread.
+fn of_thread(word: &[u8], thread: u32) -> Option<Command>
+    ensures { result ≡ of_thread word.now thread }
 {
-    let number = number(first)?;
     if word == STEP {
-        Some(Command::Step {
-            thread: number,
-            steps: 1,
-        })
+        Some(Command::Step { thread, steps: 1 })
     } else if word == EVENT {
-        Some(Command::Event {
-            thread: number,
-            events: 1,
-        })
+        Some(Command::Event { thread, events: 1 })
+    } else if word == FINISH {
+        Some(Command::Finish { thread })
+    } else if word == WHERE {
+        Some(Command::Where { thread })
+    } else if word == AROUND {
+        Some(Command::Around { thread, events: 5 })
+    } else {
+        None
+    }
+}
+
+/// The command of a word and a number that is no thread's.
+fn of_number(word: &[u8], number: u32) -> Option<Command>
+    ensures { result ≡ of_number word.now number }
+{
+    if word == AGAIN {
+        Some(Command::Again { passes: number })
     } else if word == BACK {
         Some(Command::Back { steps: number })
-    } else if word == WHERE {
-        Some(Command::Where { thread: number })
-    } else if word == AROUND {
-        Some(Command::Around {
-            thread: number,
-            events: 5,
-        })
+    } else if word == OBJECT {
+        Some(Command::Object { object: number })
     } else if word == WRITER {
         Some(Command::Writer { address: number })
+    } else if word == GOTO_WRITER {
+        Some(Command::GotoWriter { address: number })
     } else if word == READERS {
         Some(Command::Readers { address: number })
     } else {
@@ -114,12 +132,39 @@ fn with_one(word: &[u8], first: &[u8]) -> Option<Command>
     }
 }
 
-/// The command of a word and two numbers.
-fn with_two(word: &[u8], first: &[u8], second: &[u8]) -> Option<Command>
-    ensures { result ≡ with_two word.now (number_of first.now) (number_of second.now) }
+/// The command of a word and a number.
+fn with_number(word: &[u8], number: u32) -> Option<Command>
+    ensures { result ≡ with_number word.now (Some number) }
 {
-    let first = number(first)?;
-    let second = number(second)?;
+    match of_thread(word, number) {
+        Some(command) => Some(command),
+        None => of_number(word, number),
+    }
+}
+
+/// A break at an instruction of a function that is called so.
+fn function_break(name: &[u8], instruction: u32) -> Option<Command>
+    ensures { result ≡ function_break (word_of name.now) (Some instruction) }
+{
+    let name = word_of(name)?;
+    Some(Command::Function { name, instruction })
+}
+
+/// The command of two words.
+fn with_one(word: &[u8], first: &[u8]) -> Option<Command>
+    ensures { result ≡ with_one word.now first.now }
+{
+    if word == BREAK {
+        function_break(first, 0)
+    } else {
+        with_number(word, number(first)?)
+    }
+}
+
+/// The command of a word and two numbers.
+fn with_numbers(word: &[u8], first: u32, second: u32) -> Option<Command>
+    ensures { result ≡ with_numbers word.now (Some first) (Some second) }
+{
     let range = ByteRange {
         from: first,
         len: second,
@@ -155,6 +200,17 @@ fn with_two(word: &[u8], first: &[u8], second: &[u8]) -> Option<Command>
         Some(Command::Bytes(range))
     } else {
         None
+    }
+}
+
+/// The command of three words.
+fn with_two(word: &[u8], first: &[u8], second: &[u8]) -> Option<Command>
+    ensures { result ≡ with_two word.now first.now second.now }
+{
+    if word == BREAK {
+        function_break(first, number(second)?)
+    } else {
+        with_numbers(word, number(first)?, number(second)?)
     }
 }
 

@@ -54,12 +54,14 @@ fn ends(command: Command) -> bool
 {
     match command {
         Command::Quit => true,
-        Command::Step { .. } | Command::Event { .. } | Command::Continue => false,
-        Command::Back { .. } | Command::Reverse | Command::Goto { .. } => false,
-        Command::Place { .. } | Command::Write(_) | Command::Delete => false,
+        Command::Step { .. } | Command::Event { .. } | Command::Finish { .. } => false,
+        Command::Continue | Command::Again { .. } | Command::Back { .. } => false,
+        Command::Reverse | Command::Goto { .. } | Command::GotoWriter { .. } => false,
+        Command::Place { .. } | Command::Function { .. } | Command::Write(_) => false,
+        Command::Delete => false,
         Command::Threads | Command::Where { .. } | Command::Bytes(_) => false,
-        Command::Around { .. } | Command::Writer { .. } | Command::Readers { .. } => false,
-        Command::Way | Command::Help => false,
+        Command::Around { .. } | Command::Object { .. } | Command::Way => false,
+        Command::Writer { .. } | Command::Readers { .. } | Command::Help => false,
     }
 }
 

@@ -97,7 +97,7 @@ impl Sought {
     }
 
     /// Whether the event of an item did so.
-    fn is_item(&self, item: Option<&Flat<Entry>>) -> bool
+    pub(crate) fn is_item(&self, item: Option<&Flat<Entry>>) -> bool
         ensures { result ≡ is_sought_item self.now (option_copied item.entry) }
     {
         match item {

@@ -1,0 +1,21 @@
+use Rattle.std.proofs.Common.{inl, subst, List, rules}
+use Rattle.block_objects.specs.SharedMemory.{shared_memory}
+use Rattle.integer_machine.specs.declared.standing.CodePlace.{CodePlace}
+use Rattle.wasm_replay.specs.Replays.{gathered_log}
+use Rattle.wasm_world.specs.ThreadCode.{thread_code}
+use Rattle.replay_breaks.specs.declared.breaks.Break.{Break}
+use Rattle.replay_session.specs.Reverse.{GoesBackUntil}
+use Rattle.debugger.specs.At.{at_of}
+use Rattle.debugger.specs.CodeTests.{stands_at}
+use Rattle.debugger.proofs.debugger.Debugger.reverse.Goals as goal
+
+pub returns-in-Ok-clause-replies : goal.returns-in-Ok-clause-replies
+returns-in-Ok-clause-replies c =
+    let s = at_of c.args.self.now in
+    inl (record {
+      found = c.in-Ok.found;
+      goes = subst (λ (bs : List Break). GoesBackUntil shared_memory thread_code (gathered_log s.log) bs (stands_at s.instructions) s.opening s.legs c.reverse_until.new.self.legs.items c.in-Ok.found) c.deref.ensures.value
+          (subst (λ (ps : List CodePlace). GoesBackUntil shared_memory thread_code (gathered_log s.log) c.deref.result.now (stands_at ps) s.opening s.legs c.reverse_until.new.self.legs.items c.in-Ok.found)
+          c.as_slice.ensures.value c.in-Ok.ensures.goes);
+      moves = search rules;
+    })

@@ -1,0 +1,39 @@
+use Rattle.std.proofs.Common.{[], subst, List, sym, rules}
+use Rattle.block_objects.specs.SharedMemory.{shared_memory}
+use Rattle.integer_machine.specs.declared.standing.CodePlace.{CodePlace}
+use Rattle.event_core.specs.World.{world_of}
+use Rattle.wasm_replay.specs.Replays.{gathered_log}
+use Rattle.wasm_world.specs.ThreadCode.{thread_code}
+use Rattle.replay_breaks.specs.declared.breaks.Break.{Break}
+use Rattle.replay_breaks.specs.Stops.{StopsAt}
+use Rattle.replay_session.specs.declared.paused.Paused.{Paused}
+use Rattle.replay_session.specs.Pauses.{PausesAt}
+use Rattle.debugger.specs.At.{at_of}
+use Rattle.debugger.specs.CodeTests.{stands_at}
+use Rattle.debugger.specs.Replies.{RunsOn}
+use Rattle.debugger.proofs.Pausing.{none_when, runs_so}
+use Rattle.debugger.proofs.debugger.Debugger.run.Goals as goal
+
+pub returns-in-Ok-clause-runs : goal.returns-in-Ok-clause-runs
+returns-in-Ok-clause-runs c =
+    let s = at_of c.args.self.now in
+    let u = at_of (record c.args.self.now { session = c.run_on.new.self }) in
+    let stopped = c.in-Ok.stopped in
+    subst (λ (p : Paused). RunsOn s u p) (sym c.paused_of.ensures)
+    (runs_so s u stopped (none_when c.args.self.now.instructions c.if-is_empty.ensures)
+    (subst (λ (bs : List Break). StopsAt shared_memory thread_code (gathered_log s.log) s.world [] bs u.world stopped) c.deref.ensures.value c.in-Ok.ensures.stops)
+    c.in-Ok.ensures.right c.in-Ok.ensures.free c.in-Ok.ensures.legs (search rules))
+
+pub returns-in-Ok-run_until-clause-runs : goal.returns-in-Ok-run_until-clause-runs
+returns-in-Ok-run_until-clause-runs c =
+    let s = at_of c.args.self.now in
+    let v = world_of c.run_until.new.self.replay.world in
+    let how = c.in-Ok-run_until.how in
+    record {
+      pauses = subst (λ (bs : List Break). PausesAt shared_memory thread_code (gathered_log s.log) bs (stands_at s.instructions) s.world v how) c.deref-2.ensures.value
+          (subst (λ (ps : List CodePlace). PausesAt shared_memory thread_code (gathered_log s.log) c.deref-2.result.now (stands_at ps) s.world v how) c.as_slice.ensures.value c.in-Ok-run_until.ensures.pauses);
+      right = c.in-Ok-run_until.ensures.right;
+      free = c.in-Ok-run_until.ensures.free;
+      legs = c.in-Ok-run_until.ensures.legs;
+      same = search rules;
+    }
