@@ -120,9 +120,9 @@ drawn('counter.wasm', COUNTER, 'counter.plan', TWO, 7, steps=3)
 # hunts: the least number whose run is caught, or a line for each run
 def quote(text): return "'%s'" % text if ' ' in text else text
 def hunt_words(files, until, unless, more): return 'hunt %s' % files + ''.join(" --until " + quote(t) for t in until) + ''.join(' --unless ' + quote(t) for t in unless) + more
-def hunted(module_file, module, plan_file, plan, until=(), unless=(), first=0, runs=1000, timeouts=False, size=4096, jobs=(1, 2, 4)):
+def hunted(module_file, module, plan_file, plan, until=(), unless=(), first=0, runs=1000, timeouts=False, size=4096, jobs=(1, 2, 4), quiet=False):
     """Hunts with some numbers of jobs: each writes the same."""
-    more = (' --from %d' % first if first else '') + (' --runs %d' % runs if runs != 1000 else '') + (' --timeouts now' if timeouts else '') + (' --size %d' % size if size != 4096 else '')
+    more = (' --from %d' % first if first else '') + (' --runs %d' % runs if runs != 1000 else '') + (' --timeouts now' if timeouts else '') + (' --size %d' % size if size != 4096 else '') + (' --quiet' if quiet else '')
     words = hunt_words('%s %s' % (module_file, plan_file), until, unless, more)
     def is_sign(line, texts): return any(line.startswith(t) for t in texts) if until or unless else line.split(' ')[2:3] in (['trap'], ['waiting'])
     def signs_of(world): return [line for line in world.report().splitlines() if is_sign(line, until)]
@@ -152,13 +152,13 @@ def hunted_by_threads(module_file, module, plan_file, plan, schedule, number, wo
     """One thread, whose runs by threads are all one run."""
     world = run_of('', module, plan, schedule)
     command('hunt %s %s --threads%s' % (module_file, keep(plan_file, plan), words), world.lines(digest(module, plan), number, 4096), 'caught %d\n' % number + told)
-def run_lines(module_file, module, plan_file, plan, first, runs, timeouts=False, jobs=(1, 3)):
+def run_lines(module_file, module, plan_file, plan, first, runs, timeouts=False, jobs=(1, 3), quiet=False):
     """A line for each run."""
     lines = ''
     for number in range(first, first + runs):
         world = World(module, plan); world.draw(number, timeouts)
         lines += '%d %s\n' % (number, ', '.join(world.outcome(t) for t in world.threads))
-    for n in jobs: command('hunt %s %s --list --from %d --runs %d%s --jobs %d' % (module_file, plan_file, first, runs, ' --timeouts now' if timeouts else '', n), lines)
+    for n in jobs: command('hunt %s %s --list --from %d --runs %d%s%s --jobs %d' % (module_file, plan_file, first, runs, ' --timeouts now' if timeouts else '', ' --quiet' if quiet else '', n), lines)
 HUNTED = ('counter.wasm', COUNTER, 'counter.plan', TWO)
 hunted(*HUNTED, until=('thread 1 i32 2', 'thread 0 i32 2'), size=1)
 hunted(*HUNTED, until=('thread 0 i32 3',), first=5)
@@ -168,6 +168,10 @@ hunted(*HUNTED, runs=7, first=2 ** 64 - 8)
 hunted_by_threads('counter.wasm', COUNTER, 'single.plan', plan_of('w'), b'go 0 8\n', 3, " --until 'thread 0 i32 1' --from 3", 'thread 0 i32 1\n')
 command("hunt counter.wasm single.plan --threads --until 'thread 0 i32 2' --runs 5", '', 'refused 71 NotCaught\n', 1)
 run_lines(*HUNTED, 0, 12); run_lines(*HUNTED, 2 ** 64 - 4, 3)
+hunted(*HUNTED, until=('thread 0 i32 3',), first=5, jobs=(2,), quiet=True)
+hunted(*HUNTED, runs=7, jobs=(3,), quiet=True)
+hunted_by_threads('counter.wasm', COUNTER, 'single.plan', plan_of('w'), b'go 0 8\n', 3, " --quiet --until 'thread 0 i32 1' --from 3", 'thread 0 i32 1\n')
+run_lines(*HUNTED, 2, 9, jobs=(2,), quiet=True)
 
 # two readers and a writer
 SHARED = Module([('r', [], 'i32', load(0)), ('s', [], None, [('i32.const', 0), ('i32.const', 7), 'i32.store', 'end'])])
@@ -503,6 +507,9 @@ for more in (' --jobs 2', ' --shrink', ' --print schedule', ' --list'):
     usage(HUNT_WORDS + ' --threads' + more, "'hunt' takes '--threads' without '--jobs', '--shrink', '--print schedule' and '--list'")
 usage(HUNT_WORDS + ' --steps 1000000001', "'--steps <N>' takes a number from 0 to 1000000000")
 usage(HUNT_WORDS + ' --block 96', "'--block <N>' takes 64, 128, 256, 512, 1024, 2048 or 4096")
+usage(HUNT_WORDS + ' --quiet --quiet', "the argument '--quiet' cannot be used multiple times\n\nUsage: wreplay hunt [OPTIONS] <MODULE> <PLAN>\n\nFor more information, try '--help'.")
+unexpected(RECORD + ' --random --quiet', '--quiet', 'record --random <MODULE> <PLAN>', True)
+unexpected(REPLAY + ' --quiet', '--quiet', 'replay <MODULE> <PLAN> <PIECES>', True)
 for size, text in ((0, '31 Empty'), (4097, '32 TooMany')): command(HUNT_WORDS + ' --size %d' % size, '', 'refused %s\n' % text, 1)
 command('hunt none.wasm counter.plan', '', 'refused 44 SourceFailed\n', 1)
 command('hunt counter.wasm none.plan', '', 'refused 44 SourceFailed\n', 1)
@@ -687,21 +694,21 @@ def debugged(name, *talks, more=''):
 for name in ('missing', 'hole', 'clash', 'version', 'object', 'kind', 'longer', 'shorter', 'noend', 'twoends', 'stray', 'pastend', 'old', 'otherorder'):
     logs[name] = 'counter.wasm', COUNTER, 'counter.plan', TWO, kept[name + '.pieces'].decode()
 logs['whole'] = 'counter.wasm', COUNTER, 'counter.plan', TWO, FIRST.lines(D, 0, 4096)
-EVERY = ('opening', 'through', 'alone', 'nobody', 'places', 'writes', 'elsewhere', 'first', 'legs', 'rounds', 'events', 'gotos', 'reverse', 'who', 'asked', 'around', 'ranges', 'help', 'bad', 'long', 'blank', 'unended', 'last', 'behind', 'only')
+EVERY = ('opening', 'through', 'alone', 'nobody', 'places', 'writes', 'elsewhere', 'first', 'legs', 'rounds', 'events', 'gotos', 'reverse', 'who', 'asked', 'around', 'finish', 'again', 'objects', 'writers', 'functions', 'ranges', 'help', 'bad', 'long', 'blank', 'unended', 'last', 'behind', 'only')
 debugged('whole', *EVERY)
 debugged('whole', 'unended', more=' --why')
 command('debug counter.wasm counter.plan whole.pieces')
 command('debug counter.wasm counter.plan whole.pieces < empty')
-for name in ('second', 'third', 'fourth'): debugged(name, 'alone', 'legs', 'rounds', 'places', 'events', 'gotos', 'reverse', 'who')
-for name in ('hole', 'missing', 'clash', 'version', 'object', 'kind', 'longer', 'shorter', 'noend', 'twoends'): debugged(name, 'through', 'alone', 'events', 'gotos', 'around')
+for name in ('second', 'third', 'fourth'): debugged(name, 'alone', 'legs', 'rounds', 'places', 'events', 'gotos', 'reverse', 'who', 'again', 'functions')
+for name in ('hole', 'missing', 'clash', 'version', 'object', 'kind', 'longer', 'shorter', 'noend', 'twoends'): debugged(name, 'through', 'alone', 'events', 'gotos', 'around', 'finish', 'again', 'writers', 'functions')
 for name in ('stray', 'pastend', 'old', 'otherorder', 'bounded', 'nothing'): debugged(name, 'through')
 command('debug counter.wasm counter.plan empty < through.lines', talk(COUNTER, TWO, '', TALKS['through']))
-debugged('readers', 'crossed', 'writes', 'places', 'events', 'gotos', 'reverse', 'who', 'around')
+debugged('readers', 'crossed', 'writes', 'places', 'events', 'gotos', 'reverse', 'who', 'around', 'again', 'objects')
 debugged('border64', 'border', 'through', 'who'); debugged('border4096', 'border', 'who'); debugged('past64', 'alone'); debugged('page4096', 'border')
-debugged('reader', 'grown', 'pair', 'who'); debugged('grower', 'grown', 'rounds', 'who', 'gotos')
+debugged('reader', 'grown', 'pair', 'who', 'objects'); debugged('grower', 'grown', 'rounds', 'who', 'gotos')
 for name in ('limited1', 'limited2', 'endless1'): debugged(name, 'pair', 'through', 'events', 'gotos', 'reverse')
 debugged('five', 'crossed', 'through', 'rounds', 'places', 'reverse', 'who', 'around'); debugged('ever', 'alone'); debugged('alone', 'through'); debugged('traps', 'through', 'alone', 'events', 'reverse', 'asked'); debugged('exchangef', 'writes')
-for name in ('named', 'midst', 'halted', 'unbegun', 'begun1', 'begins2'): debugged(name, 'standing', 'asked')
+for name in ('named', 'midst', 'halted', 'unbegun', 'begun1', 'begins2'): debugged(name, 'standing', 'asked', 'finish', 'functions', 'named')
 logs['deep'] = 'stands.wasm', STANDS, 'deep.plan', plan_of('deep', 'seven'), DEEP.lines(digest(STANDS, plan_of('deep', 'seven')), 0, 4096)
 debugged('deep', 'deep')
 for number, name in enumerate(('first', 'third', 'fourth', 'readers', 'five', 'limited1', 'limited2', 'grower', 'hole', 'version', 'midst', 'begins1')):

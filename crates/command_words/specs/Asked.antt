@@ -139,6 +139,7 @@ pub record IsHuntAsked (rows : List Row) (r : HuntRequest) : Type 0 where
   pub has_block : IsBlockOf (number_of 4294967295 (first_of (codes "block") rows)) r.block
   pub has_form : IsFormAsked rows r.form r.shrinks
   pub has_by_threads : IsByThreadsAsked rows r.by_threads
+  pub has_quiet : r.quiet ≡ has_flag (codes "quiet") rows
 
 -- the values that a parser found name these files of a replay
 pub record AreFilesAsked (rows : List Row) (r : ReplayRequest) : Type 0 where

@@ -82,8 +82,12 @@ with_range_of_runs a = with_rule
 abbrev pub with_forms : App → App
 with_forms a = with_rule (with_rule (with_rule a (flag_rule (codes "shrink"))) (default_rule (codes "print") (codes "pieces"))) (flag_rule (codes "list"))
 
+-- what is made of it, what is written, and whether nothing is said meanwhile
+abbrev pub with_quiet_forms : App → App
+with_quiet_forms a = with_rule (with_forms a) (flag_rule (codes "quiet"))
+
 abbrev pub hunting : App
-hunting = with_why (with_forms (with_sizes (with_range_of_runs (with_signs (on_program (new_app (codes "hunt")))))))
+hunting = with_why (with_quiet_forms (with_sizes (with_range_of_runs (with_signs (on_program (new_app (codes "hunt")))))))
 
 -- a replay's files
 abbrev pub on_log : App → App

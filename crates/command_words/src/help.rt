@@ -302,7 +302,11 @@ what each thread came to, as in
 
 so that other programs can judge what no line alone tells. On many machines,
 each takes numbers of its own by --from and --runs, and a run that is caught is
-named by its number alone.";
+named by its number alone.
+
+Where standard error is a terminal, it shows from two seconds on how many runs
+were made, and how many a second, until the hunt is over; --quiet leaves that
+out.";
 
 /// How `hunt` refuses.
 pub(crate) const HUNT_REFUSALS: &str = "\

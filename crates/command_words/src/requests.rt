@@ -89,6 +89,8 @@ pub struct HuntRequest<'a> {
     /// Whether the schedule of the run that is caught is made small.
     pub shrinks: bool,
     pub form: HuntForm,
+    /// Whether nothing is said of how far the hunt is while it makes runs.
+    pub quiet: bool,
 }
 
 /// A replay: the files of the module, the plan and the piece lines, and the threads that take turns first.

@@ -222,6 +222,11 @@ static OF_HUNT: &[ArgumentRow] = &[
         takes: Takes::Nothing,
         help: "Write a line for each run, and catch none",
     },
+    ArgumentRow {
+        name: "quiet",
+        takes: Takes::Nothing,
+        help: "Show nothing on a terminal of how far the hunt is",
+    },
     WHY,
 ];
 

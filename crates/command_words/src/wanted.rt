@@ -393,6 +393,7 @@ fn hunt_of<'a>(
         by_threads,
         shrinks,
         form,
+        quiet: has_text(matches, "quiet", "true"),
     })
 }
 

@@ -12,6 +12,7 @@ use crate::files::Files;
 use crate::hunt_answers::{caught_lines, told_of};
 use crate::hunt_schedules::found_schedule;
 use crate::hunt_surveys::{DrawnRuns, LeastCaught, RunLines};
+use crate::made_runs::MadeRuns;
 use crate::program::{Program, read_program};
 use crate::record_answer::RecordAnswer;
 use crate::record_command::check_size;
@@ -95,8 +96,9 @@ fn answer_by<R: Wait>(
 }
 
 /// The run of a number that is caught, by its schedule; None where it has none.
-fn schedule_answer<R: Wait>(
+fn schedule_answer<R: Wait, L: Log>(
     runs: &DrawnRuns<'_, R>,
+    made: &MadeRuns<'_, L>,
     number: u64,
 ) -> Result<Option<RecordAnswer>, NoMemory>
     requires suits { IsPlanOf runs.now.program.now.valid runs.now.program.now.plan }
@@ -106,14 +108,18 @@ fn schedule_answer<R: Wait>(
     ensures answer { IfOk result (λ answer. IfSome answer (IsScheduleAnswer runs.now.program.now.valid runs.now.program.now.plan runs.now.request.now)) }
     ensures none { IfOk result (λ answer. IfNone answer (HasNoSchedule runs.now.program.now.valid runs.now.program.now.plan runs.now.request.now number)) }
 {
-    let Some(picks) = found_schedule(runs, number)? else {
+    let Some(picks) = found_schedule(runs, made, number)? else {
         return Ok(None);
     };
     Ok(Some(answer_by(runs, number, &picks)?))
 }
 
 /// The run of a number that is caught, as it is to be written.
-fn found_answer<R: Wait>(runs: &DrawnRuns<'_, R>, number: u64) -> Result<RecordAnswer, Fault>
+fn found_answer<R: Wait, L: Log>(
+    runs: &DrawnRuns<'_, R>,
+    made: &MadeRuns<'_, L>,
+    number: u64,
+) -> Result<RecordAnswer, Fault>
     requires suits { IsPlanOf runs.now.program.now.valid runs.now.program.now.plan }
     requires some { 0 < runs.now.request.now.size }
     requires few { runs.now.request.now.size ≤ 4096 }
@@ -128,7 +134,7 @@ fn found_answer<R: Wait>(runs: &DrawnRuns<'_, R>, number: u64) -> Result<RecordA
             Err(NoMemory) => Err(Fault::NoMemory),
         };
     }
-    match schedule_answer(runs, number) {
+    match schedule_answer(runs, made, number) {
         Ok(Some(answer)) => Ok(answer),
         Ok(None) => Err(Fault::TooLong),
         Err(NoMemory) => Err(Fault::NoMemory),
@@ -136,9 +142,10 @@ fn found_answer<R: Wait>(runs: &DrawnRuns<'_, R>, number: u64) -> Result<RecordA
 }
 
 /// A line for each run.
-fn listed<T: Threads + Wait + Sync>(
+fn listed<T: Threads + Wait + Sync, L: Log + Sync>(
     threads: &T,
     runs: DrawnRuns<'_, T>,
+    made: &MadeRuns<'_, L>,
     jobs: usize,
 ) -> Result<RecordAnswer, NoMemory>
     requires suits { IsPlanOf runs.program.now.valid runs.program.now.plan }
@@ -147,15 +154,16 @@ fn listed<T: Threads + Wait + Sync>(
 {
     let alloc = runs.alloc;
     let range = runs.request.range;
-    let lines = RunLines { runs };
+    let lines = RunLines { runs, made };
     let text = survey_numbers(threads, alloc, &lines, range.from, range.count, jobs)?;
     Ok(RecordAnswer::of_text(text.into_bytes(), Vec::new(alloc)))
 }
 
 /// The first run that is caught.
-fn caught<T: Threads + Wait + Sync>(
+fn caught<T: Threads + Wait + Sync, L: Log + Sync>(
     threads: &T,
     runs: DrawnRuns<'_, T>,
+    made: &MadeRuns<'_, L>,
     jobs: usize,
 ) -> Result<RecordAnswer, Fault>
     requires suits { IsPlanOf runs.program.now.valid runs.program.now.plan }
@@ -168,7 +176,7 @@ fn caught<T: Threads + Wait + Sync>(
     ensures refused { IfErr result (IsHuntRefusal runs.entry.program.now.valid runs.entry.program.now.plan runs.entry.request.now) }
 {
     let range = runs.request.range;
-    let least = LeastCaught { runs };
+    let least = LeastCaught { runs, made };
     match survey_numbers(
         threads,
         least.runs.alloc,
@@ -177,18 +185,19 @@ fn caught<T: Threads + Wait + Sync>(
         range.count,
         jobs,
     ) {
-        Ok(Some(number)) => found_answer(&least.runs, number),
+        Ok(Some(number)) => found_answer(&least.runs, made, number),
         Ok(None) => Err(Fault::NotCaught),
         Err(NoMemory) => Err(Fault::NoMemory),
     }
 }
 
 /// The first run by threads that is caught.
-fn hunted_by_threads<T: Threads + Wait + Sync>(
+fn hunted_by_threads<T: Threads + Wait + Sync, L: Log>(
     threads: &T,
     alloc: Global,
     program: &Program,
     request: &HuntRequest<'_>,
+    made: &MadeRuns<'_, L>,
 ) -> Result<RecordAnswer, Fault>
     requires suits { IsPlanOf program.now.valid program.now.plan }
     requires some { 0 < request.now.size }
@@ -197,7 +206,7 @@ fn hunted_by_threads<T: Threads + Wait + Sync>(
     ensures found { IfOk result (IsThreadsAnswer program.now.valid program.now.plan request.now) }
     ensures refused { IfErr result (IsHuntRefusal program.now.valid program.now.plan request.now) }
 {
-    let found = match first_by_threads(threads, alloc, program, request) {
+    let found = match first_by_threads(threads, alloc, program, request, made) {
         Ok(Some(found)) => found,
         Ok(None) => return Err(Fault::NotCaught),
         Err(NoMemory) => return Err(Fault::NoMemory),
@@ -209,11 +218,12 @@ fn hunted_by_threads<T: Threads + Wait + Sync>(
 }
 
 /// What is found of the runs that numbers draw of a program.
-fn hunted_at_random<T: Threads + Wait + Sync>(
+fn hunted_at_random<T: Threads + Wait + Sync, L: Log + Sync>(
     threads: &T,
     alloc: Global,
     program: &Program,
     request: &HuntRequest<'_>,
+    made: &MadeRuns<'_, L>,
 ) -> Result<RecordAnswer, Fault>
     requires suits { IsPlanOf program.now.valid program.now.plan }
     requires some { 0 < request.now.size }
@@ -230,8 +240,8 @@ fn hunted_at_random<T: Threads + Wait + Sync>(
         request,
     };
     match request.form {
-        HuntForm::Pieces | HuntForm::Schedule => caught(threads, runs, jobs),
-        HuntForm::List => match listed(threads, runs, jobs) {
+        HuntForm::Pieces | HuntForm::Schedule => caught(threads, runs, made, jobs),
+        HuntForm::List => match listed(threads, runs, made, jobs) {
             Ok(answer) => Ok(answer),
             Err(NoMemory) => Err(Fault::NoMemory),
         },
@@ -239,11 +249,12 @@ fn hunted_at_random<T: Threads + Wait + Sync>(
 }
 
 /// What is found of the runs of a program. The size of the pieces is judged before.
-fn hunted<T: Threads + Wait + Sync>(
+fn hunted<T: Threads + Wait + Sync, L: Log + Sync>(
     threads: &T,
     alloc: Global,
     program: &Program,
     request: &HuntRequest<'_>,
+    made: &MadeRuns<'_, L>,
 ) -> Result<RecordAnswer, Fault>
     requires { IsPlanOf program.now.valid program.now.plan }
     ensures hunted { IfOk result (IsHunted program.now.valid program.now.plan request.now request.now.by_threads) }
@@ -253,15 +264,16 @@ fn hunted<T: Threads + Wait + Sync>(
         return Err(Fault::Pieces(fault));
     }
     if request.by_threads {
-        hunted_by_threads(threads, alloc, program, request)
+        hunted_by_threads(threads, alloc, program, request, made)
     } else {
-        hunted_at_random(threads, alloc, program, request)
+        hunted_at_random(threads, alloc, program, request, made)
     }
 }
 
 /// What is found of many runs: the pieces or the schedule of the first that is caught, or a line for each. The module is
-/// read and judged, then the plan, then the size of the pieces.
-pub fn hunt<L: Log, T: Threads + Wait + Sync, F: Files>(
+/// read and judged, then the plan, then the size of the pieces. Unless the request is quiet, a record of the target
+/// `PROGRESS` tells `rt` of each run that is made, from the thread that made it, and one more that all are made.
+pub fn hunt<L: Log + Sync, T: Threads + Wait + Sync, F: Files>(
     rt: &L,
     threads: &T,
     alloc: Global,
@@ -275,5 +287,8 @@ pub fn hunt<L: Log, T: Threads + Wait + Sync, F: Files>(
         Ok(program) => program,
         Err(fault) => return Err(fault),
     };
-    hunted(threads, alloc, &program, request)
+    let made = MadeRuns::new(rt, request);
+    let answer = hunted(threads, alloc, &program, request, &made);
+    made.end();
+    answer
 }

@@ -7,6 +7,8 @@ ghost use Rattle.commands.specs.Hunts.{Comes, HasNoSchedule, IsFoundSchedule, le
 
 use crate::hunt_answers::judge;
 use crate::hunt_surveys::DrawnRuns;
+use crate::made_runs::MadeRuns;
+use log::Log;
 use pick_schedule::Schedule;
 use std::sync::Wait;
 use wasm_record::{Trial, shrink};
@@ -30,13 +32,14 @@ fn rests(may_leave: bool, outcomes: &[Outcome]) -> bool
 
 /// The runs by schedules of a program.
 #[derive(Drop)]
-struct SmallRuns<'a, R> {
+struct SmallRuns<'a, R, L> {
     runs: DrawnRuns<'a, R>,
+    made: &'a MadeRuns<'a, L>,
     /// Whether they may leave a thread that could still go on.
     may_leave: bool,
 }
 
-impl<'a, R: Wait> Trial for SmallRuns<'a, R> {
+impl<'a, R: Wait, L: Log> Trial for SmallRuns<'a, R, L> {
     ghost use Rattle.thread_plan.specs.Plans.{IsPlanOf};
     ghost use Rattle.commands.specs.Hunts.{Tries};
 
@@ -46,6 +49,7 @@ impl<'a, R: Wait> Trial for SmallRuns<'a, R> {
 
     fn comes(&self, picks: &Schedule) -> Result<bool, NoMemory> {
         let recording = self.runs.recording_by(picks, 0)?;
+        self.made.add_trial();
         if !rests(self.may_leave, recording.recorded().end().outcomes()) {
             return Ok(false);
         }
@@ -54,8 +58,9 @@ impl<'a, R: Wait> Trial for SmallRuns<'a, R> {
 }
 
 /// The schedule of the run of a number that is caught, made small where that is wanted; None where it has none.
-pub(crate) fn found_schedule<R: Wait>(
+pub(crate) fn found_schedule<R: Wait, L: Log>(
     runs: &DrawnRuns<'_, R>,
+    made: &MadeRuns<'_, L>,
     number: u64,
 ) -> Result<Option<Schedule>, NoMemory>
     requires suits { IsPlanOf runs.now.program.now.valid runs.now.program.now.plan }
@@ -78,6 +83,7 @@ pub(crate) fn found_schedule<R: Wait>(
             program: runs.program,
             request: runs.request,
         },
+        made,
         may_leave: leaves_running(recording.recorded().end().outcomes()),
     };
     let small = shrink(runs.rt, runs.alloc, &trial, drawn)?;

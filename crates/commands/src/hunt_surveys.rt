@@ -9,8 +9,10 @@ ghost use Rattle.pick_schedule.specs.Printing.{AreOfThreads};
 ghost use Rattle.commands.specs.Hunts.{Comes, HasNoSchedule, IsRunOfNumber, IsRunOfPicks, IsScheduleOfNumber, outcomes_text, run_line};
 
 use crate::hunt_answers::judge;
+use crate::made_runs::MadeRuns;
 use crate::program::Program;
 use command_words::HuntRequest;
+use log::Log;
 use pick_schedule::Schedule;
 use std::alloc::Global;
 use std::fmt::Write;
@@ -70,23 +72,25 @@ impl<'a, R: Wait> DrawnRuns<'a, R> {
         record_schedule(self.alloc, valid, plan, number, block, picks, steps)
     }
 
-    /// Whether the run of a number is caught.
-    fn comes(&self, number: u64) -> Result<bool, NoMemory>
+    /// Whether the run of a number is caught, which is one more that was made.
+    fn comes<L: Log>(&self, made: &MadeRuns<'_, L>, number: u64) -> Result<bool, NoMemory>
         requires { IsPlanOf self.now.program.now.valid self.now.program.now.plan }
         ensures { IfOk result (Comes self.now.program.now.valid self.now.program.now.plan self.now.request.now number) }
     {
         let recording = self.recording(number)?;
+        made.add();
         judge(self.alloc, self.request, &recording)
     }
 }
 
 /// The least number whose run is caught.
 #[derive(Drop)]
-pub(crate) struct LeastCaught<'a, R> {
+pub(crate) struct LeastCaught<'a, R, L> {
     pub(crate) runs: DrawnRuns<'a, R>,
+    pub(crate) made: &'a MadeRuns<'a, L>,
 }
 
-impl<'a, R: Wait> Survey for LeastCaught<'a, R> {
+impl<'a, R: Wait, L: Log> Survey for LeastCaught<'a, R, L> {
     ghost use Rattle.thread_plan.specs.Plans.{IsPlanOf};
     ghost use Rattle.commands.specs.Least.{IsLeastCaught};
     ghost use Rattle.commands.specs.Hunts.{Comes};
@@ -102,7 +106,7 @@ impl<'a, R: Wait> Survey for LeastCaught<'a, R> {
     }
 
     fn add(&self, found: &mut Option<u64>, number: u64) -> Result<(), NoMemory> {
-        if found.is_none() && self.runs.comes(number)? {
+        if found.is_none() && self.runs.comes(self.made, number)? {
             *found = Some(number);
         }
         Ok(())
@@ -153,11 +157,12 @@ fn put_run_line(text: &mut String, number: u64, outcomes: &[Outcome]) -> Result<
 
 /// A line for each run.
 #[derive(Drop)]
-pub(crate) struct RunLines<'a, R> {
+pub(crate) struct RunLines<'a, R, L> {
     pub(crate) runs: DrawnRuns<'a, R>,
+    pub(crate) made: &'a MadeRuns<'a, L>,
 }
 
-impl<'a, R: Wait> Survey for RunLines<'a, R> {
+impl<'a, R: Wait, L: Log> Survey for RunLines<'a, R, L> {
     ghost use Rattle.std.specs.Prelude.{string_bytes};
     ghost use Rattle.thread_plan.specs.Plans.{IsPlanOf};
     ghost use Rattle.commands.specs.Least.{AreListed};
@@ -175,6 +180,7 @@ impl<'a, R: Wait> Survey for RunLines<'a, R> {
 
     fn add(&self, found: &mut String, number: u64) -> Result<(), NoMemory> {
         let recording = self.runs.recording(number)?;
+        self.made.add();
         put_run_line(found, number, recording.recorded().end().outcomes())
     }
 

@@ -9,8 +9,10 @@ ghost use Rattle.commands.specs.Hunts.{ComesByThreads, IsCaughtRun, IsRunByThrea
 ghost use Rattle.commands.specs.Least.{NoneIsCaught};
 
 use crate::hunt_answers::judge;
+use crate::made_runs::MadeRuns;
 use crate::program::Program;
 use command_words::HuntRequest;
+use log::Log;
 use std::alloc::Global;
 use std::sync::Wait;
 use std::thread::Threads;
@@ -51,11 +53,12 @@ pub(crate) struct CaughtRun {
 }
 
 /// A run by threads under a number, if it is caught.
-fn caught_by_threads<T: Threads + Wait + Sync>(
+fn caught_by_threads<T: Threads + Wait + Sync, L: Log>(
     threads: &T,
     alloc: Global,
     program: &Program,
     request: &HuntRequest<'_>,
+    made: &MadeRuns<'_, L>,
     number: u64,
 ) -> Result<Option<Recording>, NoMemory>
     requires { IsPlanOf program.now.valid program.now.plan }
@@ -71,6 +74,7 @@ fn caught_by_threads<T: Threads + Wait + Sync>(
         ..
     } = *request;
     let recording = recording_by_threads(threads, alloc, program, times_out, number, block, steps)?;
+    made.add();
     if judge(alloc, request, &recording)? {
         Ok(Some(recording))
     } else {
@@ -79,11 +83,12 @@ fn caught_by_threads<T: Threads + Wait + Sync>(
 }
 
 /// The first run by threads that is caught, of those under the numbers.
-pub(crate) fn first_by_threads<T: Threads + Wait + Sync>(
+pub(crate) fn first_by_threads<T: Threads + Wait + Sync, L: Log>(
     threads: &T,
     alloc: Global,
     program: &Program,
     request: &HuntRequest<'_>,
+    made: &MadeRuns<'_, L>,
 ) -> Result<Option<CaughtRun>, NoMemory>
     requires { IsPlanOf program.now.valid program.now.plan }
     ensures found { IfOk result (λ found. IfSome found (λ x. IsCaughtRun program.now.valid program.now.plan request.now x.number x.recording)) }
@@ -91,7 +96,9 @@ pub(crate) fn first_by_threads<T: Threads + Wait + Sync>(
 {
     for done in 0..request.range.count {
         let number = request.range.from + done;
-        if let Some(recording) = caught_by_threads(threads, alloc, program, request, number)? {
+        if let Some(recording) = caught_by_threads(
+            threads, alloc, program, request, made, number,
+        )? {
             return Ok(Some(CaughtRun { number, recording }));
         }
     }

@@ -37,7 +37,7 @@ fn complain<E: Sink>(errors: &mut E, text: &str) -> u8
 }
 
 /// Does what is asked for.
-fn perform<L: Log, T: Threads + Wait + Sync, F: Files, R: Source, W: Sink, E: Sink>(
+fn perform<L: Log + Sync, T: Threads + Wait + Sync, F: Files, R: Source, W: Sink, E: Sink>(
     rt: &L,
     threads: &T,
     alloc: Global,
@@ -133,9 +133,17 @@ pub fn refuse_words<E: Sink>(errors: &mut E, error: &io::Error, odd: Option<OddW
 
 /// Does what the words ask for, the first of which is the program's name, and answers the exit status: 0 where it is
 /// done, 1 where it is refused, and then `errors` took the line that says so, 2 where the words are not understood.
-/// `rt` logs the path of each file before it is read; `threads` makes the threads of a recording or a replay by
-/// threads.
-pub fn run<L: Log, T: Threads + Wait + Sync, F: Files, R: Source, W: Sink, E: Sink, S: AsStr>(
+/// `rt` logs the path of each file before it is read, and how far a hunt is (`commands::PROGRESS`), which several
+/// threads say at once; `threads` makes the threads of a recording or a replay by threads, and those of a hunt.
+pub fn run<
+    L: Log + Sync,
+    T: Threads + Wait + Sync,
+    F: Files,
+    R: Source,
+    W: Sink,
+    E: Sink,
+    S: AsStr,
+>(
     rt: &L,
     threads: &T,
     alloc: Global,

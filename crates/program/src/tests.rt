@@ -7,10 +7,12 @@ ghost use Rattle.command_words.specs.Asked.{Asks};
 ghost use Rattle.command_words.specs.declared.requests.Request.TheVariants as request;
 ghost use Rattle.program.specs.InMemory.{HasValidModule};
 
+mod far;
+
 use crate::answering::{OddWord, refuse_words, run};
 use byte_streams::{MemorySink, MemorySource};
 use commands::{MemoryFile, MemoryFiles};
-use log::sink::{Discard, Lines, Memory};
+use log::sink::{Discard, Locked};
 use std::alloc::Global;
 use std::convert::AsStr;
 use std::io::{self, ErrorKind};
@@ -88,13 +90,14 @@ struct Case<'a> {
     write_fails_at: Option<u64>,
 }
 
-/// What the program did, and the paths that it noted, one behind the other.
+/// What the program did, the paths that it noted, one behind the other, and the lines of how far a hunt was.
 #[derive(Drop)]
 struct Done {
     status: u8,
     output: MemorySink,
     errors: MemorySink,
     noted: Vec<u8>,
+    far: Vec<u8>,
 }
 
 /// What a sink took, as text.
@@ -102,15 +105,16 @@ fn text(sink: &MemorySink) -> &str {
     str::from_utf8(sink.taken()).unwrap_or("not UTF-8")
 }
 
-/// The paths in the lines of a log, one behind the other.
-fn paths(alloc: Global, lines: &Lines) -> Vec<u8> {
-    let mut paths = Vec::new(alloc);
-    for line in lines.as_slice() {
-        if let Some((_, path)) = line.as_str().split_once("] reads ") {
-            let _ = paths.extend_from_slice(path.as_bytes());
+/// What stands behind a mark in the lines of a log that have it, each with an end.
+fn behind_marks(alloc: Global, log: &[u8], mark: &str, end: &str) -> Vec<u8> {
+    let mut found = Vec::new(alloc);
+    for line in str::from_utf8(log).unwrap_or("not UTF-8").lines() {
+        if let Some((_, rest)) = line.split_once(mark) {
+            let _ = found.extend_from_slice(rest.as_bytes());
+            let _ = found.extend_from_slice(end.as_bytes());
         }
     }
-    paths
+    found
 }
 
 /// Runs the program on the files `m`, `p`, `s`, `f` and `l`: a module, a plan, two schedules and piece lines; `w` and
@@ -119,7 +123,7 @@ fn paths(alloc: Global, lines: &Lines) -> Vec<u8> {
 fn run_on<T: Threads + Wait + Sync>(threads: &T, alloc: Global, case: Case<'_>) -> Done
     requires { 0 < case.most }
 {
-    let notes = Memory::new(alloc);
+    let notes = Locked::new(threads, Vec::new(alloc));
     let lines = MemoryFile {
         fails_at: case.read_fails_at,
         ..file("l", case.lines.as_bytes())
@@ -150,11 +154,13 @@ fn run_on<T: Threads + Wait + Sync>(threads: &T, alloc: Global, case: Case<'_>) 
         &mut output,
         &mut errors,
     );
+    let log = notes.into_inner();
     Done {
         status,
         output,
         errors,
-        noted: paths(alloc, &notes.into_lines()),
+        noted: behind_marks(alloc, &log, "] reads ", ""),
+        far: behind_marks(alloc, &log, "[DEBUG progress] ", "\n"),
     }
 }
 

@@ -2,17 +2,19 @@
 //!
 #![tactic(auto)]
 
+mod progress;
+
 ghost use Rattle.std.specs.Prelude.{◌≤◌, ◌<◌, ◌-◌, ◌^◌, IfOk, IfSome, length};
 ghost use Rattle.commands.specs.Files.{IsRead};
 
+use crate::progress::ProgressLine;
 use byte_streams::{Sink, StandardSink, StandardSource};
 use commands::{FileFault, FileState, Files};
-use log::sink::Discard;
 use program::{OddWord, refuse_words, run};
 use std::alloc::Global;
 use std::env::{self, Env, FillError};
 use std::fs::{self, File};
-use std::io::{self, ErrorKind, Read};
+use std::io::{self, ErrorKind, IsTerminal, Read};
 use std::process::ExitCode;
 
 /// The most words that are looked at for one that is not UTF-8.
@@ -140,9 +142,14 @@ fn main(rt: HostRuntime) -> ExitCode {
     let mut source = StandardSource::new(rt.stdin());
     let mut output = StandardSink::new(rt.stdout());
     let mut errors = StandardSink::new(rt.stderr());
+    let progress = if rt.stderr().is_terminal() {
+        Some(ProgressLine::new(rt))
+    } else {
+        None
+    };
     let status = match words(&rt) {
         Ok(words) => run(
-            &Discard,
+            &progress,
             &rt,
             rt.alloc(),
             &words,
