@@ -125,10 +125,10 @@ def wanting_answers(answers, lines, behind, end):
         yield front + b"error: " + told + b"memory\n" + answers(before + after)[len(front) :]
     yield front + head + b"error: memory\n" + answers(lines)[len(whole) :]
     made = re.match(rb"stepped (\d+) memory\n", end)
-    if made and line.startswith((b"step ", b"event ")):
+    if made and line.startswith((b"step ", b"event ", b"finish ")):
         fewer = before + [b"step " + line.split(b" ")[1] + b" " + made[1]]
         yield front + made[0] + answers(fewer + after)[len(front) + len(b"stepped \n" + made[1]) :]
-    if end.startswith(b"stopped memory\n") and line == b"continue":
+    if end.startswith(b"stopped memory\n") and line.startswith((b"continue", b"again ")):
         # Rounds of fewer steps are those of all, and back.
         stood = answers(before + [b"threads"])[len(front) :]
         lacking = steps_in(whole[len(front) :]) - steps_in(b"\n".join(end.split(b"\n")[1 : 1 + stood.count(b"\n")]))
