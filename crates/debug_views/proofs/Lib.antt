@@ -11,3 +11,4 @@ pub mod Noting
 pub mod AtStep
 pub mod Pairs
 pub mod Behind
+pub mod HexBytes

@@ -40,7 +40,7 @@ both : (a b : Bool) → (a && b) ≡ true → (a ≡ true) × (b ≡ true)
 both true b e = (refl, e)
 both false b e = absurd (true≢false (sym e))
 
-ascii_from : (bs : List ℕ) → list_all (λ b. nat_lt b 128) bs ≡ true → IsAscii bs
+pub ascii_from : (bs : List ℕ) → list_all (λ b. nat_lt b 128) bs ≡ true → IsAscii bs
 ascii_from [] e = IsAscii-nil
 ascii_from (b ∷ bs) e = let parts = both _ _ e in IsAscii-cons b bs (ltb-true b 128 parts.0) (ascii_from bs parts.1)
 

@@ -10,6 +10,7 @@ mod blocks;
 mod breaks;
 mod ending;
 mod fault;
+mod hexadecimal;
 mod memory_space;
 mod notes;
 mod numbers;

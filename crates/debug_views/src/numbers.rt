@@ -1,15 +1,14 @@
-//! Numbers in lines.
+//! Lines that stand behind a text, and decimal numbers in them.
 
 ghost use Rattle.std.specs.Prelude.{◌≡◌, ◌+◌, ◌*◌, ◌/◌, ◌%◌, ◌<◌, ◌≤◌, [], ◌∷◌, ◌++◌, OnOk, length, string_bytes};
 ghost use Rattle.std.specs.Fmt.{decimal};
 ghost use Rattle.arrayvec.specs.ArrayString.{array_string_len};
 ghost use Rattle.debug_views.specs.TraceLines.{number_text};
 
+use crate::hexadecimal::put_hexadecimal;
 use arrayvec::ArrayString;
 use itoa::Buffer;
 use std::alloc::AllocError;
-use std::fmt::Write;
-use wasm_types::NoMemory;
 
 /// The last lines of a text, or a part of one, which are pushed behind the others at once.
 pub(crate) type Line = ArrayString<1024>;
@@ -59,6 +58,22 @@ fn put_first(line: &mut Line, number: u64)
     }
 }
 
+/// Puts a number below 10,000 behind a line.
+#[inline(always)]
+fn put_short(line: &mut Line, number: u64)
+    requires room { array_string_len line.old + 4 ≤ 1024 }
+    requires number { number < 10000 }
+    ensures text { line.new.bytes ≡ line.old.bytes ++ decimal number }
+    ensures short { array_string_len line.new ≤ array_string_len line.old + 4 }
+{
+    if number < 100 {
+        put_first(line, number);
+    } else {
+        put_first(line, number / 100);
+        line.push_str(pair(number % 100));
+    }
+}
+
 /// Puts a number of any length behind a line.
 #[inline(never)]
 fn put_long(line: &mut Line, number: u64)
@@ -70,7 +85,26 @@ fn put_long(line: &mut Line, number: u64)
     line.push_str(buffer.format(number));
 }
 
-/// Puts a number behind a line.
+/// Puts a number behind a line, whatever its length.
+#[inline(never)]
+fn put_more(line: &mut Line, number: u64)
+    requires { array_string_len line.old + 20 ≤ 1024 }
+    ensures text { line.new.bytes ≡ line.old.bytes ++ decimal number }
+    ensures short { array_string_len line.new ≤ array_string_len line.old + 20 }
+{
+    if number < 10_000 {
+        put_short(line, number);
+    } else if number < 100_000_000 {
+        put_short(line, number / 10_000);
+        line.push_str(pair(number / 100 % 100));
+        line.push_str(pair(number % 100));
+    } else {
+        put_long(line, number);
+    }
+}
+
+/// Puts a number behind a line, in decimal.
+#[inline(always)]
 pub(crate) fn put_number(line: &mut Line, number: u64)
     requires { array_string_len line.old + 20 ≤ 1024 }
     ensures text { line.new.bytes ≡ line.old.bytes ++ decimal number }
@@ -78,17 +112,8 @@ pub(crate) fn put_number(line: &mut Line, number: u64)
 {
     if number < 10 {
         line.push_str(digit(number));
-    } else if number < 100 {
-        line.push_str(pair(number));
-    } else if number < 10_000 {
-        put_first(line, number / 100);
-        line.push_str(pair(number % 100));
-    } else if number < 1_000_000 {
-        put_first(line, number / 10_000);
-        line.push_str(pair(number / 100 % 100));
-        line.push_str(pair(number % 100));
     } else {
-        put_long(line, number);
+        put_more(line, number);
     }
 }
 
@@ -103,18 +128,16 @@ pub(crate) fn push_line(text: &mut String, line: &mut Line) -> Result<(), AllocE
     Ok(())
 }
 
-/// Puts a number behind a line that stands behind a text: one below 65,536 in decimal, any other in hexadecimal.
+/// Puts a number behind a line: one below 65,536 in decimal, any other in hexadecimal.
 #[inline(always)]
-pub(crate) fn put_value(text: &mut String, line: &mut Line, number: u64) -> Result<(), NoMemory>
+pub(crate) fn put_value(line: &mut Line, number: u64)
     requires { array_string_len line.old + 20 ≤ 1024 }
-    ensures text { OnOk result (string_bytes text.new ++ line.new.bytes ≡ (string_bytes text.old ++ line.old.bytes) ++ number_text number) }
-    ensures short { OnOk result (array_string_len line.new ≤ array_string_len line.old + 20) }
+    ensures text { line.new.bytes ≡ line.old.bytes ++ number_text number }
+    ensures short { array_string_len line.new ≤ array_string_len line.old + 20 }
 {
     if number < LEAST_HEXADECIMAL {
         put_number(line, number);
-        return Ok(());
+    } else {
+        put_hexadecimal(line, number);
     }
-    push_line(text, line)?;
-    write!(text, "0x{number:x}")?;
-    Ok(())
 }

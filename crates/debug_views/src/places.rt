@@ -8,11 +8,11 @@ ghost use Rattle.binary_decoder.specs.Names.{function_name};
 ghost use Rattle.binary_decoder.specs.Offsets.{instruction_offset};
 ghost use Rattle.debug_views.specs.Standing.{PlaceForm, title, offset_text, offset_if, place_text};
 
+use crate::hexadecimal::put_hexadecimal;
 use crate::numbers::{Line, push_line, put_number};
 use binary_decoder::{FunctionNames, InstructionOffsets, fits_line};
 use integer_machine::CodePlace;
 use std::alloc::Global;
-use std::fmt::Write;
 use std::marker::Model;
 use wasm_types::NoMemory;
 
@@ -71,17 +71,17 @@ fn put_name(text: &mut String, line: &mut Line, name: &str) -> Result<(), NoMemo
     Ok(())
 }
 
-/// Puts the offset of an instruction, if there is one, behind a line that stands behind a text.
+/// Puts the offset of an instruction, if there is one, behind a line.
 #[inline(always)]
-fn put_offset(text: &mut String, line: &mut Line, offset: Option<usize>) -> Result<(), NoMemory>
-    ensures text { OnOk result (string_bytes text.new ++ line.new.bytes ≡ (string_bytes text.old ++ line.old.bytes) ++ offset_text offset) }
-    ensures short { OnOk result (array_string_len line.new ≤ array_string_len line.old) }
+fn put_offset(line: &mut Line, offset: Option<usize>)
+    requires { array_string_len line.old + 19 ≤ 1024 }
+    ensures text { line.new.bytes ≡ line.old.bytes ++ offset_text offset }
+    ensures short { array_string_len line.new ≤ array_string_len line.old + 19 }
 {
     if let Some(offset) = offset {
-        push_line(text, line)?;
-        write!(text, " 0x{offset:x}")?;
+        line.push_str(" ");
+        put_hexadecimal(line, offset as u64);
     }
-    Ok(())
 }
 
 impl<'a> PlaceWriter<'a> {
@@ -118,6 +118,7 @@ impl<'a> PlaceWriter<'a> {
     }
 
     /// The offset of the instruction at a place, where offsets are asked for.
+    #[inline(always)]
     fn offset(&self, place: CodePlace) -> Option<usize>
         ensures { result ≡ offset_if self.now place }
     {
@@ -136,14 +137,15 @@ impl<'a> PlaceWriter<'a> {
         line: &mut Line,
         place: CodePlace,
     ) -> Result<(), NoMemory>
-        requires { array_string_len line.old + 85 ≤ 1024 }
+        requires { array_string_len line.old + 104 ≤ 1024 }
         ensures text { OnOk result (string_bytes text.new ++ line.new.bytes ≡ (string_bytes text.old ++ line.old.bytes) ++ place_text self.now place) }
-        ensures short { OnOk result (array_string_len line.new ≤ array_string_len line.old + 85) }
+        ensures short { OnOk result (array_string_len line.new ≤ array_string_len line.old + 104) }
     {
         self.put_title(text, line, place.function)?;
         line.push_str("+");
         put_number(line, u64::from(place.instruction));
-        put_offset(text, line, self.offset(place))
+        put_offset(line, self.offset(place));
+        Ok(())
     }
 
     /// Writes where a thread stands in a function: its title, the number of the instruction that comes next in it, and

@@ -50,63 +50,43 @@ fn rmw_word(op: RmwOp) -> &'static str
     }
 }
 
-/// Puts what was found behind a line that stands behind a text.
+/// Puts what was found behind a line.
 #[inline(always)]
-fn put_found(text: &mut String, line: &mut Line, found: Option<u64>) -> Result<(), NoMemory>
+fn put_found(line: &mut Line, found: Option<u64>)
     requires { array_string_len line.old + 21 ≤ 1024 }
-    ensures text { OnOk result (string_bytes text.new ++ line.new.bytes ≡ (string_bytes text.old ++ line.old.bytes) ++ found_text found) }
-    ensures short { OnOk result (array_string_len line.new ≤ array_string_len line.old + 21) }
+    ensures text { line.new.bytes ≡ line.old.bytes ++ found_text found }
+    ensures short { array_string_len line.new ≤ array_string_len line.old + 21 }
 {
-    match found {
-        None => Ok(()),
-        Some(number) => {
-            line.push_str(" ");
-            put_value(text, line, number)
-        }
+    if let Some(number) = found {
+        line.push_str(" ");
+        put_value(line, number);
     }
 }
 
-/// Puts what was found, and what was left, behind a line that stands behind a text.
+/// Puts what was found, and what was left, behind a line.
 #[inline(always)]
-fn put_changed(
-    text: &mut String,
-    line: &mut Line,
-    found: Option<u64>,
-    left: Option<u64>,
-) -> Result<(), NoMemory>
+fn put_changed(line: &mut Line, found: Option<u64>, left: Option<u64>)
     requires { array_string_len line.old + 45 ≤ 1024 }
-    ensures text { OnOk result (string_bytes text.new ++ line.new.bytes ≡ (string_bytes text.old ++ line.old.bytes) ++ changed_text found left) }
-    ensures short { OnOk result (array_string_len line.new ≤ array_string_len line.old + 45) }
+    ensures text { line.new.bytes ≡ line.old.bytes ++ changed_text found left }
+    ensures short { array_string_len line.new ≤ array_string_len line.old + 45 }
 {
-    put_found(text, line, found)?;
-    match left {
-        None => Ok(()),
-        Some(number) => {
-            line.push_str(" -> ");
-            put_value(text, line, number)
-        }
+    put_found(line, found);
+    if let Some(number) = left {
+        line.push_str(" -> ");
+        put_value(line, number);
     }
 }
 
-/// Puts the number that was looked for, where another was found, behind a line that stands behind a text.
-fn put_unlike(
-    text: &mut String,
-    line: &mut Line,
-    found: Option<u64>,
-    expected: u64,
-) -> Result<(), NoMemory>
+/// Puts the number that was looked for, where another was found, behind a line.
+fn put_unlike(line: &mut Line, found: Option<u64>, expected: u64)
     requires { array_string_len line.old + 25 ≤ 1024 }
-    ensures text { OnOk result (string_bytes text.new ++ line.new.bytes ≡ (string_bytes text.old ++ line.old.bytes) ++ unlike_text found expected) }
-    ensures short { OnOk result (array_string_len line.new ≤ array_string_len line.old + 25) }
+    ensures text { line.new.bytes ≡ line.old.bytes ++ unlike_text found expected }
+    ensures short { array_string_len line.new ≤ array_string_len line.old + 25 }
 {
-    match found {
-        None => Ok(()),
-        Some(number) => {
-            if number == expected {
-                return Ok(());
-            }
+    if let Some(number) = found {
+        if number != expected {
             line.push_str(" not ");
-            put_value(text, line, expected)
+            put_value(line, expected);
         }
     }
 }
@@ -148,149 +128,122 @@ fn put_numbered(line: &mut Line, word: &str, number: u32)
     put_number(line, u64::from(number));
 }
 
-/// Puts a load behind a line that stands behind a text.
+/// Puts a load behind a line.
 #[inline(always)]
-fn put_load(
-    text: &mut String,
-    line: &mut Line,
-    load: Load,
-    address: u32,
-    found: Option<u64>,
-) -> Result<(), NoMemory>
+fn put_load(line: &mut Line, load: Load, address: u32, found: Option<u64>)
     requires { array_string_len line.old + 104 ≤ 1024 }
-    ensures text { OnOk result (string_bytes text.new ++ line.new.bytes ≡ (string_bytes text.old ++ line.old.bytes) ++ (access_text (codes "load") address (load_width load) ++ found_text found)) }
-    ensures short { OnOk result (array_string_len line.new ≤ array_string_len line.old + 104) }
+    ensures text { line.new.bytes ≡ line.old.bytes ++ (access_text (codes "load") address (load_width load) ++ found_text found) }
+    ensures short { array_string_len line.new ≤ array_string_len line.old + 104 }
 {
     put_access(line, "load", address, load.width());
-    put_found(text, line, found)
+    put_found(line, found);
 }
 
-/// Puts an access that may change the number at its address behind a line that stands behind a text.
+/// Puts an access that may change the number at its address behind a line.
 #[inline(always)]
 fn put_change(
-    text: &mut String,
     line: &mut Line,
     word: &str,
     address: u32,
     access: Access,
     found: Option<u64>,
     world: &World<ThreadState<'_>, SharedSpace>,
-) -> Result<(), NoMemory>
+)
     requires room { array_string_len line.old + 79 ≤ 1024 }
     requires word { length word.now ≤ 9 }
-    ensures text { OnOk result (string_bytes text.new ++ line.new.bytes ≡ (string_bytes text.old ++ line.old.bytes) ++ (access_text word.now address (access_width access) ++ changed_text found (number_if (access_width access) address (memory_bytes shared_memory (world_of world.now))))) }
-    ensures short { OnOk result (array_string_len line.new ≤ array_string_len line.old + 79) }
+    ensures text { line.new.bytes ≡ line.old.bytes ++ (access_text word.now address (access_width access) ++ changed_text found (number_if (access_width access) address (memory_bytes shared_memory (world_of world.now)))) }
+    ensures short { array_string_len line.new ≤ array_string_len line.old + 79 }
 {
     put_access(line, word, address, access.width());
-    put_changed(text, line, found, number_in(world, access, address))
+    put_changed(line, found, number_in(world, access, address));
 }
 
-/// Puts a compare-exchange behind a line that stands behind a text.
+/// Puts a compare-exchange behind a line.
 fn put_exchange(
-    text: &mut String,
     line: &mut Line,
     address: u32,
     access: Access,
     expected: u64,
     found: Option<u64>,
     world: &World<ThreadState<'_>, SharedSpace>,
-) -> Result<(), NoMemory>
+)
     requires { array_string_len line.old + 104 ≤ 1024 }
-    ensures text { OnOk result (string_bytes text.new ++ line.new.bytes ≡ (string_bytes text.old ++ line.old.bytes) ++ (access_text (codes "cmpxchg") address (access_width access) ++ (changed_text found (number_if (access_width access) address (memory_bytes shared_memory (world_of world.now))) ++ unlike_text found expected))) }
-    ensures short { OnOk result (array_string_len line.new ≤ array_string_len line.old + 104) }
+    ensures text { line.new.bytes ≡ line.old.bytes ++ (access_text (codes "cmpxchg") address (access_width access) ++ (changed_text found (number_if (access_width access) address (memory_bytes shared_memory (world_of world.now))) ++ unlike_text found expected)) }
+    ensures short { array_string_len line.new ≤ array_string_len line.old + 104 }
 {
-    put_change(text, line, "cmpxchg", address, access, found, world)?;
-    put_unlike(text, line, found, expected)
+    put_change(line, "cmpxchg", address, access, found, world);
+    put_unlike(line, found, expected);
 }
 
-/// Puts `memory.size` behind a line that stands behind a text.
-fn put_size(text: &mut String, line: &mut Line, found: Option<u64>) -> Result<(), NoMemory>
+/// Puts `memory.size` behind a line.
+fn put_size(line: &mut Line, found: Option<u64>)
     requires { array_string_len line.old + 104 ≤ 1024 }
-    ensures text { OnOk result (string_bytes text.new ++ line.new.bytes ≡ (string_bytes text.old ++ line.old.bytes) ++ (codes "size" ++ found_text found)) }
-    ensures short { OnOk result (array_string_len line.new ≤ array_string_len line.old + 104) }
+    ensures text { line.new.bytes ≡ line.old.bytes ++ (codes "size" ++ found_text found) }
+    ensures short { array_string_len line.new ≤ array_string_len line.old + 104 }
 {
     line.push_str("size");
-    put_found(text, line, found)
+    put_found(line, found);
 }
 
-/// Puts `memory.grow` behind a line that stands behind a text. These pages are there behind it.
-fn put_grow(
-    text: &mut String,
-    line: &mut Line,
-    pages: u32,
-    found: Option<u64>,
-    left: u32,
-) -> Result<(), NoMemory>
+/// Puts `memory.grow` behind a line. These pages are there behind it.
+fn put_grow(line: &mut Line, pages: u32, found: Option<u64>, left: u32)
     requires { array_string_len line.old + 104 ≤ 1024 }
-    ensures text { OnOk result (string_bytes text.new ++ line.new.bytes ≡ (string_bytes text.old ++ line.old.bytes) ++ (codes "grow " ++ (decimal pages ++ changed_text found (Some left)))) }
-    ensures short { OnOk result (array_string_len line.new ≤ array_string_len line.old + 104) }
+    ensures text { line.new.bytes ≡ line.old.bytes ++ (codes "grow " ++ (decimal pages ++ changed_text found (Some left))) }
+    ensures short { array_string_len line.new ≤ array_string_len line.old + 104 }
 {
     put_numbered(line, "grow ", pages);
-    put_changed(text, line, found, Some(u64::from(left)))
+    put_changed(line, found, Some(u64::from(left)));
 }
 
-/// Puts a wait behind a line that stands behind a text.
-fn put_wait(
-    text: &mut String,
-    line: &mut Line,
-    address: u32,
-    width: Width,
-    expected: u64,
-    found: Option<u64>,
-) -> Result<(), NoMemory>
+/// Puts a wait behind a line.
+fn put_wait(line: &mut Line, address: u32, width: Width, expected: u64, found: Option<u64>)
     requires { array_string_len line.old + 104 ≤ 1024 }
-    ensures text { OnOk result (string_bytes text.new ++ line.new.bytes ≡ (string_bytes text.old ++ line.old.bytes) ++ (access_text (codes "wait") address (width_of width) ++ (found_text found ++ unlike_text found expected))) }
-    ensures short { OnOk result (array_string_len line.new ≤ array_string_len line.old + 104) }
+    ensures text { line.new.bytes ≡ line.old.bytes ++ (access_text (codes "wait") address (width_of width) ++ (found_text found ++ unlike_text found expected)) }
+    ensures short { array_string_len line.new ≤ array_string_len line.old + 104 }
 {
     put_access(line, "wait", address, width);
-    put_found(text, line, found)?;
-    put_unlike(text, line, found, expected)
+    put_found(line, found);
+    put_unlike(line, found, expected);
 }
 
-/// Puts what an action did, by what was found before it and the world behind it, behind a line that stands behind a
-/// text.
+/// Puts what an action did, by what was found before it and the world behind it, behind a line.
 #[inline(always)]
-fn put_action(
-    text: &mut String,
-    line: &mut Line,
-    seen: &Seen,
-    world: &World<ThreadState<'_>, SharedSpace>,
-) -> Result<(), NoMemory>
+fn put_action(line: &mut Line, seen: &Seen, world: &World<ThreadState<'_>, SharedSpace>)
     requires { array_string_len line.old + 104 ≤ 1024 }
-    ensures text { OnOk result (string_bytes text.new ++ line.new.bytes ≡ (string_bytes text.old ++ line.old.bytes) ++ action_text seen.now.action seen.now.found (measured seen.now.action (world_of world.now))) }
-    ensures short { OnOk result (array_string_len line.new ≤ array_string_len line.old + 104) }
+    ensures text { line.new.bytes ≡ line.old.bytes ++ action_text seen.now.action seen.now.found (measured seen.now.action (world_of world.now)) }
+    ensures short { array_string_len line.new ≤ array_string_len line.old + 104 }
 {
     let found = seen.found;
     match seen.action {
-        Action::Load { load, address } => put_load(text, line, load, address, found),
+        Action::Load { load, address } => put_load(line, load, address, found),
         Action::Store {
             access,
             address,
             ..
-        } => put_change(text, line, "store", address, access, found, world),
+        } => put_change(line, "store", address, access, found, world),
         Action::Rmw {
             op,
             access,
             address,
             ..
-        } => put_change(text, line, rmw_word(op), address, access, found, world),
+        } => put_change(line, rmw_word(op), address, access, found, world),
         Action::CompareExchange {
             access,
             address,
             expected,
             ..
-        } => put_exchange(text, line, address, access, expected, found, world),
-        Action::Size => put_size(text, line, found),
-        Action::Grow { pages } => put_grow(text, line, pages, found, pages_in(world)),
+        } => put_exchange(line, address, access, expected, found, world),
+        Action::Size => put_size(line, found),
+        Action::Grow { pages } => put_grow(line, pages, found, pages_in(world)),
         Action::Wait {
             width,
             address,
             expected,
             ..
-        } => put_wait(text, line, address, width.width(), expected, found),
-        Action::Notify { address, count } => Ok(put_notify(line, address, count)),
-        Action::Resume { address, .. } => Ok(put_numbered(line, "woken ", address)),
-        Action::TimeOut { address, .. } => Ok(put_numbered(line, "timed out ", address)),
+        } => put_wait(line, address, width.width(), expected, found),
+        Action::Notify { address, count } => put_notify(line, address, count),
+        Action::Resume { address, .. } => put_numbered(line, "woken ", address),
+        Action::TimeOut { address, .. } => put_numbered(line, "timed out ", address),
     }
 }
 
@@ -315,9 +268,12 @@ fn put_stopped(
     ensures text { OnOk result (string_bytes text.new ++ line.new.bytes ≡ (string_bytes text.old ++ line.old.bytes) ++ stopped_text (outcome_in (world_of world.now) thread)) }
     ensures short { OnOk result (array_string_len line.new ≤ array_string_len line.old) }
 {
-    match world.outcome(thread) {
-        None | Some(Outcome::Running) => Ok(()),
-        Some(outcome) => put_outcome(text, line, outcome),
+    let Some(machine) = world.machine(thread) else {
+        return Ok(());
+    };
+    match machine.outcome() {
+        Outcome::Running => Ok(()),
+        outcome => put_outcome(text, line, outcome),
     }
 }
 
@@ -334,7 +290,7 @@ pub(crate) fn put_done(
     requires { array_string_len line.old + 105 ≤ 1024 }
     ensures { OnOk result (string_bytes text.new ++ line.new.bytes ≡ (string_bytes text.old ++ line.old.bytes) ++ done_text seen.now.action seen.now.found (measured seen.now.action (world_of world.now)) (outcome_in (world_of world.now) thread)) }
 {
-    put_action(text, line, seen, world)?;
+    put_action(line, seen, world);
     put_stopped(text, line, world, thread)?;
     line.push_str("\n");
     Ok(())

@@ -59,9 +59,9 @@ fn put_standing(
     places: &PlaceWriter<'_>,
     standing: Option<CodePlace>,
 ) -> Result<(), NoMemory>
-    requires { array_string_len line.old + 86 ≤ 1024 }
+    requires { array_string_len line.old + 105 ≤ 1024 }
     ensures text { OnOk result (string_bytes text.new ++ line.new.bytes ≡ (string_bytes text.old ++ line.old.bytes) ++ standing_text places.now standing) }
-    ensures short { OnOk result (array_string_len line.new ≤ array_string_len line.old + 86) }
+    ensures short { OnOk result (array_string_len line.new ≤ array_string_len line.old + 105) }
 {
     let Some(place) = standing else {
         return Ok(());

@@ -1,11 +1,16 @@
-//! Where a thread stands in the code.
+//! How a thread stands, and where in the code.
 
 ghost use Rattle.std.specs.Prelude.{◌≡◌, ◌∷◌, length, option_copied, reverse, slice_get};
 ghost use Rattle.wasm_types.specs.declared.modules.Module.{Module};
+ghost use Rattle.event_core.specs.End.{outcome_of};
+ghost use Rattle.thread_step.specs.Instance.{Instance};
+ghost use Rattle.thread_step.specs.Thread.{move};
+ghost use Rattle.thread_step.specs.ThreadCode.{next_by};
 ghost use Rattle.integer_machine.specs.Meaning.{meaning};
 ghost use Rattle.integer_machine.specs.Standing.{standing, place_of_level};
 
 use thread_words::{Level, Stacks, Stage};
+use wasm_types::Outcome;
 
 /// A place in the code of a module.
 #[derive(Clone, Copy, Debug, PartialEq, Eq)]
@@ -14,6 +19,17 @@ pub struct CodePlace {
     pub function: u32,
     /// The number of an instruction of its body, from 0.
     pub instruction: u32,
+}
+
+/// How a thread stands: one that sleeps waits. No instruction need be read for it.
+pub(crate) fn outcome_of(m: &Stacks) -> Outcome
+    ensures { (within : Module) (instance : Instance) → result ≡ outcome_of (next_by instance (move within instance (meaning within m.now))) }
+{
+    match m.stage {
+        Stage::Running => Outcome::Running,
+        Stage::Sleeping { .. } => Outcome::Waiting,
+        Stage::Ended(outcome) => outcome,
+    }
 }
 
 /// How many functions a thread is in.
