@@ -9,70 +9,11 @@ ghost use Rattle.replay_breaks.specs.Known.{IsLone, AreKnown, GoesAhead};
 
 use crate::breaks::Break;
 use crate::known::{Known, KnownTurns, lone};
+use crate::pace::Pace;
 use event_core::World;
 use replay_gate::{OpenWorld, ReadLog, Replay};
 use rw_objects::{Machine, ObjectSpace};
 use std::alloc::Global;
-
-/// The fewest rounds that are tried at once, and the most.
-const FEWEST: u32 = 16;
-
-const MOST: u32 = 1_048_576;
-
-/// The most rounds that are made turn by turn between two tries.
-const LONGEST: u32 = 4096;
-
-/// How many rounds of local steps are tried at once, and how many rounds are first made turn by turn. Where all that
-/// were tried could be made, twice as many are next; where hardly any could, none are tried for a while, and for
-/// twice as long each time, so that threads that make many events are seldom copied. Only speed depends on it.
-#[derive(Clone, Copy, Debug, PartialEq, Eq)]
-pub(crate) struct Pace {
-    tries: u32,
-    pause: u32,
-    next_pause: u32,
-}
-
-impl Pace {
-    /// The pace at the beginning.
-    pub(crate) fn new() -> Pace {
-        Pace {
-            tries: FEWEST,
-            pause: 0,
-            next_pause: FEWEST,
-        }
-    }
-
-    /// How many rounds are tried now.
-    fn tries(self) -> u32 {
-        if self.pause > 0 { 0 } else { self.tries }
-    }
-
-    /// The pace behind so many rounds that were made at once.
-    fn behind(self, made: u32) -> Pace {
-        if self.pause > 0 {
-            let pause = self.pause - 1;
-            Pace { pause, ..self }
-        } else if made < FEWEST {
-            Pace {
-                tries: FEWEST,
-                pause: self.next_pause,
-                next_pause: self.next_pause.saturating_mul(2).min(LONGEST),
-            }
-        } else if made < self.tries {
-            Pace {
-                tries: made,
-                pause: 0,
-                next_pause: FEWEST,
-            }
-        } else {
-            Pace {
-                tries: self.tries.saturating_mul(2).min(MOST),
-                pause: 0,
-                next_pause: FEWEST,
-            }
-        }
-    }
-}
 
 /// How many rounds, up to so many, can be made before this break may hold behind a local step.
 fn clear_of<M: Machine<S>, S: ObjectSpace>(one: Break, world: &World<M, S>, most: u32) -> u32

@@ -12,10 +12,12 @@ mod free;
 mod known;
 mod laws;
 mod marks;
+mod pace;
 mod running;
 mod watch;
 
 pub use breaks::{Break, Every, ObjectRange, Stopped};
 pub use laws::stops_once;
+pub use pace::Pace;
 pub use running::{Taken, run_to, run_watched, turn_to};
 pub use watch::Watch;

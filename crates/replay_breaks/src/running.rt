@@ -12,11 +12,12 @@ ghost use Rattle.replay_breaks.specs.declared.known.Known.TheVariants as known;
 ghost use Rattle.replay_breaks.specs.Notes.{HasNoted, HasNotedTurns, noted_at, noted_if, event_note, note_of_turn};
 ghost use Rattle.replay_breaks.specs.Stops.{is_step, is_held, is_passed_over, is_done, TurnTakes, TurnStopsAt, StopsAt, StopsRight, StopsFree};
 
-use crate::ahead::{Pace, go_ahead};
+use crate::ahead::go_ahead;
 use crate::breaks::{Break, Stopped};
 use crate::free::{free_steps, goes_freely};
 use crate::known::{Known, KnownTurns, all_known_later, known_turn};
 use crate::marks::{Marks, marks_of, marks_of_item};
+use crate::pace::Pace;
 use crate::watch::{Nobody, Watch};
 use event_core::World;
 use replay_gate::{OpenWorld, ReadLog, Ready, Replay, ReplayFault, Turned};
