@@ -9,8 +9,8 @@ use std::rt::Clock;
 use std::sync::{Mutex, Wait};
 use std::time::{Duration, Instant};
 
-/// How many milliseconds after the beginning of a hunt the line is written first.
-const FIRST: u64 = 2_000;
+/// How many seconds after the beginning of a hunt the line is written first.
+const FIRST: u64 = 2;
 
 /// How many milliseconds after it was written the line is written again.
 const AGAIN: u64 = 250;
@@ -20,8 +20,8 @@ const AGAIN: u64 = 250;
 struct Line {
     /// When the hunt began.
     begun: Option<Instant>,
-    /// How many milliseconds after that the line is to be written.
-    next: u64,
+    /// How long after that the line is to be written.
+    next: Duration,
     /// Whether it stands on the terminal.
     stands: bool,
 }
@@ -56,19 +56,13 @@ fn made_in<K: Source>(pairs: &K) -> Option<u64> {
     made.runs
 }
 
-/// So many milliseconds.
-fn milliseconds(time: Duration) -> u64 {
-    time.as_secs()
-        .saturating_mul(1_000)
-        .saturating_add(u64::from(time.subsec_millis()))
-}
-
-/// So many runs in so many milliseconds, as runs a second.
-fn a_second(runs: u64, milliseconds: u64) -> u64 {
+/// So many runs in that time, as runs a second.
+fn a_second(runs: u64, time: Duration) -> u128 {
+    let milliseconds = time.as_millis();
     if milliseconds == 0 {
         return 0;
     }
-    runs.saturating_mul(1_000) / milliseconds
+    u128::from(runs).saturating_mul(1_000) / milliseconds
 }
 
 impl<R: Wait + Clock + Eprint> ProgressLine<R> {
@@ -76,7 +70,7 @@ impl<R: Wait + Clock + Eprint> ProgressLine<R> {
     pub(crate) fn new(runtime: R) -> ProgressLine<R> {
         let line = Line {
             begun: None,
-            next: FIRST,
+            next: Duration::from_secs(FIRST),
             stands: false,
         };
         ProgressLine {
@@ -95,11 +89,11 @@ impl<R: Wait + Clock + Eprint> ProgressLine<R> {
         };
         let begun = line.begun.unwrap_or(now);
         line.begun = Some(begun);
-        let time = milliseconds(now.duration_since(begun));
+        let time = now.duration_since(begun);
         if time < line.next {
             return;
         }
-        line.next = time.saturating_add(AGAIN);
+        line.next = time.saturating_add(Duration::from_millis(AGAIN));
         line.stands = true;
         let speed = a_second(runs, time);
         let _ = eprint!(self.runtime; "\rhunt: {text}, {speed} a second\x1b[K");
