@@ -39,6 +39,11 @@ one_event turn.Local = omega arith
 one_event (turn.Event input) = omega arith
 one_event (turn.Refused r) = omega arith
 
+pub few_events : (a : Turned) → events_of_answer a ≤ 1
+few_events turned.Done = omega arith
+few_events turned.Local = omega arith
+few_events turned.Event = omega arith
+
 -- an answer that tells of no step is that the thread is done
 pub done_told : (x : Turn) (a : Turned) → answer_of_turn x ≡ Some a → steps_of_answer a ≡ 0 → x ≡ turn.Done
 done_told turn.Done a h none = refl

@@ -7,6 +7,7 @@ pub mod Totals
 pub mod LocalThread
 pub mod TurnAnswers
 pub mod Keeping
+pub mod EventTurns
 pub mod Together
 pub mod GoingAgain
 pub mod UntilTests
@@ -16,4 +17,5 @@ pub mod Refusals
 pub mod Reaching
 pub mod LastHits
 pub mod StepsOfWays
+pub mod LegByLeg
 pub mod Reversing

@@ -1,9 +1,8 @@
 -- What is known of rounds that pause at a break or a test.
-use Rattle.std.proofs.Common.{◌≡◌, ℕ, suc, ◌+◌, ◌≤◌, List, [], length, Option, None, refl, sym, ap, ◌∙◌, subst}
+use Rattle.std.proofs.Common.{◌≡◌, ℕ, suc, List, [], length, Option, None, refl, sym, ap, ◌∙◌, subst}
 use Rattle.rw_objects.specs.Space.{Space, SpaceLaws}
 use Rattle.rw_objects.specs.Code.{Code, CodeLaws}
 use Rattle.event_core.specs.Opening.{IsOpeningWorld}
-use Rattle.event_core.specs.Threads.{all_steps}
 use Rattle.event_core.specs.World.{WorldAt}
 use Rattle.replay_laws.specs.Log.{Log, HasLimits}
 use Rattle.replay_laws.specs.Ordered.{thread_of_turn, ordered_world}
@@ -19,7 +18,7 @@ use Rattle.replay_session.specs.declared.paused.Paused.{Paused}
 use Rattle.replay_session.specs.declared.paused.Paused.TheVariants as paused
 use Rattle.replay_session.specs.Pauses.{paused_of, PausesRight, PausesFree, PausesAt}
 use Rattle.replay_session.specs.Ways.{TurnsLead}
-use Rattle.replay_session.proofs.RoundTurns.{some_made}
+use Rattle.replay_session.proofs.RoundTurns.{turns_made}
 use Rattle.replay_session.proofs.Together.{stopped_behind}
 
 module _ {State Op Reply Value Fixed : Type 0} (space : Space Op Reply Value Fixed) (code : Code State Op Reply Fixed) (log : Log) (breaks : List Break) (holds : WorldAt State Value Fixed → ℕ → Option ℕ) where
@@ -57,11 +56,8 @@ module _ {State Op Reply Value Fixed : Type 0} (space : Space Op Reply Value Fix
     behind v paused.Stuck h = (h.0.out.turns, h.0.out.behind.at)
     behind v (paused.Fault f) h = stopped_behind space code rules log w breaks v (stopped.Fault f) (record { turns = h.turns; world = h.world; behind = h.behind; stops = h.pauses })
 
-    pub pauses_lead : (v : WorldAt State Value Fixed) (p : Paused) (a : ℕ) → PausesAt space code log breaks holds w v p → all_steps code v.threads ≡ all_steps code w.threads + a → TurnsLead space code log a w v
-    pauses_lead v p a h steps = let b = behind v p h in record { turns = b.0; leads = b.1; steps = steps }
-
-    pub pauses_grow : (v : WorldAt State Value Fixed) (p : Paused) → PausesAt space code log breaks holds w v p → all_steps code w.threads ≤ all_steps code v.threads
-    pauses_grow v p h = let b = behind v p h in some_made space code rules log w b.0 v b.1
+    pub pauses_turns : (v : WorldAt State Value Fixed) (p : Paused) → PausesAt space code log breaks holds w v p → (a : ℕ) × TurnsLead space code log a w v
+    pauses_turns v p h = let b = behind v p h in turns_made space code rules log w b.0 v b.1
 
 -- ---- on the log of a run
 

@@ -1,5 +1,5 @@
 -- Where a session stands that goes to a break.
-use Rattle.std.proofs.Common.{◌≡◌, ◌-◌, true, false, List, [], subst}
+use Rattle.std.proofs.Common.{◌≡◌, ◌-◌, true, false, List, [], ap, ◌∙◌, subst}
 use Rattle.rw_objects.specs.Space.{Space}
 use Rattle.rw_objects.specs.Code.{Code}
 use Rattle.event_core.specs.Threads.{all_steps}
@@ -13,28 +13,31 @@ use Rattle.replay_session.specs.declared.legs.Leg.{Leg}
 use Rattle.replay_session.specs.Legs.{with_rounds}
 use Rattle.replay_session.specs.Reaching.{is_break, GoesTo}
 
-module _ {State Op Reply Value Fixed : Type 0} (space : Space Op Reply Value Fixed) (code : Code State Op Reply Fixed) (log : Log) (opened : WorldAt State Value Fixed) (breaks : List Break) (w v : WorldAt State Value Fixed) (old legs : List Leg) where
-  -- a break stopped the rounds
-  pub stands : (s : Stopped) → is_break s ≡ true → StopsAt space code log opened [] breaks v s → legs ≡ with_rounds [] (all_steps code v.threads - all_steps code opened.threads) → GoesTo space code log opened breaks w v old legs s
-  stands (stopped.Break index) h stops is = (stops, is)
-  stands stopped.Finished h stops is = absurd cc
-  stands stopped.Stuck h stops is = absurd cc
-  stands (stopped.Fault f) h stops is = absurd cc
+module _ {State Op Reply Value Fixed : Type 0} (space : Space Op Reply Value Fixed) (code : Code State Op Reply Fixed) (log log' : Log) (opened start : WorldAt State Value Fixed) (same : log' ≡ log) (from : start ≡ opened) where
+  -- rounds from the same opening world on, on the same log
+  same_stops : (breaks : List Break) (v : WorldAt State Value Fixed) (s : Stopped) → StopsAt space code log' start [] breaks v s → StopsAt space code log opened [] breaks v s
+  same_stops breaks v s h = subst (λ l. StopsAt space code l opened [] breaks v s) same (subst (λ o. StopsAt space code log' o [] breaks v s) from h)
 
-  -- none did
-  pub stays : (s : Stopped) (u : WorldAt State Value Fixed) → is_break s ≡ false → StopsAt space code log opened [] breaks u s → v ≡ w → legs ≡ old → GoesTo space code log opened breaks w v old legs s
-  stays (stopped.Break index) u h stops same kept = absurd cc
-  stays stopped.Finished u h stops same kept = record { world = u; stops = stops; same = same; kept = kept }
-  stays stopped.Stuck u h stops same kept = record { world = u; stops = stops; same = same; kept = kept }
-  stays (stopped.Fault f) u h stops same kept = record { world = u; stops = stops; same = same; kept = kept }
+  pub same_right : (s : Stopped) → StopsRight space code log' start s → StopsRight space code log opened s
+  same_right s h = subst (λ l. StopsRight space code l opened s) same (subst (λ o. StopsRight space code log' o s) from h)
 
-module _ {State Op Reply Value Fixed : Type 0} (space : Space Op Reply Value Fixed) (code : Code State Op Reply Fixed) where
-  -- the same from the same log and opening world
-  pub same_stops : (log log' : Log) (opened start v : WorldAt State Value Fixed) (breaks : List Break) (s : Stopped) → log' ≡ log → start ≡ opened → StopsAt space code log' start [] breaks v s → StopsAt space code log opened [] breaks v s
-  same_stops log log' opened start v breaks s a b h = subst (λ l. StopsAt space code l opened [] breaks v s) a (subst (λ o. StopsAt space code log' o [] breaks v s) b h)
+  pub same_free : (s : Stopped) → StopsFree space code log' start s → StopsFree space code log opened s
+  same_free s h = subst (λ l. StopsFree space code l opened s) same (subst (λ o. StopsFree space code log' o s) from h)
 
-  pub same_right : (log log' : Log) (opened opened' : WorldAt State Value Fixed) (s : Stopped) → log' ≡ log → opened' ≡ opened → StopsRight space code log' opened' s → StopsRight space code log opened s
-  same_right log log' opened opened' s a b h = subst (λ l. StopsRight space code l opened s) a (subst (λ o. StopsRight space code log' o s) b h)
+  module _ (breaks : List Break) (w v : WorldAt State Value Fixed) (old legs : List Leg) where
+    -- a break stopped the rounds
+    pub stands : (s : Stopped) (none : List Leg) → is_break s ≡ true → StopsAt space code log' start [] breaks v s → none ≡ [] → legs ≡ with_rounds none (all_steps code v.threads - all_steps code start.threads) → GoesTo space code log opened breaks w v old legs s
+    stands (stopped.Break index) none h stops empty is = (
+      same_stops breaks v (stopped.Break index) stops,
+      is ∙ ap (λ ls. with_rounds ls (all_steps code v.threads - all_steps code start.threads)) empty ∙ ap (λ (o : WorldAt State Value Fixed). with_rounds [] (all_steps code v.threads - all_steps code o.threads)) from,
+    )
+    stands stopped.Finished none h stops empty is = absurd cc
+    stands stopped.Stuck none h stops empty is = absurd cc
+    stands (stopped.Fault f) none h stops empty is = absurd cc
 
-  pub same_free : (log log' : Log) (opened opened' : WorldAt State Value Fixed) (s : Stopped) → log' ≡ log → opened' ≡ opened → StopsFree space code log' opened' s → StopsFree space code log opened s
-  same_free log log' opened opened' s a b h = subst (λ l. StopsFree space code l opened s) a (subst (λ o. StopsFree space code log' o s) b h)
+    -- none did
+    pub stays : (s : Stopped) (u : WorldAt State Value Fixed) → is_break s ≡ false → StopsAt space code log' start [] breaks u s → v ≡ w → legs ≡ old → GoesTo space code log opened breaks w v old legs s
+    stays (stopped.Break index) u h stops at kept = absurd cc
+    stays stopped.Finished u h stops at kept = record { world = u; stops = same_stops breaks u stopped.Finished stops; same = at; kept = kept }
+    stays stopped.Stuck u h stops at kept = record { world = u; stops = same_stops breaks u stopped.Stuck stops; same = at; kept = kept }
+    stays (stopped.Fault f) u h stops at kept = record { world = u; stops = same_stops breaks u (stopped.Fault f) stops; same = at; kept = kept }

@@ -137,6 +137,11 @@ module _ {State Op Reply Value Fixed : Type 0} (space : Space Op Reply Value Fix
   pub some_made : (k : ℕ) (v : WorldAt State Value Fixed) → v ≡ point k → all_steps code w.threads ≤ all_steps code v.threads
   some_made k v is = let e = ap (λ (y : WorldAt State Value Fixed). all_steps code y.threads) is in let g = grows 0 k (omega arith) in omega (arith, e, g)
 
+  pub turns_made : (k : ℕ) (v : WorldAt State Value Fixed) → v ≡ point k → (n : ℕ) × TurnsLead space code log n w v
+  turns_made k v is =
+      let grow = some_made k v is in
+      (all_steps code v.threads - all_steps code w.threads, record { turns = k; leads = is; steps = omega (arith, grow) })
+
   -- ---- whole rounds, and turns behind them
 
   abbrev n : ℕ

@@ -16,7 +16,7 @@ use Rattle.replay_breaks.specs.Stops.{IsBehind, StopsAt}
 use Rattle.replay_breaks.proofs.LocalRounds.{behind_rounds}
 use Rattle.replay_session.specs.Rounds.{RoundsGo}
 use Rattle.replay_session.specs.Ways.{TurnsLead}
-use Rattle.replay_session.proofs.RoundTurns.{few_made, some_made}
+use Rattle.replay_session.proofs.RoundTurns.{few_made, some_made, turns_made}
 
 module _ {State Op Reply Value Fixed : Type 0} (space : Space Op Reply Value Fixed) (code : Code State Op Reply Fixed) (rules : CodeLaws space code) (log : Log) (w : WorldAt State Value Fixed) where
   abbrev n : ℕ
@@ -68,8 +68,5 @@ module _ {State Op Reply Value Fixed : Type 0} (space : Space Op Reply Value Fix
   stopped_behind breaks v stopped.Stuck x = (x.0.turns, x.0.behind.at)
   stopped_behind breaks v (stopped.Fault f) x = (x.turns, x.stops.1 ∙ x.behind.at)
 
-  pub stops_lead : (breaks : List Break) (v : WorldAt State Value Fixed) (s : Stopped) (a : ℕ) → StopsAt space code log w [] breaks v s → all_steps code v.threads ≡ all_steps code w.threads + a → TurnsLead space code log a w v
-  stops_lead breaks v s a x steps = let b = stopped_behind breaks v s x in record { turns = b.0; leads = b.1; steps = steps }
-
-  pub stops_grow : (breaks : List Break) (v : WorldAt State Value Fixed) (s : Stopped) → StopsAt space code log w [] breaks v s → all_steps code w.threads ≤ all_steps code v.threads
-  stops_grow breaks v s x = let b = stopped_behind breaks v s x in some_made space code rules log w b.0 v b.1
+  pub stops_turns : (breaks : List Break) (v : WorldAt State Value Fixed) (s : Stopped) → StopsAt space code log w [] breaks v s → (a : ℕ) × TurnsLead space code log a w v
+  stops_turns breaks v s x = let b = stopped_behind breaks v s x in turns_made space code rules log w b.0 v b.1

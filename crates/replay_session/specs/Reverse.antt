@@ -1,5 +1,5 @@
 -- The steps of a way, and the last of them behind which a break or a test holds.
-use Rattle.std.specs.Prelude.{◌≡◌, ◌⊎◌, ℕ, ◌+◌, ◌-◌, ◌<◌, ◌≤◌, true, false, List, [], ◌∷◌, length, Option, Some, None, option_map}
+use Rattle.std.specs.Prelude.{◌≡◌, ◌⊎◌, ℕ, ◌+◌, ◌-◌, ◌<◌, ◌≤◌, true, false, List, [], ◌∷◌, length, Option, Some, None}
 use Rattle.rw_objects.specs.Space.{Space}
 use Rattle.rw_objects.specs.Code.{Code}
 use Rattle.event_core.specs.Threads.{all_steps}
@@ -12,7 +12,6 @@ use Rattle.replay_breaks.specs.declared.breaks.Break.{Break}
 use Rattle.replay_session.specs.declared.legs.Leg.{Leg}
 use Rattle.replay_session.specs.declared.legs.Leg.TheVariants as leg
 use Rattle.replay_session.specs.declared.paused.Met.{Met}
-use Rattle.replay_session.specs.declared.paused.Met.TheVariants as meets
 use Rattle.replay_session.specs.declared.reverse.Hit.{Hit}
 use Rattle.replay_session.specs.declared.reverse.Tested.{Tested}
 use Rattle.replay_session.specs.declared.reverse.Tested.TheVariants as tested
@@ -91,7 +90,3 @@ module _ {State Op Reply Value Fixed : Type 0} (space : Space Op Reply Value Fix
     abbrev pub GoesBackUntil : (opened : WorldAt State Value Fixed) (old legs : List Leg) → Option Met → Type 0
     GoesBackUntil opened old legs (Some here) = (m : ℕ) × HitsLast (StepOfWay old opened) (steps_of_way old - 1) m here × (legs ≡ first_steps old (m + 1))
     GoesBackUntil opened old legs None = NoneHitBetween (StepOfWay old opened) 0 (steps_of_way old - 1) × (legs ≡ [])
-
-  -- the session goes back so to a break: no other test holds
-  abbrev pub GoesBackTo : List Break → (opened : WorldAt State Value Fixed) (old legs : List Leg) → Option ℕ → Type 0
-  GoesBackTo breaks opened old legs index = GoesBackUntil breaks (λ w t. None) opened old legs (option_map meets.Break index)

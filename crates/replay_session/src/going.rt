@@ -39,11 +39,10 @@ fn go_leg<M: Machine<S> + Drop, S: ObjectSpace, L: ReadLog, O: OpenWorld<M, S>>(
                 }
             }
         }
-        Leg::Rounds { steps } => match go_rounds(alloc, replay, steps) {
-            Ok(true) => Ok(()),
-            Ok(false) => unreachable!(),
-            Err(error) => Err(error),
-        },
+        Leg::Rounds { steps } => {
+            let made = go_rounds(alloc, replay, steps)?;
+            if made { Ok(()) } else { unreachable!() }
+        }
     }
 }
 
@@ -59,10 +58,7 @@ pub(crate) fn go_way<M: Machine<S> + Drop, S: ObjectSpace, L: ReadLog, O: OpenWo
     ensures leads { OnOk result (WayLeads S.meaning M.code (L.log replay.old.log) legs.now (world_of replay.old.world) (world_of replay.new.world)) }
 {
     for leg in legs {
-        match go_leg(alloc, replay, *leg) {
-            Ok(()) => {}
-            Err(error) => return Err(error),
-        }
+        go_leg(alloc, replay, *leg)?;
     }
     Ok(())
 }

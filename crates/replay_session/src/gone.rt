@@ -21,3 +21,9 @@ pub struct Gone {
     /// Why there were no more.
     pub ceased: Ceased,
 }
+
+/// Nothing, for want of memory.
+pub(crate) const WITHOUT_MEMORY: Gone = Gone {
+    steps: 0,
+    ceased: Ceased::Fault(ReplayFault::NoMemory),
+};

@@ -2,7 +2,7 @@
 
 ghost use Rattle.std.specs.Prelude.{◌≡◌, IfOk, IfErr};
 ghost use Rattle.event_core.specs.World.{world_of};
-ghost use Rattle.replay_breaks.specs.Stops.{TurnTakes};
+ghost use Rattle.replay_breaks.specs.Stops.{is_step, is_held, TurnTakes};
 ghost use Rattle.replay_session.specs.Meets.{Untested};
 ghost use Rattle.replay_session.specs.Pauses.{TurnPausesAt, PausesAt};
 
@@ -12,6 +12,26 @@ use replay_breaks::{Break, Taken, turn_to};
 use replay_gate::{OpenWorld, ReadLog, Replay};
 use rw_objects::{Machine, ObjectSpace};
 use std::alloc::Global;
+
+/// Whether a turn made a step.
+pub(crate) fn is_step(taken: Taken) -> bool
+    ensures { result ≡ is_step taken }
+{
+    match taken {
+        Taken::Step => true,
+        Taken::Done | Taken::Held => false,
+    }
+}
+
+/// Whether a turn was held by a shut gate.
+fn is_held(taken: Taken) -> bool
+    ensures { result ≡ is_held taken }
+{
+    match taken {
+        Taken::Held => true,
+        Taken::Done | Taken::Step => false,
+    }
+}
 
 /// A turn of a thread, and behind its step the test of the breaks, and where none of them holds the other test.
 pub(crate) fn turn_until<
@@ -69,17 +89,11 @@ pub(crate) fn rounds_until<
         if next < count {
             match turn_until(alloc, replay, &mut reader, next, breaks, test) {
                 Err(paused) => return paused,
-                Ok(taken) => match taken {
-                    Taken::Done => next += 1,
-                    Taken::Held => {
-                        held = true;
-                        next += 1;
-                    }
-                    Taken::Step => {
-                        made = true;
-                        next += 1;
-                    }
-                },
+                Ok(taken) => {
+                    made |= is_step(taken);
+                    held |= is_held(taken);
+                    next += 1;
+                }
             }
         } else {
             next = 0;

@@ -9,10 +9,10 @@ ghost use Rattle.replay_session.specs.Ways.{ThreadLeads, TurnsLead, LegLeads, Wa
 
 use crate::legs::Leg;
 use crate::paused::{Met, Paused};
-use crate::pausing::turn_until;
+use crate::pausing::{is_step, turn_until};
 use crate::test::Test;
 use crate::threads::is_want_of_memory;
-use replay_breaks::{Break, Taken};
+use replay_breaks::Break;
 use replay_gate::{OpenWorld, ReadLog, Replay};
 use rw_objects::{Machine, ObjectSpace};
 use std::alloc::Global;
@@ -96,22 +96,22 @@ fn test_turn<M: Machine<S>, S: ObjectSpace, L: ReadLog, O: OpenWorld<M, S>, T: T
     ensures tests { IfOk result (TurnTests S.meaning M.code (L.log replay.old.log) breaks.now (T.holds test.now) thread (world_of replay.old.world) (world_of replay.new.world)) }
 {
     match turn_until(alloc, replay, reader, thread, breaks, test) {
-        Ok(taken) => match taken {
-            Taken::Done => Ok(Tested::Rests),
-            Taken::Held => Ok(Tested::Rests),
-            Taken::Step => Ok(Tested::Steps),
-        },
-        Err(paused) => match paused {
-            Paused::Met(met) => Ok(Tested::Hits(met)),
-            Paused::Finished | Paused::Stuck => unreachable!(),
-            Paused::Fault(fault) => {
-                if is_want_of_memory(fault) {
-                    Err(NoMemory)
-                } else {
-                    Ok(Tested::Rests)
-                }
+        Ok(taken) => {
+            if is_step(taken) {
+                Ok(Tested::Steps)
+            } else {
+                Ok(Tested::Rests)
             }
-        },
+        }
+        Err(Paused::Met(met)) => Ok(Tested::Hits(met)),
+        Err(Paused::Fault(fault)) => {
+            if is_want_of_memory(fault) {
+                Err(NoMemory)
+            } else {
+                Ok(Tested::Rests)
+            }
+        }
+        Err(Paused::Finished | Paused::Stuck) => unreachable!(),
     }
 }
 
@@ -134,10 +134,8 @@ fn test_thread<M: Machine<S>, S: ObjectSpace, L: ReadLog, O: OpenWorld<M, S>, T:
     let mut reader = replay.reader();
     let mut last = None;
     for made in 0..steps {
-        match test_turn(alloc, replay, &mut reader, thread, breaks, test) {
-            Err(error) => return Err(error),
-            Ok(tested) => last = last_behind(last, made, tested),
-        }
+        let tested = test_turn(alloc, replay, &mut reader, thread, breaks, test)?;
+        last = last_behind(last, made, tested);
     }
     Ok(last)
 }
@@ -165,14 +163,10 @@ fn test_rounds<M: Machine<S>, S: ObjectSpace, L: ReadLog, O: OpenWorld<M, S>, T:
     let mut next: u32 = 0;
     while made < steps {
         if next < count {
-            match test_turn(alloc, replay, &mut reader, next, breaks, test) {
-                Err(error) => return Err(error),
-                Ok(tested) => {
-                    last = last_behind(last, made, tested);
-                    made += tested.steps();
-                    next += 1;
-                }
-            }
+            let tested = test_turn(alloc, replay, &mut reader, next, breaks, test)?;
+            last = last_behind(last, made, tested);
+            made += tested.steps();
+            next += 1;
         } else if before < made {
             before = made;
             next = 0;
@@ -226,13 +220,9 @@ pub(crate) fn last_hit<
     let mut last = None;
     let mut before: u64 = 0;
     for leg in legs {
-        match test_leg(alloc, replay, *leg, breaks, test) {
-            Err(error) => return Err(error),
-            Ok(of_leg) => {
-                last = last_of(last, before, of_leg);
-                before += leg.steps();
-            }
-        }
+        let of_leg = test_leg(alloc, replay, *leg, breaks, test)?;
+        last = last_of(last, before, of_leg);
+        before += leg.steps();
     }
     Ok(last)
 }

@@ -62,10 +62,7 @@ fn go_round<M: Machine<S>, S: ObjectSpace, L: ReadLog, O: OpenWorld<M, S>>(
         if made >= most {
             return Ok(made);
         }
-        match pass_turn(alloc, replay, reader, thread as u32) {
-            Err(error) => return Err(error),
-            Ok(steps) => made += steps,
-        }
+        made += pass_turn(alloc, replay, reader, thread as u32)?;
     }
     Ok(made)
 }
@@ -131,11 +128,11 @@ pub(crate) fn go_rounds<M: Machine<S> + Drop, S: ObjectSpace, L: ReadLog, O: Ope
     let mut reader = replay.reader();
     let mut missing = steps;
     while missing > 0 {
-        match go_some(alloc, replay, &mut reader, missing) {
-            Err(error) => return Err(error),
-            Ok(0) => return Ok(false),
-            Ok(made) => missing -= made,
+        let made = go_some(alloc, replay, &mut reader, missing)?;
+        if made == 0 {
+            return Ok(false);
         }
+        missing -= made;
     }
     Ok(true)
 }

@@ -14,19 +14,20 @@ ghost use Rattle.replay_session.specs.Gone.{steps_of_turn, CeasesSo, IfFault};
 ghost use Rattle.replay_session.specs.Legs.{steps_of_way, with_thread, with_rounds, without_last};
 ghost use Rattle.replay_session.specs.Pauses.{PausesAt, PausesRight, PausesFree};
 ghost use Rattle.replay_session.specs.Reaching.{is_break, GoesTo};
-ghost use Rattle.replay_session.specs.Reverse.{StepOfWay, IsLastHit, GoesBackUntil, GoesBackTo};
+ghost use Rattle.replay_session.specs.Reverse.{StepOfWay, IsLastHit, GoesBackUntil};
 ghost use Rattle.replay_session.specs.Until.{UntilCeases};
 ghost use Rattle.replay_session.specs.Ways.{ThreadLeads, WayLeads};
 
 use crate::events::go_events;
 use crate::going::go_way;
-use crate::gone::{Ceased, Gone};
-use crate::legs::{Leg, first_steps, put_rounds, put_thread, steps_of_way};
+use crate::gone::{Gone, WITHOUT_MEMORY};
+use crate::legs::{Leg, first_steps, steps_of_way};
 use crate::paused::{Met, Paused};
 use crate::pausing::rounds_until;
+use crate::putting::{put_steps, put_turns};
 use crate::reverse::{Hit, last_hit};
 use crate::sums::steps_of_world;
-use crate::test::{Never, Test};
+use crate::test::Test;
 use crate::threads::{go_thread, steps_of};
 use crate::until::go_until;
 use event_core::World;
@@ -72,15 +73,13 @@ impl<
         ensures legs { IfOk result (λ session. session.legs.items ≡ []) }
         ensures world { IfOk result (λ session. world_of session.replay.world ≡ O.opened opens.now) }
     {
-        match Replay::new(alloc, *opens, *log) {
-            Ok(replay) => Ok(Session {
-                opens: *opens,
-                log: *log,
-                replay,
-                legs: Vec::new(alloc),
-            }),
-            Err(error) => Err(error),
-        }
+        let replay = Replay::new(alloc, *opens, *log)?;
+        Ok(Session {
+            opens: *opens,
+            log: *log,
+            replay,
+            legs: Vec::new(alloc),
+        })
     }
 }
 
@@ -109,6 +108,24 @@ impl<M: Machine<S>, S: ObjectSpace, L: ReadLog, O: OpenWorld<M, S>> Session<M, S
         self.legs.as_slice()
     }
 
+    /// How many steps its way has.
+    fn steps(&self) -> u64
+        ensures { result ≡ steps_of_way self.now.legs.items }
+    {
+        steps_of_way(self.legs.as_slice())
+    }
+
+    /// Its way without so many of its last steps.
+    fn without_last(&self, alloc: Global, steps: u64) -> Result<Vec<Leg>, NoMemory>
+        ensures legs { IfOk result (λ legs. legs.items ≡ without_last steps self.now.legs.items) }
+    {
+        first_steps(
+            alloc,
+            self.legs.as_slice(),
+            self.steps().saturating_sub(steps),
+        )
+    }
+
     /// A turn of a thread: its next step, where the log lets it pass, by which the way goes on. A refusal leaves all as
     /// it was. On a log below that of a run nothing clashes and no thread diverges; on the whole log of a run it is
     /// refused by a shut gate alone.
@@ -127,13 +144,9 @@ impl<M: Machine<S>, S: ObjectSpace, L: ReadLog, O: OpenWorld<M, S>> Session<M, S
         let Ok(()) = self.legs.reserve(1) else {
             return Err(ReplayFault::NoMemory);
         };
-        match self.replay.turn(alloc, thread) {
-            Err(fault) => Err(fault),
-            Ok(turned) => {
-                put_thread(&mut self.legs, thread, steps_of(turned));
-                Ok(turned)
-            }
-        }
+        let turned = self.replay.turn(alloc, thread)?;
+        put_steps(&mut self.legs, &self.replay, thread, steps_of(turned));
+        Ok(turned)
     }
 
     /// Turns of a thread, one behind the other, until so many steps were made, or a turn makes none: the thread is
@@ -149,17 +162,12 @@ impl<M: Machine<S>, S: ObjectSpace, L: ReadLog, O: OpenWorld<M, S>> Session<M, S
         ensures right { IfFault result.ceased (IsRightRefusal S.meaning M.code (L.log self.old.replay.log) (O.opened self.old.replay.opens)) }
         ensures free { IfFault result.ceased (IsFreeRefusal S.meaning M.code (L.log self.old.replay.log) (O.opened self.old.replay.opens)) }
     {
-        match self.legs.reserve(1) {
-            Err(_) => Gone {
-                steps: 0,
-                ceased: Ceased::Fault(ReplayFault::NoMemory),
-            },
-            Ok(()) => {
-                let gone = go_thread(alloc, &mut self.replay, thread, most);
-                put_thread(&mut self.legs, thread, gone.steps);
-                gone
-            }
-        }
+        let Ok(()) = self.legs.reserve(1) else {
+            return WITHOUT_MEMORY;
+        };
+        let gone = go_thread(alloc, &mut self.replay, thread, most);
+        put_steps(&mut self.legs, &self.replay, thread, gone.steps);
+        gone
     }
 
     /// Turns of a thread, one behind the other, until so many events were made, or a turn makes no step: the thread is
@@ -176,17 +184,12 @@ impl<M: Machine<S>, S: ObjectSpace, L: ReadLog, O: OpenWorld<M, S>> Session<M, S
         ensures right { IfFault result.ceased (IsRightRefusal S.meaning M.code (L.log self.old.replay.log) (O.opened self.old.replay.opens)) }
         ensures free { IfFault result.ceased (IsFreeRefusal S.meaning M.code (L.log self.old.replay.log) (O.opened self.old.replay.opens)) }
     {
-        match self.legs.reserve(1) {
-            Err(_) => Gone {
-                steps: 0,
-                ceased: Ceased::Fault(ReplayFault::NoMemory),
-            },
-            Ok(()) => {
-                let gone = go_events(alloc, &mut self.replay, thread, most);
-                put_thread(&mut self.legs, thread, gone.steps);
-                gone
-            }
-        }
+        let Ok(()) = self.legs.reserve(1) else {
+            return WITHOUT_MEMORY;
+        };
+        let gone = go_events(alloc, &mut self.replay, thread, most);
+        put_steps(&mut self.legs, &self.replay, thread, gone.steps);
+        gone
     }
 
     /// Turns of a thread, one behind the other, until the test holds behind a step, or a turn makes no step: the thread
@@ -202,17 +205,12 @@ impl<M: Machine<S>, S: ObjectSpace, L: ReadLog, O: OpenWorld<M, S>> Session<M, S
         ensures right { IfFault result.ceased (IsRightRefusal S.meaning M.code (L.log self.old.replay.log) (O.opened self.old.replay.opens)) }
         ensures free { IfFault result.ceased (IsFreeRefusal S.meaning M.code (L.log self.old.replay.log) (O.opened self.old.replay.opens)) }
     {
-        match self.legs.reserve(1) {
-            Err(_) => Gone {
-                steps: 0,
-                ceased: Ceased::Fault(ReplayFault::NoMemory),
-            },
-            Ok(()) => {
-                let gone = go_until(alloc, &mut self.replay, thread, test);
-                put_thread(&mut self.legs, thread, gone.steps);
-                gone
-            }
-        }
+        let Ok(()) = self.legs.reserve(1) else {
+            return WITHOUT_MEMORY;
+        };
+        let gone = go_until(alloc, &mut self.replay, thread, test);
+        put_steps(&mut self.legs, &self.replay, thread, gone.steps);
+        gone
     }
 
     /// Takes turns of threads 0, 1, .. in rounds, one by one, until behind a step a break of the list or the test
@@ -234,16 +232,11 @@ impl<M: Machine<S>, S: ObjectSpace, L: ReadLog, O: OpenWorld<M, S>> Session<M, S
         ensures unchanged { OnErr result (world_of self.new.replay.world ≡ world_of self.old.replay.world) }
         ensures kept { OnErr result (self.new.legs.items ≡ self.old.legs.items) }
     {
-        match self.legs.reserve(1) {
-            Err(_) => Err(NoMemory),
-            Ok(()) => {
-                let before = steps_of_world(self.replay.world());
-                let paused = rounds_until(alloc, &mut self.replay, breaks, test);
-                let after = steps_of_world(self.replay.world());
-                put_rounds(&mut self.legs, after - before);
-                Ok(paused)
-            }
-        }
+        self.legs.reserve(1)?;
+        let before = steps_of_world(self.replay.world());
+        let paused = rounds_until(alloc, &mut self.replay, breaks, test);
+        put_turns(&mut self.legs, &self.replay, before);
+        Ok(paused)
     }
 }
 
@@ -259,16 +252,11 @@ impl<M: Machine<S> + Drop, S: ObjectSpace, L: ReadLog, O: OpenWorld<M, S>> Sessi
         ensures unchanged { OnErr result (world_of self.new.replay.world ≡ world_of self.old.replay.world) }
         ensures kept { OnErr result (self.new.legs.items ≡ self.old.legs.items) }
     {
-        match self.legs.reserve(1) {
-            Err(_) => Err(NoMemory),
-            Ok(()) => {
-                let before = steps_of_world(self.replay.world());
-                let stopped = run_to(alloc, &mut self.replay, &[], breaks);
-                let after = steps_of_world(self.replay.world());
-                put_rounds(&mut self.legs, after - before);
-                Ok(stopped)
-            }
-        }
+        self.legs.reserve(1)?;
+        let before = steps_of_world(self.replay.world());
+        let stopped = run_to(alloc, &mut self.replay, &[], breaks);
+        put_turns(&mut self.legs, &self.replay, before);
+        Ok(stopped)
     }
 }
 
@@ -288,21 +276,12 @@ impl<
         ensures unchanged { OnErr result (world_of self.new.replay.world ≡ world_of self.old.replay.world) }
         ensures kept { OnErr result (self.new.legs.items ≡ self.old.legs.items) }
     {
-        let all = steps_of_way(self.legs.as_slice());
-        let Ok(legs) = first_steps(alloc, self.legs.as_slice(), all.saturating_sub(steps)) else {
-            return Err(NoMemory);
-        };
-        let Ok(mut replay) = Replay::new(alloc, self.opens, self.log) else {
-            return Err(NoMemory);
-        };
-        match go_way(alloc, &mut replay, legs.as_slice()) {
-            Err(error) => Err(error),
-            Ok(()) => {
-                self.legs = legs;
-                self.replay = replay;
-                Ok(())
-            }
-        }
+        let legs = self.without_last(alloc, steps)?;
+        let mut replay = Replay::new(alloc, self.opens, self.log)?;
+        go_way(alloc, &mut replay, legs.as_slice())?;
+        self.legs = legs;
+        self.replay = replay;
+        Ok(())
     }
 
     /// Goes to a break: opens the world again and goes on from there up to a break, as `run_to` does by no order. Only
@@ -318,19 +297,10 @@ impl<
         ensures unchanged { OnErr result (world_of self.new.replay.world ≡ world_of self.old.replay.world) }
         ensures kept { OnErr result (self.new.legs.items ≡ self.old.legs.items) }
     {
-        let mut legs = Vec::new(alloc);
-        let Ok(()) = legs.reserve(1) else {
-            return Err(NoMemory);
-        };
-        let Ok(mut replay) = Replay::new(alloc, self.opens, self.log) else {
-            return Err(NoMemory);
-        };
-        let before = steps_of_world(replay.world());
-        let stopped = run_to(alloc, &mut replay, &[], breaks);
+        let mut other = Session::new(alloc, &self.opens, &self.log)?;
+        let stopped = other.run_on(alloc, breaks)?;
         if is_break(stopped) {
-            put_rounds(&mut legs, steps_of_world(replay.world()) - before);
-            self.legs = legs;
-            self.replay = replay;
+            *self = other;
         }
         Ok(stopped)
     }
@@ -345,33 +315,9 @@ impl<
         requires { O.suits self.now.opens }
         ensures { IfOk result (IsLastHit S.meaning M.code (L.log self.now.replay.log) breaks.now (T.holds test.now) (StepOfWay S.meaning M.code (L.log self.now.replay.log) self.now.legs.items (O.opened self.now.replay.opens)) (steps_of_way self.now.legs.items - 1)) }
     {
-        let all = steps_of_way(self.legs.as_slice());
-        let Ok(legs) = first_steps(alloc, self.legs.as_slice(), all.saturating_sub(1)) else {
-            return Err(NoMemory);
-        };
-        let Ok(mut replay) = Replay::new(alloc, self.opens, self.log) else {
-            return Err(NoMemory);
-        };
+        let legs = self.without_last(alloc, 1)?;
+        let mut replay = Replay::new(alloc, self.opens, self.log)?;
         last_hit(alloc, &mut replay, legs.as_slice(), breaks, test)
-    }
-
-    /// Goes back to the opening world.
-    fn restart(&mut self, alloc: Global) -> Result<(), NoMemory>
-        requires { O.suits self.old.opens }
-        ensures log { self.new.replay.log ≡ self.old.replay.log }
-        ensures opens { self.new.replay.opens ≡ self.old.replay.opens }
-        ensures legs { OnOk result (self.new.legs.items ≡ []) }
-        ensures unchanged { OnErr result (world_of self.new.replay.world ≡ world_of self.old.replay.world) }
-        ensures kept { OnErr result (self.new.legs.items ≡ self.old.legs.items) }
-    {
-        match Replay::new(alloc, self.opens, self.log) {
-            Err(error) => Err(error),
-            Ok(replay) => {
-                self.legs = Vec::new(alloc);
-                self.replay = replay;
-                Ok(())
-            }
-        }
     }
 
     /// Goes back to behind the last step of its way, before the one that led to its world, behind which a break of the
@@ -390,38 +336,15 @@ impl<
         ensures unchanged { OnErr result (world_of self.new.replay.world ≡ world_of self.old.replay.world) }
         ensures kept { OnErr result (self.new.legs.items ≡ self.old.legs.items) }
     {
-        let all = steps_of_way(self.legs.as_slice());
-        let Ok(last) = self.last_met(alloc, breaks, test) else {
-            return Err(NoMemory);
-        };
-        match last {
-            None => match self.restart(alloc) {
-                Err(error) => Err(error),
-                Ok(()) => Ok(None),
-            },
-            Some(hit) => match self.back(alloc, all - hit.steps) {
-                Err(error) => Err(error),
-                Ok(()) => Ok(Some(hit.met)),
-            },
-        }
-    }
-
-    /// Goes back to behind the last step of its way, before the one that led to its world, behind which a break holds,
-    /// and answers which break of the list that is, the first of it; to the opening world where there is no such step.
-    /// Where memory could not be had all is as it was.
-    pub fn reverse(&mut self, alloc: Global, breaks: &[Break]) -> Result<Option<usize>, NoMemory>
-        requires { O.suits self.old.opens }
-        ensures log { self.new.replay.log ≡ self.old.replay.log }
-        ensures opens { self.new.replay.opens ≡ self.old.replay.opens }
-        ensures goes { IfOk result (GoesBackTo S.meaning M.code (L.log self.old.replay.log) breaks.now (O.opened self.old.replay.opens) self.old.legs.items self.new.legs.items) }
-        ensures unchanged { OnErr result (world_of self.new.replay.world ≡ world_of self.old.replay.world) }
-        ensures kept { OnErr result (self.new.legs.items ≡ self.old.legs.items) }
-    {
-        match self.reverse_until(alloc, breaks, &Never) {
-            Err(error) => Err(error),
-            Ok(None) => Ok(None),
-            Ok(Some(Met::Break(index))) => Ok(Some(index)),
-            Ok(Some(Met::Test(_))) => unreachable!(),
+        match self.last_met(alloc, breaks, test)? {
+            None => {
+                *self = Session::new(alloc, &self.opens, &self.log)?;
+                Ok(None)
+            }
+            Some(hit) => {
+                self.back(alloc, self.steps() - hit.steps)?;
+                Ok(Some(hit.met))
+            }
         }
     }
 }

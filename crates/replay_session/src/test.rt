@@ -1,6 +1,6 @@
 //! Tests of worlds behind steps.
 
-ghost use Rattle.std.specs.Prelude.{◌≡◌, ℕ, Option, None};
+ghost use Rattle.std.specs.Prelude.{◌≡◌, ℕ, Option};
 ghost use Rattle.event_core.specs.World.{WorldAt, world_of};
 
 use event_core::World;
@@ -14,16 +14,4 @@ pub trait Test<M: Machine<S>, S: ObjectSpace> {
     /// Tests the world behind a step of a thread.
     fn test(&self, world: &World<M, S>, thread: u32) -> Option<usize>
         ensures { result ≡ holds self.now (world_of world.now) thread };
-}
-
-/// A test that never holds.
-#[derive(Clone, Copy, Debug)]
-pub(crate) struct Never;
-
-impl<M: Machine<S>, S: ObjectSpace> Test<M, S> for Never {
-    ghost holds = { λ n w t. None };
-
-    fn test(&self, world: &World<M, S>, thread: u32) -> Option<usize> {
-        None
-    }
 }

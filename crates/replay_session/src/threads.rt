@@ -75,8 +75,7 @@ pub(crate) fn turn_once<M: Machine<S>, S: ObjectSpace, L: ReadLog, O: OpenWorld<
     ensures ceases { TurnCeases S.meaning M.code (L.log replay.old.log) thread (world_of replay.old.world) (world_of replay.new.world) result }
 {
     match replay.turn_by(alloc, reader, thread) {
-        Ok(Turned::Local) => Ceased::All,
-        Ok(Turned::Event) => Ceased::All,
+        Ok(Turned::Local | Turned::Event) => Ceased::All,
         Ok(Turned::Done) => Ceased::Done,
         Err(fault) => Ceased::Fault(fault),
     }
@@ -102,16 +101,10 @@ pub(crate) fn go_thread<M: Machine<S>, S: ObjectSpace, L: ReadLog, O: OpenWorld<
         if made < most {
             match turn_once(alloc, replay, &mut reader, thread) {
                 Ceased::All => made += 1,
-                Ceased::Done => {
+                ceased => {
                     return Gone {
                         steps: made,
-                        ceased: Ceased::Done,
-                    };
-                }
-                Ceased::Fault(fault) => {
-                    return Gone {
-                        steps: made,
-                        ceased: Ceased::Fault(fault),
+                        ceased,
                     };
                 }
             }

@@ -29,30 +29,19 @@ pub(crate) fn go_until<
     let mut made: u64 = 0;
     loop {
         match turn_once(alloc, replay, &mut reader, thread) {
-            Ceased::All => {
-                made += 1;
-                match test.test(replay.world(), thread) {
-                    None => {}
-                    Some(_) => {
-                        return Gone {
-                            steps: made,
-                            ceased: Ceased::All,
-                        };
-                    }
-                }
-            }
-            Ceased::Done => {
+            Ceased::All => made += 1,
+            ceased => {
                 return Gone {
                     steps: made,
-                    ceased: Ceased::Done,
+                    ceased,
                 };
             }
-            Ceased::Fault(fault) => {
-                return Gone {
-                    steps: made,
-                    ceased: Ceased::Fault(fault),
-                };
-            }
+        }
+        if test.test(replay.world(), thread).is_some() {
+            return Gone {
+                steps: made,
+                ceased: Ceased::All,
+            };
         }
     }
 }

@@ -100,23 +100,6 @@ fn go_to_again(
     }
 }
 
-/// Goes back to a break, and where memory was wanted goes back again: the refused one left all as it was.
-fn reverse_again(
-    abort: &impl Abort,
-    alloc: Global,
-    session: &mut OfScripts<'_>,
-    breaks: &[Break],
-) -> Result<Option<usize>, NoMemory> {
-    let before = stand(session);
-    match session.reverse(alloc, breaks) {
-        Err(_) => {
-            assert!(abort; stand(session) == before);
-            session.reverse(alloc, breaks)
-        }
-        found => found,
-    }
-}
-
 /// Goes on in rounds up to a test, and where memory was wanted goes on so from where it stands: where the way could not
 /// be made longer all was left as it was.
 fn until_again(
@@ -150,18 +133,25 @@ fn thread_until_again(
     gone.ceased
 }
 
-/// Goes back to a test, and where memory was wanted goes back again: the refused one left all as it was.
-fn reverse_until_again(
+/// A test that holds behind no step: no thread makes so many.
+const NEVER: Made = Made {
+    first: 1_000_000,
+    second: 1_000_000,
+};
+
+/// Goes back to a break or a test, and where memory was wanted goes back again: the refused one left all as it was.
+fn reverse_again(
     abort: &impl Abort,
     alloc: Global,
     session: &mut OfScripts<'_>,
+    breaks: &[Break],
     test: Made,
 ) -> Result<Option<Met>, NoMemory> {
     let before = stand(session);
-    match session.reverse_until(alloc, &[], &test) {
+    match session.reverse_until(alloc, breaks, &test) {
         Err(_) => {
             assert!(abort; stand(session) == before);
-            session.reverse_until(alloc, &[], &test)
+            session.reverse_until(alloc, breaks, &test)
         }
         met => met,
     }
@@ -201,11 +191,11 @@ fn test_all(
     let stopped = run_again(abort, alloc, session)?;
     assert!(abort; stopped == Stopped::Finished && all_steps(session.world()) == 606);
     for (part, thread, made) in HITS {
-        let met = reverse_until_again(abort, alloc, session, test)?;
+        let met = reverse_again(abort, alloc, session, &[], test)?;
         let steps = session.world().steps(thread);
         assert!(abort; met == Some(Met::Test(part)) && steps == Some(made));
     }
-    let met = reverse_until_again(abort, alloc, session, test)?;
+    let met = reverse_again(abort, alloc, session, &[], test)?;
     assert!(abort; met.is_none() && all_steps(session.world()) == 0);
     Ok(())
 }
@@ -225,10 +215,10 @@ fn reverse_all(
     let there = all_steps(session.world());
     let stopped = run_again(abort, alloc, session)?;
     assert!(abort; stopped == Stopped::Finished && all_steps(session.world()) == 606);
-    let found = reverse_again(abort, alloc, session, &breaks)?;
-    assert!(abort; found == Some(0) && all_steps(session.world()) == there);
-    let found = reverse_again(abort, alloc, session, &breaks)?;
-    assert!(abort; found.is_none() && all_steps(session.world()) == 0);
+    let met = reverse_again(abort, alloc, session, &breaks, NEVER)?;
+    assert!(abort; met == Some(Met::Break(0)) && all_steps(session.world()) == there);
+    let met = reverse_again(abort, alloc, session, &breaks, NEVER)?;
+    assert!(abort; met.is_none() && all_steps(session.world()) == 0);
     Ok(())
 }
 

@@ -1,13 +1,12 @@
 use Rattle.std.proofs.Common.{◌≡◌, ◌≤◌, ◌-◌}
 use Rattle.event_core.specs.World.{world_of}
-use Rattle.replay_session.specs.Events.{events_on, EndsByEvent}
-use Rattle.replay_session.specs.Ways.{ThreadLeads}
+use Rattle.replay_session.specs.Events.{EndsByEvent}
+use Rattle.replay_session.proofs.EventTurns.{Counted}
 use Rattle.replay_session.proofs.events.go_events.Given as goal
 
 abbrev pub invariant-loop-events : goal.invariant-loop-events
 invariant-loop-events g l = record {
-  leads : ThreadLeads g.S.ObjectSpace.meaning g.M.Machine.code (g.L.ReadLog.log l.fn.replay.log) l.thread l.made (world_of l.fn.replay.world) (world_of l.replay.world);
-  events : l.events ≡ events_on g.S.ObjectSpace.meaning g.M.Machine.code (g.L.ReadLog.log l.fn.replay.log) l.thread (world_of l.fn.replay.world) l.made;
+  at : Counted g.S.ObjectSpace.meaning g.M.Machine.code (g.L.ReadLog.log l.fn.replay.log) l.thread l.made l.events (world_of l.fn.replay.world) (world_of l.replay.world);
   few : l.events ≤ l.most;
   ends : l.events ≡ l.most → EndsByEvent g.S.ObjectSpace.meaning g.M.Machine.code (g.L.ReadLog.log l.fn.replay.log) l.thread (world_of l.fn.replay.world) l.made;
   short : l.made ≤ 16000000000;

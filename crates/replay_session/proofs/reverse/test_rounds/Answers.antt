@@ -32,8 +32,8 @@ loop-made-init g c =
       opens = refl;
     }
 
-pub loop-made-preserved-in-Ok : goal.loop-made-preserved-in-Ok
-loop-made-preserved-in-Ok g c =
+pub loop-made-preserved-then-next-count : goal.loop-made-preserved-then-next-count
+loop-made-preserved-then-next-count g c =
     let space = g.S.ObjectSpace.meaning in
     let code = g.M.Machine.code in
     let laws = g.met.M.Machine.laws in
@@ -49,13 +49,13 @@ loop-made-preserved-in-Ok g c =
     let spaces = g.met.S.ObjectSpace.laws in
     let limits = g.met.L.ReadLog.limits c.args.replay.now.log in
     let v = world_of c.test_turn.new.replay.world in
-    let x = c.in-Ok.tested in
+    let x = c.in_ok-tested.tested in
     let below = c.loop-made-test.true in
     let next = c.if-next-count.true in
     let all = inv.all in
     let since = inv.since in
     let few : k < length w.threads = omega (arith, next, all) in
-    let tests = subst (λ r. TurnTests space code (g.L.ReadLog.log r) breaks holds k u v x) inv.log c.in-Ok.ensures.tests in
+    let tests = subst (λ r. TurnTests space code (g.L.ReadLog.log r) breaks holds k u v x) inv.log c.in_ok-tested.ensures.tests in
     let passes = test_passes space code log breaks holds k u v x tests in
     let told = c.steps-made.ensures in
     let one = few_tested x in
@@ -73,9 +73,9 @@ loop-made-preserved-in-Ok g c =
       most = inv.most;
       last = subst (IsLastHit space code log breaks holds (StepInRounds space code log w) (m + c.steps-made.result)) (sym c.last_behind-last.ensures)
           (subst (λ s. IsLastHit space code log breaks holds (StepInRounds space code log w) (m + s) (last_behind c.loop-made.last m x)) (sym told) last);
-      reads = c.in-Ok.ensures.reads;
-      log = c.in-Ok.ensures.log ∙ inv.log;
-      opens = c.in-Ok.ensures.opens ∙ inv.opens;
+      reads = c.in_ok-tested.ensures.reads;
+      log = c.in_ok-tested.ensures.log ∙ inv.log;
+      opens = c.in_ok-tested.ensures.opens ∙ inv.opens;
     }
 
 pub loop-made-preserved : goal.loop-made-preserved

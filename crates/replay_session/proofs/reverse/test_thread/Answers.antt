@@ -23,9 +23,9 @@ loop-made-preserved g c =
     let inv = c.loop-made.invariant in
     let u = world_of c.loop-made.replay.world in
     let v = world_of c.test_turn.new.replay.world in
-    let x = c.in-Ok.tested in
+    let x = c.in_ok-tested.tested in
     let below = c.loop-made-test.true in
-    let tests = subst (λ r. TurnTests space code (g.L.ReadLog.log r) breaks holds t u v x) inv.log c.in-Ok.ensures.tests in
+    let tests = subst (λ r. TurnTests space code (g.L.ReadLog.log r) breaks holds t u v x) inv.log c.in_ok-tested.ensures.tests in
     let passes = test_passes space code log breaks holds t u v x tests in
     let makes : makes_step (turn_of space code log u t) ≡ true = ap (λ y. makes_step (turn_of space code log y t)) inv.at ∙ thread_makes space code laws log t c.args.steps w c.requires n below in
     let one : steps_of_test x ≡ 1 = passes.0 ∙ sym (makes_one (turn_of space code log u t) makes) in
@@ -34,9 +34,9 @@ loop-made-preserved g c =
       at = thread_next space code laws log t n w u v (steps_of_test x) inv.at makes passes;
       last = subst (IsLastHit space code log breaks holds (StepOfLeg space code log (leg.Thread t c.args.steps) w) (n + 1)) (sym c.last_behind-last.ensures)
           (subst (λ k. IsLastHit space code log breaks holds (StepOfLeg space code log (leg.Thread t c.args.steps) w) (n + k) (last_behind c.loop-made.last n x)) one last);
-      reads = c.in-Ok.ensures.reads;
-      log = c.in-Ok.ensures.log ∙ inv.log;
-      opens = c.in-Ok.ensures.opens ∙ inv.opens;
+      reads = c.in_ok-tested.ensures.reads;
+      log = c.in_ok-tested.ensures.log ∙ inv.log;
+      opens = c.in_ok-tested.ensures.opens ∙ inv.opens;
     }
 
 pub returns-clause-leads : goal.returns-clause-leads

@@ -1,30 +1,22 @@
-use Rattle.std.proofs.Common.{◌≡◌, sym, ap, ◌∙◌, subst, arith}
-use Rattle.event_core.specs.World.{WorldAt, world_of}
-use Rattle.replay_session.specs.Legs.{steps_of_way, first_steps}
-use Rattle.replay_session.specs.Ways.{WayLeads}
-use Rattle.replay_session.proofs.Keeping.{few_steps, goes_again}
+use Rattle.std.proofs.Common.{refl, sym, ap, ◌∙◌}
+use Rattle.std.proofs.lemmas.Grind.{merely}
+use Rattle.event_core.specs.World.{world_of}
+use Rattle.replay_session.proofs.Keeping.{kept, goes_again}
 use Rattle.replay_session.proofs.session.Session.back.Goals as goal
-
-pub steps_of_way-all-requires : goal.steps_of_way-all-requires
-steps_of_way-all-requires g c =
-    let log = g.L.ReadLog.log c.args.self.now.replay.log in
-    let limits = g.met.L.ReadLog.limits c.args.self.now.replay.log in
-    let opened = g.O.OpenWorld.opened c.args.self.now.replay.opens in
-    let e = ap steps_of_way c.as_slice.ensures.value in
-    let few = few_steps g.S.ObjectSpace.meaning g.M.Machine.code g.met.S.ObjectSpace.laws g.met.M.Machine.laws log limits opened (world_of c.args.self.now.replay.world) c.args.self.now.legs.items c.args.self.now.replay.world.sound c.args.self.now.leads in
-    omega (arith, e, few)
 
 pub go_way-requires : goal.go_way-requires
 go_way-requires g c =
-    let space = g.S.ObjectSpace.meaning in
-    let code = g.M.Machine.code in
-    let log = g.L.ReadLog.log c.args.self.now.replay.log in
-    let again = g.L.ReadLog.log c.in-Ok-new.replay.log in
-    let opened = g.O.OpenWorld.opened c.args.self.now.replay.opens in
-    let legs = c.args.self.now.legs.items in
-    let n = c.saturating_sub.result in
-    let start = world_of c.in-Ok-new.replay.world in
-    let first : c.as_slice-3.result.now ≡ first_steps legs n = c.as_slice-3.ensures.value ∙ c.in-Ok.ensures ∙ ap (λ xs. first_steps xs n) c.as_slice-2.ensures.value in
-    let leads = goes_again space code g.met.S.ObjectSpace.laws g.met.M.Machine.laws log again opened (g.O.OpenWorld.opened c.args.self.now.opens) start (world_of c.args.self.now.replay.world) legs n
-    (ap g.L.ReadLog.log (c.in-Ok-new.ensures.log ∙ sym c.args.self.now.same_log)) (ap g.O.OpenWorld.opened (sym c.args.self.now.same_opens)) c.in-Ok-new.ensures.world c.args.self.now.leads in
-    subst (λ xs. ∥ ((v : WorldAt _ _ _) × WayLeads space code again xs start v) ∥₁) (sym first) leads
+    let session = c.args.self.now in
+    let opened = c.in_ok-replay.ensures in
+    goes_again g.S.ObjectSpace.meaning g.M.Machine.code g.met.S.ObjectSpace.laws g.met.M.Machine.laws _ _ _ _ (world_of session.replay.world) session.legs.items _ _
+    (ap g.L.ReadLog.log (opened.log ∙ sym session.same_log)) (opened.world ∙ ap g.O.OpenWorld.opened (sym session.same_opens)) (c.as_slice.ensures.value ∙ c.in_ok-legs.ensures.legs) session.leads
+
+pub invariant_of-self : goal.invariant_of-self
+invariant_of-self g c =
+    let opened = c.in_ok-replay.ensures in
+    let gone = c.go_way.ensures in
+    record {
+      same_log = gone.log ∙ opened.log;
+      same_opens = gone.opens ∙ opened.opens;
+      leads = kept g.S.ObjectSpace.meaning g.M.Machine.code _ _ _ _ _ _ _ _ (ap g.L.ReadLog.log gone.log) (ap g.O.OpenWorld.opened (gone.opens ∙ opened.opens) ∙ sym opened.world) refl (sym c.as_slice.ensures.value) (merely c.in_ok-go_way.ensures.leads);
+    }
