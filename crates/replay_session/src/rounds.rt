@@ -9,6 +9,7 @@ ghost use Rattle.replay_session.specs.Rounds.{RoundsGo, AllRest, RunsDry};
 use crate::gone::Ceased;
 use crate::sums::steps_of_world;
 use crate::threads::{is_want_of_memory, least, turn_once};
+use replay_breaks::Pace;
 use replay_gate::{OpenWorld, ReadLog, Replay};
 use rw_objects::{Machine, ObjectSpace};
 use std::alloc::Global;
@@ -67,11 +68,12 @@ fn go_round<M: Machine<S>, S: ObjectSpace, L: ReadLog, O: OpenWorld<M, S>>(
     Ok(made)
 }
 
-/// Makes rounds of local steps, as many as come, by which at most so many steps are made. Answers how many steps that
-/// were.
+/// Makes rounds of local steps, as many as the pace tries, by which at most so many steps are made. Answers how many
+/// steps that were.
 fn go_together<M: Machine<S> + Drop, S: ObjectSpace, L: ReadLog, O: OpenWorld<M, S>>(
     alloc: Global,
     replay: &mut Replay<M, S, L, O>,
+    pace: &mut Pace,
     most: u64,
 ) -> u64
     ensures log { replay.new.log ≡ replay.old.log }
@@ -84,8 +86,8 @@ fn go_together<M: Machine<S> + Drop, S: ObjectSpace, L: ReadLog, O: OpenWorld<M,
         return 0;
     }
     let before = steps_of_world(replay.world());
-    let rounds = least(1_000_000_000, most / count);
-    replay.local_rounds(alloc, rounds);
+    let rounds = least(pace.tries(), most / count);
+    *pace = pace.behind(replay.local_rounds(alloc, rounds));
     steps_of_world(replay.world()) - before
 }
 
@@ -94,6 +96,7 @@ fn go_some<M: Machine<S> + Drop, S: ObjectSpace, L: ReadLog, O: OpenWorld<M, S>>
     alloc: Global,
     replay: &mut Replay<M, S, L, O>,
     reader: &mut L::Reader,
+    pace: &mut Pace,
     most: u64,
 ) -> Result<u64, NoMemory>
     requires { L.reads replay.old.log reader.old }
@@ -105,7 +108,7 @@ fn go_some<M: Machine<S> + Drop, S: ObjectSpace, L: ReadLog, O: OpenWorld<M, S>>
     ensures whole { IfOk result (λ made. made < most → RoundsGo S.meaning M.code (L.log replay.old.log) made (world_of replay.old.world) (world_of replay.new.world)) }
     ensures rest { IfOk result (λ made. made < most → made ≡ 0 → AllRest S.meaning M.code (L.log replay.old.log) (world_of replay.new.world)) }
 {
-    let together = go_together(alloc, replay, most);
+    let together = go_together(alloc, replay, pace, most);
     if together > 0 {
         Ok(together)
     } else {
@@ -126,9 +129,10 @@ pub(crate) fn go_rounds<M: Machine<S> + Drop, S: ObjectSpace, L: ReadLog, O: Ope
     ensures dry { IfOk result (λ made. made ≡ false → RunsDry S.meaning M.code (L.log replay.old.log) steps (world_of replay.old.world) (world_of replay.new.world)) }
 {
     let mut reader = replay.reader();
+    let mut pace = Pace::new();
     let mut missing = steps;
     while missing > 0 {
-        let made = go_some(alloc, replay, &mut reader, missing)?;
+        let made = go_some(alloc, replay, &mut reader, &mut pace, missing)?;
         if made == 0 {
             return Ok(false);
         }
