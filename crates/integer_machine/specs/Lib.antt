@@ -6,6 +6,7 @@ pub mod Sound
 pub mod Trying
 pub mod Alone
 pub mod Standing
+pub mod Frames
 pub mod BlockMoves
 pub mod CallMoves
 pub mod Entries

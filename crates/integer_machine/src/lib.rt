@@ -19,7 +19,8 @@
 //! Words and place are locals of that loop, so no function that is not compiled into it may take the words; hot
 //! functions are compiled into their callers, `run_locally` and `run_alone` into none. Room for an entry is had before
 //! the access, so that no object changes where memory is wanted. That a run behind `room` makes one step at least is
-//! said of local steps alone: a log may want memory, too. `code_place` says where a thread stands in its functions.
+//! said of local steps alone: a log may want memory, too. `code_place` says where a thread stands in its functions, and
+//! `locals` and `operands` which values these hold.
 #![tactic(auto)]
 
 mod block_moves;
@@ -37,6 +38,7 @@ mod standing;
 mod state;
 mod step;
 mod trying;
+mod values;
 
 pub use instance::{instance_for, memory_limits};
 pub use laws::fields_have_one_meaning;

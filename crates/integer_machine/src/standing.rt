@@ -1,11 +1,12 @@
 //! How a thread stands, and where in the code.
 
-ghost use Rattle.std.specs.Prelude.{◌≡◌, ◌∷◌, length, option_copied, reverse, slice_get};
+ghost use Rattle.std.specs.Prelude.{◌≡◌, length, option_copied, slice_get};
 ghost use Rattle.wasm_types.specs.declared.modules.Module.{Module};
 ghost use Rattle.event_core.specs.End.{outcome_of};
 ghost use Rattle.thread_step.specs.Instance.{Instance};
 ghost use Rattle.thread_step.specs.Thread.{move};
 ghost use Rattle.thread_step.specs.ThreadCode.{next_by};
+ghost use Rattle.integer_machine.specs.Frames.{levels_of};
 ghost use Rattle.integer_machine.specs.Meaning.{meaning};
 ghost use Rattle.integer_machine.specs.Standing.{standing, place_of_level};
 
@@ -43,8 +44,8 @@ pub(crate) fn depth_of(m: &Stacks) -> usize
 }
 
 /// The level of a function that a thread is in: that of the one that runs, or of the caller with this number from 1.
-fn level_at(m: &Stacks, depth: usize) -> Option<&Level>
-    ensures { option_copied result ≡ slice_get (m.now.here ∷ reverse m.now.callers.items) depth }
+pub(crate) fn level_at(m: &Stacks, depth: usize) -> Option<&Level>
+    ensures { option_copied result ≡ slice_get (levels_of m.now) depth }
 {
     if depth == 0 {
         return Some(&m.here);

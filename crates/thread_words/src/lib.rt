@@ -34,14 +34,15 @@ pub use branches_apart::{branch_apart, branch_if_apart};
 pub use calls::{call, declared_locals, put_zeros};
 pub use calls_apart::{call_apart, finish_apart, return_apart};
 pub use functions::{
-    FunctionTables, code_of_function, groups_of_function, instruction_at, tables_of_function,
+    FunctionTables, body_of_function, code_of_function, groups_of_function, instruction_at,
+    tables_of_function, type_of_function,
 };
 pub use indirect::call_indirect;
 pub use instance::Instance;
 pub use leaving::return_now;
 pub use locals::{global_get, global_set, local_get, local_set, local_tee};
 pub use numerics::numeric;
-pub use operands::word;
+pub use operands::{value, word};
 pub use replies::{answer, wake};
 pub use simple::{constant, discard, fence, nop, select, unreachable};
 pub use stacks::{Label, Level, Stacks, Stage};

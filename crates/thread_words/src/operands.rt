@@ -102,7 +102,7 @@ pub(crate) fn cut(words: &mut Vec<u64>, height: usize, keep: bool)
 }
 
 /// The value of a type whose bits are a word.
-pub(crate) fn value(t: ValType, word: u64) -> Value
+pub fn value(t: ValType, word: u64) -> Value
     requires { t ≡ I32 → word < 2 ^ 32 }
     ensures { result ≡ value_of t word }
 {
