@@ -55,6 +55,11 @@ module _ {State Op Reply Value Fixed : Type 0} (space : Space Op Reply Value Fix
   TurnCeases t w v ceased.Done = (turn_of space code log w t ≡ turn.Done) × (v ≡ w)
   TurnCeases t w v (ceased.Fault f) = ((f ≡ fault.NoMemory) ⊎ TurnRefused space code log w t f) × (v ≡ w)
 
+  -- thread t goes on from world w to world v by its turn, or nothing is done
+  abbrev pub GoesOn : ℕ → WorldAt State Value Fixed → WorldAt State Value Fixed → Bool → Type 0
+  GoesOn t w v true = (makes_step (turn_of space code log w t) ≡ true) × (v ≡ world_after_turn space code w t (turn_of space code log w t))
+  GoesOn t w v false = v ≡ w
+
   -- a turn of thread t, from world w to world v, that passes the thread over where it is refused, makes so many steps
   abbrev pub TurnPasses : ℕ → WorldAt State Value Fixed → WorldAt State Value Fixed → ℕ → Type 0
   TurnPasses t w v n = (n ≡ steps_of_turn (turn_of space code log w t)) × (v ≡ world_after_turn space code w t (turn_of space code log w t))

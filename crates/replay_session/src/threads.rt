@@ -4,12 +4,13 @@ ghost use Rattle.std.specs.Prelude.{◌≡◌, ◌≤◌};
 ghost use Rattle.event_core.specs.World.{world_of};
 ghost use Rattle.replay_session.specs.Events.{events_on};
 ghost use Rattle.replay_session.specs.Ways.{ThreadLeads};
-ghost use Rattle.replay_session.specs.Gone.{CeasesSo, TurnCeases, is_want_of_memory, steps_of_answer};
+ghost use Rattle.replay_session.specs.Gone.{CeasesSo, GoesOn, TurnCeases, is_want_of_memory, steps_of_answer};
 
 use crate::gone::{Ceased, Gone};
-use replay_gate::{OpenWorld, ReadLog, Replay, ReplayFault, Turned};
+use replay_gate::{OpenWorld, ReadLog, Ready, Replay, ReplayFault, Turned};
 use rw_objects::{Machine, ObjectSpace};
 use std::alloc::Global;
+use wasm_types::NoMemory;
 
 /// The least of two numbers.
 pub(crate) fn least(left: u32, most: u64) -> u32
@@ -61,6 +62,27 @@ pub(crate) fn steps_of(turned: Turned) -> u64
     }
 }
 
+/// Makes the step of a thread's turn where by it the thread goes on, and answers whether it did. Else nothing is done.
+fn goes_on<M: Machine<S>, S: ObjectSpace, L: ReadLog, O: OpenWorld<M, S>>(
+    replay: &mut Replay<M, S, L, O>,
+    reader: &mut L::Reader,
+    thread: u32,
+) -> bool
+    requires { L.reads replay.old.log reader.old }
+    ensures reads { L.reads replay.new.log reader.new }
+    ensures log { replay.new.log ≡ replay.old.log }
+    ensures opens { replay.new.opens ≡ replay.old.opens }
+    ensures goes { GoesOn S.meaning M.code (L.log replay.old.log) thread (world_of replay.old.world) (world_of replay.new.world) result }
+{
+    if replay.steps_left(thread) == 0 {
+        return false;
+    }
+    match replay.ready_turn(reader, thread) {
+        Ok(Ready::Local | Ready::Event) => true,
+        Ok(Ready::Not) | Err(NoMemory) => false,
+    }
+}
+
 /// A turn of a thread. All is made where it makes a step.
 pub(crate) fn turn_once<M: Machine<S>, S: ObjectSpace, L: ReadLog, O: OpenWorld<M, S>>(
     alloc: Global,
@@ -74,6 +96,9 @@ pub(crate) fn turn_once<M: Machine<S>, S: ObjectSpace, L: ReadLog, O: OpenWorld<
     ensures opens { replay.new.opens ≡ replay.old.opens }
     ensures ceases { TurnCeases S.meaning M.code (L.log replay.old.log) thread (world_of replay.old.world) (world_of replay.new.world) result }
 {
+    if goes_on(replay, reader, thread) {
+        return Ceased::All;
+    }
     match replay.turn_by(alloc, reader, thread) {
         Ok(Turned::Local | Turned::Event) => Ceased::All,
         Ok(Turned::Done) => Ceased::Done,
