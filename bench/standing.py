@@ -40,18 +40,35 @@ def trap(draw, number, count):
     return ["unreachable"] if draw.randrange(3) == 0 else []
 
 
+def put(draw, local, kind):
+    """Instructions that put a local to other bits, and leave the operands as they find them, or all of them."""
+    bits = draw.choice([0, 1, -1, 65535, 65536, 2**31 - 1, -(2**31)] + [2**62, -(2**63)] * (kind == "i64"))
+    form = draw.choice(["set", "tee", "both"])
+    if form == "set":
+        return [(kind + ".const", bits), ("local.set", local)]
+    if form == "tee":
+        return [(kind + ".const", bits), ("local.tee", local), "drop"]
+    return [("local.get", local), (kind + ".const", bits), ("local.set", local), "drop"]
+
+
 def function(draw, number, count):
-    code = traces.function(draw)
+    """A function's instructions and its groups of locals. Some are behind others that leave operands below them."""
+    code, groups = traces.function(draw), [(draw.randint(0, 3), draw.choice(["i32", "i64"])) for _ in range(draw.randint(0, 3))]
+    kinds = [kind for size, kind in groups for _ in range(size)]
     for _ in range(draw.randint(0, 3)):
         at = draw.randrange(len(code))
         code[at:at] = trap(draw, number, count)
-    return code
+    for _ in range(draw.randint(0, 4) if kinds else 0):
+        at, local = draw.randrange(len(code)), draw.randrange(len(kinds))
+        code[at:at] = put(draw, local, kinds[local])
+    below = [draw.choice([("i32.const", draw.choice([7, -1])), ("i64.const", draw.choice([8, 65536, -1]))]) for _ in range(draw.randint(0, 2))]
+    return below + code[:-1] + ["drop"] * len(below) + code[-1:], groups
 
 
 def module_of(draw, count):
     """A module of so many functions; those that a table has are the last, which call nothing through it."""
     names = {n: draw.choice(["put", "a b", "two\nlines", f"g{n}"]) for n in range(count) if draw.randrange(2)}
-    functions = [(f"f{n}", [], None, function(draw, n, count)) for n in range(count)]
+    functions = [(f"f{n}", [], None, *function(draw, n, count)) for n in range(count)]
     other = ("other", ["i32"], None, ["end"])
     return Module(functions + [other], (1, 3, True), table=(count - 1, None, count), names=draw.choice([None, names, names]))
 

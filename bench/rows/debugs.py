@@ -1,6 +1,6 @@
 """Dialogues with a debugger of a replay, by the model. The world behind each step of the way is kept, so going back takes worlds off."""
 import re
-from model import World
+from model import World, s32, s64
 from views import bytes_shown, thread_line
 
 # ---- gathered logs
@@ -96,6 +96,9 @@ write FROM LEN  break behind a write of a block that holds one of these bytes
 delete          forget all breaks
 threads         how each thread stands, and where
 where T         how thread T stands, and where
+locals T [N]    the locals of the function that thread T runs, or of its Nth caller
+stack T [N]     its operands, the topmost first
+waits T         which events must come before the next event of thread T
 bytes FROM LEN  these bytes, and the versions of their blocks
 around T [N]    the last N events of thread T (5), and its next, as listed
 object O        which bytes object O is, its version, who wrote and read that
@@ -117,7 +120,8 @@ class Debugger:
                       (b'back', 0): lambda: self.back(1), (b'back', 1): self.back, (b'place', 2): self.place, (b'write', 2): self.write,
                       (b'delete', 0): self.delete, (b'threads', 0): self.threads, (b'where', 1): self.where, (b'around', 1): lambda n: self.around(n, 5), (b'around', 2): self.around, (b'bytes', 2): self.bytes,
                       (b'writer', 1): lambda at: self.who(at, 'written', 'w%d@%d/', 1), (b'readers', 1): lambda at: self.who(at, 'read', 'r%d@%d', 0),
-                      (b'finish', 1): self.finish, (b'again', 1): self.again, (b'object', 1): self.object, (b'writer!', 1): self.to_writer,
+                      (b'locals', 1): lambda n: self.locals(n, 0), (b'locals', 2): self.locals, (b'stack', 1): lambda n: self.stack(n, 0), (b'stack', 2): self.stack,
+                      (b'waits', 1): self.waits, (b'finish', 1): self.finish, (b'again', 1): self.again, (b'object', 1): self.object, (b'writer!', 1): self.to_writer,
                       (b'way', 0): self.way, (b'help', 0): lambda: HELP}
     world = property(lambda self: self.passed[-1])
     def answer(self, line):
@@ -138,14 +142,47 @@ class Debugger:
     def where(self, n):
         if n >= len(self.world.threads): return 'error: no such thread\n'
         return thread_line(self.world, self.world.threads[n], False, self.world.threads[n].out is None)
+    def in_function(self, n, depth, shown):
+        """What is shown of a function that a thread is in."""
+        if n >= len(self.world.threads): return 'error: no such thread\n'
+        t = self.world.threads[n]
+        if t.out is not None or depth >= len(t.frames): return 'error: the thread is in no such function\n'
+        return shown(t.frames[-1 - depth])
+    def locals(self, n, depth):
+        def shown(frame): return ''.join('local %d %s %d\n' % (i, kind, (s32 if kind == 'i32' else s64)(v)) for i, (kind, v) in enumerate(frame.locals)) or 'no locals\n'
+        return self.in_function(n, depth, shown)
+    def stack(self, n, depth):
+        def shown(frame): return ''.join('operand %d %s\n' % (i, v if v < 65536 else hex(v)) for i, (_, v) in enumerate(reversed(frame.stack))) or 'no operands\n'
+        return self.in_function(n, depth, shown)
+    def waits(self, n):
+        if n >= len(self.world.threads): return 'error: no such thread\n'
+        made, end = len(self.world.threads[n].entries), self.log.ends.get(n)
+        entry = self.log.entries.get((n, made))
+        return self.next(n, made) + self.gate(entry, made, end)
+    def gate(self, entry, made, end):
+        if end is None or end is CLASH: return 'missing\n' if end is None else 'clash\n'
+        if made >= end[1]: return 'done\n'
+        if entry is None or entry is CLASH: return 'missing\n' if entry is None else 'clash\n'
+        return ''.join(self.awaited(word) for word in entry[1] if not is_met(self.world, word)) or 'open\n'
+    def awaited(self, word):
+        """Which events ahead do what a touch waits for: they make the version that it found, or read it."""
+        o, found = word[1:].split('@')
+        version = int(found.split('/')[0])
+        is_read = self.world.version.get(int(o), 0) == version
+        sought = 'r%s@%d' % (o, version) if is_read else 'w%s@%d/' % (o, version - 1)
+        events = ['%d.%d' % (t.n, place) for t in self.world.threads for end in [self.log.ends.get(t.n)] if end is not None and end is not CLASH
+                  for place in range(len(t.entries), end[1]) for entry in [self.log.entries.get((t.n, place))] if entry is not None and entry is not CLASH
+                  if any(it == sought if is_read else it.startswith(sought) for it in entry[1])]
+        return 'object %s version %d %s by %s\n' % (o, version, 'read' if is_read else 'written', ' '.join(events) or 'nobody')
+    def next(self, n, place):
+        entry = self.log.entries.get((n, place))
+        return '' if entry is None else 'next %d.%d %s\n' % (n, place, 'clash' if entry is CLASH else ' '.join([entry[0], *entry[1]]))
     def around(self, n, count):
         if n >= len(self.world.threads): return 'error: no such thread\n'
         made, text = len(self.world.threads[n].entries), ''
-        for place in range(max(made - count, 0), made + 1):
-            entry = self.log.entries.get((n, place))
-            if entry is None: continue
-            text += 'next ' * (place == made) + '%d.%d %s\n' % (n, place, 'clash' if entry is CLASH else ' '.join([entry[0], *entry[1]]))
-        return text
+        for place in range(max(made - count, 0), made):
+            text += self.next(n, place).removeprefix('next ')
+        return text + self.next(n, made)
     def threads(self): return ''.join(self.where(n) for n in range(len(self.world.threads)))
     def step(self, n, most): return self.go(n, most, lambda did: True)
     def event(self, n, most): return self.go(n, most, lambda did: did == 'event')
@@ -321,13 +358,19 @@ TALKS = {
     'asked': lines('where 0', 'where 1', 'where 2', 'where 16', 'where 4294967295', 'continue', 'where 1'),
     'standing': lines('step 2 5', 'step 2 9', 'back', 'way', 'continue', 'back', 'way', 'step 0 99'),
     'deep': lines('step 0 255', 'step 0 9', 'step 0', 'back 255', 'step 1 9', 'way'),
+    'called': lines('locals 0', 'stack 0', 'locals 1', 'stack 1', 'step 1 3', 'stack 1', 'locals 1', 'step 1', 'locals 1', 'locals 1 0', 'stack 1', 'locals 1 1', 'stack 1 1',
+                    'locals 1 2', 'stack 1 2', 'step 1 2', 'locals 1', 'step 1 2', 'stack 1', 'stack 1 1', 'step 1 2', 'locals 1', 'stack 1', 'back', 'stack 1', 'step 1 2', 'locals 1',
+                    'stack 1', 'step 1 9', 'locals 1', 'stack 1', 'locals 2', 'stack 2', 'locals 4294967295 4294967295', 'locals 0 4294967295', 'stack 0 4294967295', 'step 0 2',
+                    'stack 0', 'step 0 99', 'locals 0', 'waits 0', 'back 99', 'locals 1'),
+    'waits': lines('waits 0', 'waits 1', 'waits 2', 'step 1 99', 'waits 1', 'step 0 99', 'waits 0', 'waits 1', 'step 1 99', 'waits 1', 'waits 0', 'continue', 'waits 0',
+                   'waits 1', 'waits 4294967295', 'back 3', 'waits 0', 'waits 1'),
     'help': lines('help', 'help ', 'way'),
     'bad': lines(
         ' ', '  ', 'step', 'step ', ' step 0', 'step  0', 'step 0 ', 'step 0 1 ', 'step 0 1 2', 'step 00', 'step 01', 'step 0 01', 'step -1', 'step -0', 'step 0 -1',
         'step +1', 'step x', 'step 0x1', 'step 1.0', 'step 4294967296', 'step 0 4294967296', 'step 0 18446744073709551617', 'Step 0', 'steps 0', 'step\t0',
         'continue 1', 'continue ', 'cont', 'back ', 'back 00', 'back -1', 'back 1 2', 'back 4294967296', 'place', 'place 0', 'place 0 1 2', 'place 0.1', 'place a 0',
         'place 0 4294967296', 'write', 'write 0', 'write 0+4', 'write 0 4 1', 'write 4294967296 0', 'delete 0', 'threads 0', 'threads\r', '\r', 'bytes', 'bytes 0',
-        'bytes 0 4 4', 'bytes 0x0 4', 'bytes 0 04', 'way 1', 'help me', 'help\r', 'event', 'event x', 'event 0 1 2', 'event 0 01', 'reverse 1', 'goto', 'goto 0', 'goto 0.1', 'goto 0 1 2', 'where', 'where 0 1', 'where x', 'around', 'around x', 'around 0 1 2',
+        'bytes 0 4 4', 'bytes 0x0 4', 'bytes 0 04', 'way 1', 'help me', 'help\r', 'event', 'event x', 'event 0 1 2', 'event 0 01', 'reverse 1', 'goto', 'goto 0', 'goto 0.1', 'goto 0 1 2', 'where', 'where 0 1', 'where x', 'locals', 'locals x', 'locals 0 01', 'locals 0 1 2', 'stack', 'stack -1', 'stack 0 x', 'stack 0 1 2', 'waits', 'waits x', 'waits 0 1', 'around', 'around x', 'around 0 1 2',
         'writer', 'writer 0 4', 'writer 0x0', 'readers', 'readers 4294967296', 'finish', 'finish x', 'finish 0 1', 'again', 'again -1', 'again 1 2', 'object', 'object 01', 'object 1 2', 'writer!', 'writer! 0 1', 'writer ! 0', 'break', 'break 0 x', 'break 0 1 2',
         'break  0', 'break 0 01', 'break 0 4294967296', 'break ' + 64 * 'x', 'break ' + 65 * 'x', 'break ' + 65 * 'x' + ' 1', 'quit 0', 'quit\r', ' quit', 'quit ', 'Quit', '0', '# way', 'way;way')
            + b'\xff\xfe\nstep 0\0\nthr\xc3\xa9ads\nthreads\nway\nwrite 0 4',
@@ -343,7 +386,8 @@ def drawn_talk(words, threads, count):
     """Lines that numbers draw: `words` answers a number below another."""
     def some(most): return (0, 1, 2, 3, words(most + 1), words(most + 1))[words(6)]
     def line():
-        kind, n = words(29), words(threads + 1)
+        kind, n = words(32), words(threads + 1)
+        if kind > 28: return ('waits %d' % n, 'locals %d' % n, 'locals %d %d' % (n, some(3)), 'stack %d' % n, 'stack %d %d' % (n, some(3)))[words(5)]
         if kind == 23: return 'finish %d' % n
         if kind == 24: return 'again %d' % some(3)
         if kind == 25: return 'object %d' % some(8)

@@ -697,6 +697,7 @@ logs['whole'] = 'counter.wasm', COUNTER, 'counter.plan', TWO, FIRST.lines(D, 0, 
 EVERY = ('opening', 'through', 'alone', 'nobody', 'places', 'writes', 'elsewhere', 'first', 'legs', 'rounds', 'events', 'gotos', 'reverse', 'who', 'asked', 'around', 'finish', 'again', 'objects', 'writers', 'functions', 'ranges', 'help', 'bad', 'long', 'blank', 'unended', 'last', 'behind', 'only')
 debugged('whole', *EVERY)
 debugged('whole', 'unended', more=' --why')
+for name in ('whole', 'second', 'hole', 'missing', 'clash', 'version', 'kind', 'longer', 'shorter', 'noend', 'twoends', 'readers', 'five', 'traps'): debugged(name, 'waits')
 command('debug counter.wasm counter.plan whole.pieces')
 command('debug counter.wasm counter.plan whole.pieces < empty')
 for name in ('second', 'third', 'fourth'): debugged(name, 'alone', 'legs', 'rounds', 'places', 'events', 'gotos', 'reverse', 'who', 'again', 'functions')
@@ -711,6 +712,15 @@ debugged('five', 'crossed', 'through', 'rounds', 'places', 'reverse', 'who', 'ar
 for name in ('named', 'midst', 'halted', 'unbegun', 'begun1', 'begins2'): debugged(name, 'standing', 'asked', 'finish', 'functions', 'named')
 logs['deep'] = 'stands.wasm', STANDS, 'deep.plan', plan_of('deep', 'seven'), DEEP.lines(digest(STANDS, plan_of('deep', 'seven')), 0, 4096)
 debugged('deep', 'deep')
+# locals and operands of functions that call one another
+CALLED = Module([
+    ('adds', [], 'i32', add + ['end']),
+    ('outer', ['i64'], 'i32', [('i32.const', -2), ('i32.const', 70000), ('i64.const', 6), ('call', 2), 'i32.add', 'end'], [(0, 'i64'), (1, 'i32')]),
+    ('inner', ['i32', 'i64'], 'i32', [('i64.const', -1), ('local.set', 3), ('local.get', 0), ('i32.const', -70001), 'i32.add', ('local.tee', 2), 'end'], [(1, 'i32'), (2, 'i64')]),
+])
+keep('called.wasm', CALLED.bytes); keep('called.plan', plan_of('adds', 'outer -9'))
+recorded('called', 'called.wasm', CALLED, 'called.plan', plan_of('adds', 'outer -9'), schedule_text([(1, True, 99), (0, True, 99)]).encode())
+debugged('called', 'called')
 for number, name in enumerate(('first', 'third', 'fourth', 'readers', 'five', 'limited1', 'limited2', 'grower', 'hole', 'version', 'midst', 'begins1')):
     TALKS['drawn%d' % number] = drawn_talk(Words(number).below, len(World(logs[name][1], logs[name][3]).threads), 20)
     debugged(name, 'drawn%d' % number)

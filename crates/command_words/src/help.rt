@@ -485,17 +485,25 @@ standard input, one in each line, and answers each on standard output:
 
   step T [N]      go on with thread T alone, by N steps, or by 1
   event T [N]     go on with thread T alone, up to behind its Nth event, or 1st
+  finish T        go on with thread T alone, until its function returns
   continue        go on with all threads, up to a break
+  again N         go on with all threads, past N breaks and up to the next
   back [N]        go back by N steps, or by 1, of whichever threads made them
   reverse         go back to the break before, or to the beginning
   goto T P        go to where thread T has made P events, from the beginning
+  writer! FROM    go to behind the event that wrote the block of this byte last
+  break F [N]     break where a thread comes to instruction N (0) of function F
   place T P       break behind the event of thread T after which it has made P
   write FROM LEN  break behind a write of a block that holds one of these bytes
   delete          forget all breaks
   threads         how each thread stands, and where
   where T         how thread T stands, and where
+  locals T [N]    the locals of the function that it runs, or of its Nth caller
+  stack T [N]     its operands, the topmost first
+  waits T         which events must come before the next event of thread T
   bytes FROM LEN  these bytes, and the versions of their blocks
   around T [N]    the last N events of thread T (5), and its next, as listed
+  object O        which bytes object O is, its version, who wrote and read that
   writer FROM     which event wrote the block of this byte last, as T.P
   readers FROM    which events have read what was written there last
   way             the steps made so far, from the beginning on
@@ -504,8 +512,9 @@ standard input, one in each line, and answers each on standard output:
 
 A step is one instruction. A thread waits at each access until the objects have
 the versions that the log names, so where it cannot go on other threads have to
-go on before. The same steps lead to the same state, however often they are
-made. T.P is event P of thread T, counted from 0, as `wreplay gather` lists it.";
+go on before: `waits` says up to which events. The same steps lead to the same
+state, however often they are made. T.P is event P of thread T, counted from 0,
+as `wreplay gather` lists it.";
 
 /// How `debug` refuses.
 pub(crate) const DEBUG_REFUSALS: &str = "\

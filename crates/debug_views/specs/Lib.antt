@@ -8,6 +8,9 @@ pub mod Standing
 pub mod Stopping
 pub mod ThreadNotes
 pub mod Views
+pub use Rattle.binary_decoder.specs.Kept
+pub use Rattle.binary_decoder.specs.Names
+pub use Rattle.binary_decoder.specs.Printable
 pub use Rattle.replay_breaks.specs.declared.breaks.Break
 pub mod TraceLines
 pub mod Trace

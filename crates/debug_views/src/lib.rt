@@ -28,6 +28,7 @@ mod tracing;
 mod values;
 mod viewing;
 
+pub use binary_decoder::{FunctionNames, fits_line};
 pub use blocks::{BlockRange, blocks_of_range};
 pub use breaks::write_break;
 pub use ending::notes_of_end;

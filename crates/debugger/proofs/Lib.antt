@@ -6,6 +6,7 @@ pub mod Closing
 pub mod Places
 pub mod Lists
 pub mod ThreadEvents
+pub mod Awaited
 pub mod ToldEvents
 pub mod Reached
 pub mod ShownBytes

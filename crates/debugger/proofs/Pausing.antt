@@ -3,9 +3,9 @@ use Rattle.std.proofs.Common.{eqb, vec_len, ◌≡◌, ℕ, zero, suc, add-one, 
 use Rattle.std.specs.Global.{Vec}
 use Rattle.std.proofs.lemmas.Bool.{eqb-true}
 use Rattle.std.proofs.lemmas.Option.{slice_get_within}
-use Rattle.block_objects.specs.SharedMemory.{shared_memory}
+use Rattle.wasm_world.specs.SharedMemory.{shared_memory}
 use Rattle.event_core.specs.Threads.{all_steps}
-use Rattle.integer_machine.specs.declared.standing.CodePlace.{CodePlace}
+use Rattle.wasm_world.specs.CodePlace.{CodePlace}
 use Rattle.wasm_world.specs.Opening.{WasmWorld}
 use Rattle.wasm_world.specs.ThreadCode.{thread_code}
 use Rattle.replay_laws.specs.Log.{Log}

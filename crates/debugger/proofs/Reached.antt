@@ -1,7 +1,7 @@
 -- A stop on the way to a place is at a break of the list, or at none.
 use Rattle.std.proofs.Common.{List}
 use Rattle.std.proofs.lemmas.Option.{slice_get_within}
-use Rattle.block_objects.specs.SharedMemory.{shared_memory}
+use Rattle.wasm_world.specs.SharedMemory.{shared_memory}
 use Rattle.wasm_world.specs.Opening.{WasmWorld}
 use Rattle.wasm_world.specs.ThreadCode.{thread_code}
 use Rattle.replay_laws.specs.Log.{Log}

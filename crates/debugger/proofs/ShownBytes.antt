@@ -4,7 +4,7 @@ use Rattle.std.specs.Prelude.{ℕ, String, string_bytes}
 use Rattle.std.specs.Global.{Global}
 use Rattle.wasm_types.specs.declared.no_memory.NoMemory.{NoMemory}
 use Rattle.wasm_types.specs.declared.range.ByteRange.{ByteRange}
-use Rattle.block_objects.specs.SharedMemory.{shared_memory}
+use Rattle.wasm_world.specs.SharedMemory.{shared_memory}
 use Rattle.wasm_world.specs.Opening.{WasmWorld}
 use Rattle.debug_views.specs.Blocks.{AreHolding}
 use Rattle.debug_views.specs.declared.blocks.BlockRange.{BlockRange}

@@ -4,12 +4,13 @@ use Rattle.std.specs.Prelude.{ℕ, Option, Some, String, string_bytes}
 use Rattle.std.specs.Global.{Global}
 use Rattle.wasm_types.specs.declared.no_memory.NoMemory.{NoMemory}
 use Rattle.rw_objects.specs.declared.count.Count.{Count}
-use Rattle.block_objects.specs.Objects.{block_of, block_object}
-use Rattle.block_objects.specs.SharedMemory.{shared_memory}
+use Rattle.wasm_world.specs.Objects.{block_of, block_object}
+use Rattle.wasm_world.specs.SharedMemory.{shared_memory}
 use Rattle.wasm_world.specs.Opening.{WasmWorld}
 use Rattle.replay_laws.specs.Log.{Log}
 use Rattle.wasm_replay.specs.Replays.{gathered_log}
 use Rattle.debug_views.specs.Values.{memory_bytes}
+use Rattle.debugger.specs.declared.touched.Events.TheVariants.{Made}
 use Rattle.debugger.specs.declared.touched.Role.{Role}
 use Rattle.debugger.specs.declared.touched.Sought.{Sought}
 use Rattle.debugger.specs.Answers.{body_text}
@@ -29,12 +30,12 @@ is_body lines text (Ok t) is h = inl (is ∙ h)
 is_body lines text (Err e) is h = inr is
 
 pub told_of : (s : DebugAt) (r : Role) (address : ℕ) (w : WasmWorld) (log : Log) (sought : Sought) (text : List ℕ) (body : Result (String Global) NoMemory) → w ≡ s.world → log ≡ gathered_log s.log → sought ≡ sought_at s r address
-    → address + 1 ≤ length (memory_bytes shared_memory w) → text ≡ body_text body → IfOk body (λ t. string_bytes t ≡ sought_line sought (events_of log sought 0 w.threads)) → AreTold s r address text
+    → address + 1 ≤ length (memory_bytes shared_memory w) → text ≡ body_text body → IfOk body (λ t. string_bytes t ≡ sought_line sought (events_of log sought Made 0 w.threads)) → AreTold s r address text
 told_of s r address w log sought text body same logged asked within is h = record {
   within = subst (λ (x : WasmWorld). address + 1 ≤ length (memory_bytes shared_memory x)) same within;
-  is = subst (λ (x : WasmWorld). IsBody (sought_line (sought_at s r address) (events_of (gathered_log s.log) (sought_at s r address) 0 x.threads)) text) same
-      (subst (λ (l : Log). IsBody (sought_line (sought_at s r address) (events_of l (sought_at s r address) 0 w.threads)) text) logged
-      (subst (λ (q : Sought). IsBody (sought_line q (events_of log q 0 w.threads)) text) asked (is_body (sought_line sought (events_of log sought 0 w.threads)) text body is h)));
+  is = subst (λ (x : WasmWorld). IsBody (sought_line (sought_at s r address) (events_of (gathered_log s.log) (sought_at s r address) Made 0 x.threads)) text) same
+      (subst (λ (l : Log). IsBody (sought_line (sought_at s r address) (events_of l (sought_at s r address) Made 0 w.threads)) text) logged
+      (subst (λ (q : Sought). IsBody (sought_line q (events_of log q Made 0 w.threads)) text) asked (is_body (sought_line sought (events_of log sought Made 0 w.threads)) text body is h)));
 }
 
 pub object_told : (s : DebugAt) (object : ℕ) (w : WasmWorld) (log : Log) (count : Count) (text : List ℕ) (body : Result (String Global) NoMemory) → w ≡ s.world → log ≡ gathered_log s.log → Some count ≡ counted s object

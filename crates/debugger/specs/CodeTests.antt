@@ -1,8 +1,8 @@
 -- Tests of where threads stand in the code.
 use Rattle.std.specs.Prelude.{ℕ, ◌==◌, ◌&&◌, Bool, List, Option, Some, None, length, nat_lt, position, slice_get, if◌then◌else◌}
 use Rattle.event_core.specs.Threads.{ThreadAt}
-use Rattle.integer_machine.specs.declared.standing.CodePlace.{CodePlace}
-use Rattle.integer_machine.specs.Standing.{standing}
+use Rattle.wasm_world.specs.CodePlace.{CodePlace}
+use Rattle.wasm_world.specs.Standing.{standing}
 use Rattle.wasm_world.specs.Opening.{WasmWorld}
 use Rattle.wasm_world.specs.ThreadCode.{ThreadAt as CodeThread}
 

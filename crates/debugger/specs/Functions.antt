@@ -4,9 +4,9 @@ use Rattle.std.specs.Fmt.{decimal}
 use Rattle.std.specs.Str.{bytes_eq}
 use Rattle.wasm_types.specs.declared.modules.Body.{Body}
 use Rattle.wasm_types.specs.declared.modules.Module.{Module}
-use Rattle.binary_decoder.specs.Names.{function_name}
-use Rattle.binary_decoder.specs.Printable.{fits_line}
-use Rattle.integer_machine.specs.declared.standing.CodePlace.{CodePlace}
+use Rattle.debug_views.specs.Names.{function_name}
+use Rattle.debug_views.specs.Printable.{fits_line}
+use Rattle.wasm_world.specs.CodePlace.{CodePlace}
 use Rattle.debugger.specs.declared.word.Word.{Word}
 use Rattle.debugger.specs.Lines.{word_of}
 

@@ -6,6 +6,8 @@ pub mod Around
 pub mod CodeTests
 pub mod Functions
 pub mod Touched
+pub mod Locals
+pub mod Waits
 pub mod Replies
 pub mod At
 pub mod Dialogue

@@ -5,8 +5,9 @@ use Rattle.std.specs.Str.{bytes_eq}
 use Rattle.std.specs.Str.Parse.{signed_digits_value, starts_with_minus}
 use Rattle.text_lines.specs.Integers.{is_decimal, bits_of}
 use Rattle.text_lines.specs.Parts.{words}
+use Rattle.wasm_types.specs.declared.range.ByteRange.{ByteRange}
 use Rattle.debugger.specs.declared.command.Command.{Command}
-use Rattle.debugger.specs.declared.command.Command.TheVariants.{Step, Event, Finish, Continue, Again, Back, Reverse, Goto, GotoWriter, Place, Function, Write, Delete, Threads, Where, Around, Object, Writer, Readers, Bytes, Way, Help, Quit}
+use Rattle.debugger.specs.declared.command.Command.TheVariants.{Step, Event, Finish, Continue, Again, Back, Reverse, Goto, GotoWriter, Place, Function, Write, Delete, Threads, Where, Locals, Stack, Waits, Around, Object, Writer, Readers, Bytes, Way, Help, Quit}
 use Rattle.debugger.specs.declared.word.Word.{Word}
 use Rattle.debugger.specs.declared.command.Line.{Line}
 use Rattle.debugger.specs.declared.command.Line.TheVariants as line
@@ -38,7 +39,10 @@ of_thread word n =
     if bytes_eq word (codes "event") then Some (Event n 1) else (
     if bytes_eq word (codes "finish") then Some (Finish n) else (
     if bytes_eq word (codes "where") then Some (Where n) else (
-    if bytes_eq word (codes "around") then Some (Around n 5) else None))))
+    if bytes_eq word (codes "locals") then Some (Locals n 0) else (
+    if bytes_eq word (codes "stack") then Some (Stack n 0) else (
+    if bytes_eq word (codes "waits") then Some (Waits n) else (
+    if bytes_eq word (codes "around") then Some (Around n 5) else None)))))))
 
 -- of anything else
 abbrev pub of_number : List ℕ → ℕ → Option Command
@@ -69,18 +73,32 @@ function_break (Some name) (Some n) = Some (Function name n)
 abbrev pub with_one : List ℕ → List ℕ → Option Command
 with_one word first = if bytes_eq word (codes "break") then function_break (word_of first) (Some 0) else with_number word (number_of first)
 
+-- of a thread and a number
+abbrev pub of_thread_with : List ℕ → (thread n : ℕ) → Option Command
+of_thread_with word thread n =
+    if bytes_eq word (codes "step") then Some (Step thread n) else (
+    if bytes_eq word (codes "event") then Some (Event thread n) else (
+    if bytes_eq word (codes "goto") then Some (Goto thread n) else (
+    if bytes_eq word (codes "place") then Some (Place thread n) else (
+    if bytes_eq word (codes "locals") then Some (Locals thread n) else (
+    if bytes_eq word (codes "stack") then Some (Stack thread n) else (
+    if bytes_eq word (codes "around") then Some (Around thread n) else None))))))
+
+-- of a range of bytes
+abbrev pub of_range : List ℕ → ByteRange → Option Command
+of_range word range =
+    if bytes_eq word (codes "write") then Some (Write range) else (
+    if bytes_eq word (codes "bytes") then Some (Bytes range) else None)
+
+abbrev pub or_of_range : Option Command → List ℕ → ByteRange → Option Command
+or_of_range (Some command) word range = Some command
+or_of_range None word range = of_range word range
+
 -- the command of a word and two numbers
 abbrev pub with_numbers : List ℕ → Option ℕ → Option ℕ → Option Command
 with_numbers word None second = None
 with_numbers word (Some n) None = None
-with_numbers word (Some n) (Some k) =
-    if bytes_eq word (codes "step") then Some (Step n k) else (
-    if bytes_eq word (codes "event") then Some (Event n k) else (
-    if bytes_eq word (codes "goto") then Some (Goto n k) else (
-    if bytes_eq word (codes "around") then Some (Around n k) else (
-    if bytes_eq word (codes "place") then Some (Place n k) else (
-    if bytes_eq word (codes "write") then Some (Write (record { from = n; len = k })) else (
-    if bytes_eq word (codes "bytes") then Some (Bytes (record { from = n; len = k })) else None))))))
+with_numbers word (Some n) (Some k) = or_of_range (of_thread_with word n k) word (record { from = n; len = k })
 
 -- the command of three words
 abbrev pub with_two : List ℕ → List ℕ → List ℕ → Option Command
@@ -121,6 +139,9 @@ ends (Write range) = false
 ends Delete = false
 ends Threads = false
 ends (Where thread) = false
+ends (Locals thread depth) = false
+ends (Stack thread depth) = false
+ends (Waits thread) = false
 ends (Around thread events) = false
 ends (Object object) = false
 ends (Writer address) = false

@@ -3,13 +3,15 @@ use Rattle.std.specs.Prelude.{◌≡◌, ◌⊎◌, ℕ, zero, suc, ◌+◌, ◌
 use Rattle.std.specs.List.{flat_map}
 use Rattle.std.specs.Fmt.{decimal}
 use Rattle.wasm_types.specs.declared.range.ByteRange.{ByteRange}
+use Rattle.wasm_types.specs.declared.value.Value.{Value}
 use Rattle.wasm_types.specs.declared.modules.Module.{Module}
 use Rattle.wasm_types.specs.Memories.{block_power}
 use Rattle.rw_objects.specs.declared.count.Count.{Count}
-use Rattle.block_objects.specs.Objects.{block_of, block_object}
-use Rattle.block_objects.specs.SharedMemory.{shared_memory}
+use Rattle.wasm_world.specs.Objects.{block_of, block_object}
+use Rattle.wasm_world.specs.SharedMemory.{shared_memory}
 use Rattle.event_core.specs.Threads.{ThreadAt, all_steps}
-use Rattle.integer_machine.specs.declared.standing.CodePlace.{CodePlace}
+use Rattle.wasm_world.specs.CodePlace.{CodePlace}
+use Rattle.wasm_world.specs.Standing.{locals_at, operands_at}
 use Rattle.wasm_world.specs.Opening.{WasmWorld}
 use Rattle.wasm_world.specs.Plans.{PlanValue}
 use Rattle.wasm_world.specs.ThreadCode.{thread_code, ThreadAt as CodeThread}
@@ -54,10 +56,13 @@ use Rattle.debugger.specs.Answers.{memory_line}
 use Rattle.debugger.specs.Around.{around_text}
 use Rattle.debugger.specs.CodeTests.{depth_in, is_out, stands_at}
 use Rattle.debugger.specs.Functions.{IsMeant, IsShort, NoneCalled}
+use Rattle.debugger.specs.Locals.{locals_text, operands_text}
 use Rattle.debugger.specs.Touched.{events_of, object_text, sought_line, IsFirstEvent, NoEvent}
+use Rattle.debugger.specs.Waits.{waits_text}
 use Rattle.debugger.specs.declared.word.Word.{Word}
 use Rattle.debugger.specs.declared.command.Command.{Command}
-use Rattle.debugger.specs.declared.command.Command.TheVariants.{Step, Event, Finish, Continue, Again, Back, Reverse, Goto, GotoWriter, Place, Function, Write, Delete, Threads, Where, Around, Object, Writer, Readers, Bytes, Way, Help, Quit}
+use Rattle.debugger.specs.declared.command.Command.TheVariants.{Step, Event, Finish, Continue, Again, Back, Reverse, Goto, GotoWriter, Place, Function, Write, Delete, Threads, Where, Locals, Stack, Waits, Around, Object, Writer, Readers, Bytes, Way, Help, Quit}
+use Rattle.debugger.specs.declared.touched.Events.TheVariants.{Made}
 use Rattle.debugger.specs.declared.touched.Role.{Role}
 use Rattle.debugger.specs.declared.touched.Role.TheVariants as role
 use Rattle.debugger.specs.declared.touched.Sought.{Sought}
@@ -216,6 +221,9 @@ no_bytes = codes "error: the memory ends before\n"
 abbrev pub no_thread : List ℕ
 no_thread = codes "error: no such thread\n"
 
+abbrev pub not_in_function : List ℕ
+not_in_function = codes "error: the thread is in no such function\n"
+
 -- that a place was not reached, and where all threads stopped
 abbrev pub unreached_line : Stopped → List Break → List ℕ
 unreached_line stopped breaks = codes "error: no such place: " ++ stopped_line stopped breaks
@@ -369,6 +377,28 @@ abbrev pub IsWhere : PlaceForm → ℕ → Option (ThreadAt CodeThread) → List
 IsWhere form thread None text = text ≡ no_thread
 IsWhere form thread (Some t) text = IsBody (thread_line form thread t) text
 
+-- the locals of a function that a thread is in, if it is in as many; its operands
+abbrev pub IsLocalsOf : Option (List Value) → List ℕ → Type 0
+IsLocalsOf None text = text ≡ not_in_function
+IsLocalsOf (Some values) text = IsBody (locals_text values) text
+
+abbrev pub IsLocals : ℕ → Option (ThreadAt CodeThread) → List ℕ → Type 0
+IsLocals depth None text = text ≡ no_thread
+IsLocals depth (Some t) text = IsLocalsOf (locals_at t.state.state depth) text
+
+abbrev pub IsOperandsOf : Option (List ℕ) → List ℕ → Type 0
+IsOperandsOf None text = text ≡ not_in_function
+IsOperandsOf (Some words) text = IsBody (operands_text words) text
+
+abbrev pub IsOperands : ℕ → Option (ThreadAt CodeThread) → List ℕ → Type 0
+IsOperands depth None text = text ≡ no_thread
+IsOperands depth (Some t) text = IsOperandsOf (operands_at t.state.state depth) text
+
+-- which events ahead a thread's next event waits for, if there is a thread of that number
+abbrev pub AreAwaited : GatheredLog → WasmWorld → ℕ → Option (ThreadAt CodeThread) → List ℕ → Type 0
+AreAwaited log w thread None text = text ≡ no_thread
+AreAwaited log w thread (Some t) text = IsBody (waits_text (gathered_log log) w.threads w.memory.counts thread t.places) text
+
 -- what the log has of the last n events of a thread, and of its next, if there is one of that number
 abbrev pub IsAround : GatheredLog → ℕ → ℕ → Option (ThreadAt CodeThread) → List ℕ → Type 0
 IsAround log thread n None text = text ≡ no_thread
@@ -385,7 +415,7 @@ sought_at s r address = record {
 -- which of the events made so far wrote it, or read it
 pub record AreTold (s : DebugAt) (r : Role) (address : ℕ) (text : List ℕ) : Type 0 where
   pub within : address + 1 ≤ length (memory_bytes shared_memory s.world)
-  pub is : IsBody (sought_line (sought_at s r address) (events_of (gathered_log s.log) (sought_at s r address) 0 s.world.threads)) text
+  pub is : IsBody (sought_line (sought_at s r address) (events_of (gathered_log s.log) (sought_at s r address) Made 0 s.world.threads)) text
 
 -- what an object is, if there is one of that number
 abbrev pub IsObject : DebugAt → ℕ → Option Count → List ℕ → Type 0
@@ -425,6 +455,9 @@ Replies (Write range) s text u = ((b : Break) × IsWriteOfRange s.power range.fr
 Replies Delete s text u = (text ≡ no_breaks) × (u ≡ without_breaks s)
 Replies Threads s text u = IsBody (standing_text s.form s.world) text × (u ≡ s)
 Replies (Where thread) s text u = IsWhere s.form thread (slice_get s.world.threads thread) text × (u ≡ s)
+Replies (Locals thread depth) s text u = IsLocals depth (slice_get s.world.threads thread) text × (u ≡ s)
+Replies (Stack thread depth) s text u = IsOperands depth (slice_get s.world.threads thread) text × (u ≡ s)
+Replies (Waits thread) s text u = AreAwaited s.log s.world thread (slice_get s.world.threads thread) text × (u ≡ s)
 Replies (Around thread n) s text u = IsAround s.log thread n (slice_get s.world.threads thread) text × (u ≡ s)
 Replies (Object object) s text u = IsObject s object (counted s object) text × (u ≡ s)
 Replies (Writer address) s text u = (AreTold s role.Writer address text ⊎ ArePast s (byte_at address) text) × (u ≡ s)

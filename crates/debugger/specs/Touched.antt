@@ -1,17 +1,20 @@
 -- Which events made a version of an object, and which read it (LeBlanc and Mellor-Crummey 1987).
-use Rattle.std.specs.Prelude.{◌≡◌, ℕ, zero, suc, ◌+◌, ◌<◌, ◌==◌, ◌&&◌, Bool, true, false, List, [], ◌∷◌, ◌++◌, Option, Some, None, codes, slice_get}
+use Rattle.std.specs.Prelude.{◌≡◌, ℕ, zero, suc, ◌+◌, ◌-◌, ◌<◌, ◌==◌, ◌&&◌, Bool, true, false, List, [], ◌∷◌, ◌++◌, Option, Some, None, codes, slice_get}
 use Rattle.std.specs.List.{list_any}
 use Rattle.std.specs.Fmt.{decimal}
 use Rattle.rw_objects.specs.declared.count.Count.{Count}
 use Rattle.rw_objects.specs.declared.entry.Entry.{Entry}
 use Rattle.rw_objects.specs.declared.touch.Found.{Found}
 use Rattle.rw_objects.specs.declared.touch.Found.TheVariants as found
+use Rattle.log_pieces.specs.declared.end.End.{End}
 use Rattle.join_laws.specs.declared.flat.Flat.{Flat}
 use Rattle.join_laws.specs.declared.flat.Flat.TheVariants.{Known, Clash}
 use Rattle.event_core.specs.Threads.{ThreadAt}
 use Rattle.replay_laws.specs.Log.{Log}
 use Rattle.replica.specs.declared.diverging.EventAt.{EventAt}
 use Rattle.replica.specs.Objects.{object_text as bytes_of_object}
+use Rattle.debugger.specs.declared.touched.Events.{Events}
+use Rattle.debugger.specs.declared.touched.Events.TheVariants.{Made, Ahead}
 use Rattle.debugger.specs.declared.touched.Role.{Role}
 use Rattle.debugger.specs.declared.touched.Role.TheVariants as role
 use Rattle.debugger.specs.declared.touched.Sought.{Sought}
@@ -42,15 +45,29 @@ abbrev pub event_if : Bool → ℕ → ℕ → List ℕ
 event_if false thread place = []
 event_if true thread place = codes " " ++ (decimal thread ++ (codes "." ++ decimal place))
 
--- those of a thread's first events that did, by rising place
-abbrev pub events_of_thread : Log → Sought → ℕ → ℕ → List ℕ
-events_of_thread log s thread zero = []
-events_of_thread log s thread (suc place) = events_of_thread log s thread place ++ event_if (is_sought_item s (log.entry thread place)) thread place
+-- those of n of a thread's events that did, from the first on
+abbrev pub events_from : Log → Sought → (thread first n : ℕ) → List ℕ
+events_from log s thread first zero = []
+events_from log s thread first (suc n) = events_from log s thread first n ++ event_if (is_sought_item s (log.entry thread (first + n))) thread (first + n)
 
--- those of the events that threads made, which are numbered from `thread` on
-abbrev pub events_of : {State : Type 0} → Log → Sought → ℕ → List (ThreadAt State) → List ℕ
-events_of log s thread [] = []
-events_of log s thread (t ∷ ts) = events_of_thread log s thread t.places ++ events_of log s (thread + 1) ts
+-- the first of the events of a thread that has made so many, and their number: ahead of it are those up to its end
+abbrev pub first_of : Events → ℕ → ℕ
+first_of Made places = 0
+first_of Ahead places = places
+
+abbrev pub count_of : Events → Option (Flat End) → ℕ → ℕ
+count_of Made end places = places
+count_of Ahead None places = 0
+count_of Ahead (Some Clash) places = 0
+count_of Ahead (Some (Known end)) places = end.places - places
+
+abbrev pub events_of_thread : Log → Sought → Events → (thread places : ℕ) → List ℕ
+events_of_thread log s events thread places = events_from log s thread (first_of events places) (count_of events (log.end thread) places)
+
+-- those of the events of threads, which are numbered from `thread` on
+abbrev pub events_of : {State : Type 0} → Log → Sought → Events → ℕ → List (ThreadAt State) → List ℕ
+events_of log s events thread [] = []
+events_of log s events thread (t ∷ ts) = events_of_thread log s events thread t.places ++ events_of log s events (thread + 1) ts
 
 -- none of a thread's first events did
 abbrev pub NoEventOfThread : Log → Sought → (thread places : ℕ) → Type 0
@@ -101,7 +118,7 @@ abbrev pub sought_of : Role → ℕ → Count → Sought
 sought_of r object c = record { role = r; object = object; version = c.version }
 
 abbrev pub told_of : {State : Type 0} → Log → List (ThreadAt State) → Sought → List ℕ
-told_of log threads s = sought_line s (events_of log s 0 threads)
+told_of log threads s = sought_line s (events_of log s Made 0 threads)
 
 -- `object O bytes F..L version V reads R`, which of the events that threads made wrote that version, and which read it;
 -- in blocks of 2 ^ power bytes

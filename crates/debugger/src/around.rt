@@ -42,7 +42,7 @@ fn write_item(
 }
 
 /// Writes what is claimed of a thread's next event, if anything is.
-fn write_next(
+pub(crate) fn write_next(
     text: &mut String,
     thread: u32,
     place: u32,

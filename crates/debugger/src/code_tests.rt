@@ -5,9 +5,8 @@ ghost use Rattle.event_core.specs.World.{world_of};
 ghost use Rattle.debugger.specs.CodeTests.{depth_in, is_out, is_same, place_among, place_in, stands_at};
 
 use event_core::World;
-use integer_machine::CodePlace;
 use replay_session::Test;
-use wasm_world::{SharedSpace, ThreadState};
+use wasm_world::{CodePlace, SharedSpace, ThreadState};
 
 /// In how many functions a thread is; one that has ended is in none.
 pub(crate) fn depth_in(world: &World<ThreadState<'_>, SharedSpace>, thread: u32) -> usize

@@ -36,6 +36,12 @@ pub enum Command {
     Threads,
     /// How a thread stands.
     Where { thread: u32 },
+    /// The locals of the function that a thread runs, or of a caller of it by its number from 1.
+    Locals { thread: u32, depth: u32 },
+    /// Its operands.
+    Stack { thread: u32, depth: u32 },
+    /// Which events must come before a thread's next event.
+    Waits { thread: u32 },
     /// What the log has of so many of a thread's last events, and of its next.
     Around { thread: u32, events: u32 },
     /// Which bytes an object is, its version, who wrote that, and who read it.

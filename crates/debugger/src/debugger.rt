@@ -2,10 +2,9 @@
 
 use crate::opening::WasmSession;
 use debug_views::PlaceWriter;
-use integer_machine::CodePlace;
 use replay_breaks::Break;
 use wasm_types::Block;
-use wasm_world::Valid;
+use wasm_world::{CodePlace, Valid};
 
 /// A debugger of the replay of a gathered log of a module and a plan. Contracts see by `at_of` where it stands.
 #[derive(Drop)]

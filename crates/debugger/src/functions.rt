@@ -2,17 +2,16 @@
 
 ghost use Rattle.std.specs.Prelude.{◌≡◌, IfOk, length, option_copied};
 ghost use Rattle.std.specs.Fmt.{decimal};
-ghost use Rattle.binary_decoder.specs.Kept.{name_of};
+ghost use Rattle.debug_views.specs.Kept.{name_of};
 ghost use Rattle.debugger.specs.Lines.{word_of};
 ghost use Rattle.debugger.specs.Functions.{is_called, is_named, is_word, has_instruction, IsFound};
 
 use crate::word::{Word, word_of};
-use binary_decoder::{FunctionNames, fits_line};
-use integer_machine::CodePlace;
+use debug_views::{FunctionNames, fits_line};
 use itoa::Buffer;
 use std::alloc::Global;
 use wasm_types::{Module, NoMemory};
-use wasm_world::Valid;
+use wasm_world::{CodePlace, Valid};
 
 /// Whether a word is this one.
 fn is_word(word: &Word, other: Option<Word>) -> bool

@@ -20,6 +20,9 @@ write FROM LEN  break behind a write of a block that holds one of these bytes
 delete          forget all breaks
 threads         how each thread stands, and where
 where T         how thread T stands, and where
+locals T [N]    the locals of the function that thread T runs, or of its Nth caller
+stack T [N]     its operands, the topmost first
+waits T         which events must come before the next event of thread T
 bytes FROM LEN  these bytes, and the versions of their blocks
 around T [N]    the last N events of thread T (5), and its next, as listed
 object O        which bytes object O is, its version, who wrote and read that

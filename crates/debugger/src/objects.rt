@@ -4,7 +4,7 @@ ghost use Rattle.std.specs.Prelude.{◌≡◌, IfOk, string_bytes};
 ghost use Rattle.event_core.specs.World.{world_of};
 ghost use Rattle.debugger.specs.Touched.{object_text};
 
-use crate::touched::{Role, Sought, sought_text};
+use crate::touched::{Events, Role, Sought, sought_text};
 use event_core::World;
 use replay_gate::ReadLog;
 use replica::object_text as place_text;
@@ -38,6 +38,7 @@ pub(crate) fn object_text<M: Machine<S>, S: ObjectSpace, L: ReadLog>(
             object,
             version,
         },
+        Events::Made,
     )?;
     let role = Role::Reader;
     let read = sought_text(
@@ -49,6 +50,7 @@ pub(crate) fn object_text<M: Machine<S>, S: ObjectSpace, L: ReadLog>(
             object,
             version,
         },
+        Events::Made,
     )?;
     let written = written.as_str();
     let read = read.as_str();

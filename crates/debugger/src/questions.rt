@@ -1,28 +1,33 @@
 //! What a debugger is asked for that changes nothing.
 
 ghost use Rattle.std.specs.Prelude.{◌≡◌, ◌⊎◌, slice_get};
-ghost use Rattle.block_objects.specs.Objects.{block_of, block_object};
+ghost use Rattle.wasm_world.specs.Objects.{block_of, block_object};
 ghost use Rattle.debugger.specs.Answers.{answer_text};
 ghost use Rattle.debugger.specs.At.{at_of};
-ghost use Rattle.debugger.specs.Replies.{AreShown, ArePast, AreTold, IsAround, IsObject, IsWhere, byte_at, counted, sought_at};
+ghost use Rattle.debugger.specs.Replies.{AreAwaited, AreShown, ArePast, AreTold, IsAround, IsLocals, IsObject, IsOperands, IsWhere, byte_at, counted, sought_at};
 
-use crate::answer::{Answer, line, lines};
+use crate::answer::{Answer, line, lines, wanting};
 use crate::around::around_text;
 use crate::debugger::Debugger;
+use crate::locals::{locals_text, operands_text};
 use crate::objects::object_text;
 use crate::shown_bytes::bytes_text;
 use crate::standing::thread_text;
-use crate::touched::{Role, Sought, sought_text};
-use block_objects::block_number;
+use crate::touched::{Events, Role, Sought, sought_text};
+use crate::waits::waits_text;
 use debug_views::{is_in_view, versions};
 use std::alloc::Global;
-use wasm_types::{Block, ByteRange};
+use wasm_types::{Block, ByteRange, NoMemory};
+use wasm_world::block_number;
 
 /// What is said of bytes that the memory does not have.
 pub(crate) const NO_BYTES: &str = "error: the memory ends before\n";
 
 /// What is said of an object that there is not.
 const NO_OBJECT: &str = "error: no such object\n";
+
+/// What is said where a thread is in no function of that number.
+const NOT_IN_FUNCTION: &str = "error: the thread is in no such function\n";
 
 /// What is said of a thread that there is not.
 const NO_THREAD: &str = "error: no such thread\n";
@@ -45,6 +50,47 @@ impl<'a> Debugger<'a> {
             lines(thread_text(alloc, &self.places, world, thread))
         } else {
             line(alloc, NO_THREAD)
+        }
+    }
+
+    /// Shows the locals of a function that a thread is in.
+    pub(crate) fn show_locals(&self, alloc: Global, thread: u32, depth: u32) -> Answer
+        ensures { IsLocals depth (slice_get (at_of self.now).world.threads thread) (answer_text result) }
+    {
+        let Some(machine) = self.session.world().machine(thread) else {
+            return line(alloc, NO_THREAD);
+        };
+        if machine.code_place(depth as usize).is_none() {
+            return line(alloc, NOT_IN_FUNCTION);
+        }
+        match machine.locals(alloc, depth as usize) {
+            Ok(Some(values)) => lines(locals_text(alloc, values.as_slice())),
+            Ok(None) => line(alloc, NOT_IN_FUNCTION),
+            Err(NoMemory) => wanting(),
+        }
+    }
+
+    /// Shows the operands of a function that a thread is in.
+    pub(crate) fn show_operands(&self, alloc: Global, thread: u32, depth: u32) -> Answer
+        ensures { IsOperands depth (slice_get (at_of self.now).world.threads thread) (answer_text result) }
+    {
+        let Some(machine) = self.session.world().machine(thread) else {
+            return line(alloc, NO_THREAD);
+        };
+        match machine.operands(depth as usize) {
+            Some(words) => lines(operands_text(alloc, words)),
+            None => line(alloc, NOT_IN_FUNCTION),
+        }
+    }
+
+    /// Shows which events ahead a thread's next event waits for.
+    pub(crate) fn show_waits(&self, alloc: Global, thread: u32) -> Answer
+        ensures { AreAwaited (at_of self.now).log (at_of self.now).world thread (slice_get (at_of self.now).world.threads thread) (answer_text result) }
+    {
+        let world = self.session.world();
+        match world.places(thread) {
+            Some(places) => lines(waits_text(alloc, world, self.session.log(), thread, places)),
+            None => line(alloc, NO_THREAD),
         }
     }
 
@@ -108,7 +154,7 @@ impl<'a> Debugger<'a> {
         let world = self.session.world();
         if is_in_view(world, address, 1) {
             let sought = self.sought_at(role, address);
-            lines(sought_text(alloc, world, self.session.log(), sought))
+            lines(sought_text(alloc, world, self.session.log(), sought, Events::Made))
         } else {
             line(alloc, NO_BYTES)
         }

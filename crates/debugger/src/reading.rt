@@ -2,7 +2,7 @@
 
 ghost use Rattle.std.specs.Prelude.{◌≡◌, ◌≤◌, ◌∷◌, [], Some, length};
 ghost use Rattle.text_lines.specs.Parts.{words};
-ghost use Rattle.debugger.specs.Lines.{number_of, alone, function_break, of_thread, of_number, with_number, with_numbers, with_one, with_two, word_of, command_of, line_of};
+ghost use Rattle.debugger.specs.Lines.{number_of, alone, function_break, of_thread, of_thread_with, of_number, of_range, with_number, with_numbers, with_one, with_two, word_of, command_of, line_of};
 
 use crate::command::{Command, Line};
 use crate::word::word_of;
@@ -37,6 +37,12 @@ const DELETE: &[u8] = b"delete";
 const THREADS: &[u8] = b"threads";
 
 const WHERE: &[u8] = b"where";
+
+const LOCALS: &[u8] = b"locals";
+
+const STACK: &[u8] = b"stack";
+
+const WAITS: &[u8] = b"waits";
 
 const AROUND: &[u8] = b"around";
 
@@ -104,6 +110,12 @@ fn of_thread(word: &[u8], thread: u32) -> Option<Command>
         Some(Command::Finish { thread })
     } else if word == WHERE {
         Some(Command::Where { thread })
+    } else if word == LOCALS {
+        Some(Command::Locals { thread, depth: 0 })
+    } else if word == STACK {
+        Some(Command::Stack { thread, depth: 0 })
+    } else if word == WAITS {
+        Some(Command::Waits { thread })
     } else if word == AROUND {
         Some(Command::Around { thread, events: 5 })
     } else {
@@ -161,45 +173,62 @@ fn with_one(word: &[u8], first: &[u8]) -> Option<Command>
     }
 }
 
-/// The command of a word and two numbers.
-fn with_numbers(word: &[u8], first: u32, second: u32) -> Option<Command>
-    ensures { result ≡ with_numbers word.now (Some first) (Some second) }
+/// The command of a word, a thread and a number.
+fn of_thread_with(word: &[u8], thread: u32, number: u32) -> Option<Command>
+    ensures { result ≡ of_thread_with word.now thread number }
 {
-    let range = ByteRange {
-        from: first,
-        len: second,
-    };
     if word == STEP {
-        Some(Command::Step {
-            thread: first,
-            steps: second,
-        })
+        let steps = number;
+        Some(Command::Step { thread, steps })
     } else if word == EVENT {
-        Some(Command::Event {
-            thread: first,
-            events: second,
-        })
+        let events = number;
+        Some(Command::Event { thread, events })
     } else if word == GOTO {
-        Some(Command::Goto {
-            thread: first,
-            place: second,
-        })
-    } else if word == AROUND {
-        Some(Command::Around {
-            thread: first,
-            events: second,
-        })
+        let place = number;
+        Some(Command::Goto { thread, place })
     } else if word == PLACE {
-        Some(Command::Place {
-            thread: first,
-            place: second,
-        })
-    } else if word == WRITE {
+        let place = number;
+        Some(Command::Place { thread, place })
+    } else if word == LOCALS {
+        let depth = number;
+        Some(Command::Locals { thread, depth })
+    } else if word == STACK {
+        let depth = number;
+        Some(Command::Stack { thread, depth })
+    } else if word == AROUND {
+        let events = number;
+        Some(Command::Around { thread, events })
+    } else {
+        None
+    }
+}
+
+/// The command of a word and a range of bytes.
+fn of_range(word: &[u8], range: ByteRange) -> Option<Command>
+    ensures { result ≡ of_range word.now range }
+{
+    if word == WRITE {
         Some(Command::Write(range))
     } else if word == BYTES {
         Some(Command::Bytes(range))
     } else {
         None
+    }
+}
+
+/// The command of a word and two numbers.
+fn with_numbers(word: &[u8], first: u32, second: u32) -> Option<Command>
+    ensures { result ≡ with_numbers word.now (Some first) (Some second) }
+{
+    match of_thread_with(word, first, second) {
+        Some(command) => Some(command),
+        None => of_range(
+            word,
+            ByteRange {
+                from: first,
+                len: second,
+            },
+        ),
     }
 }
 

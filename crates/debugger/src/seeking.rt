@@ -1,7 +1,7 @@
 //! Moves to what a question is answered by.
 
 ghost use Rattle.std.specs.Prelude.{◌≡◌, ◌⊎◌, ◌+◌, ◌^◌, ◌<◌, IfSome};
-ghost use Rattle.block_objects.specs.SharedMemory.{shared_memory};
+ghost use Rattle.wasm_world.specs.SharedMemory.{shared_memory};
 ghost use Rattle.debug_views.specs.Values.{is_in_view, memory_bytes};
 ghost use Rattle.wasm_replay.specs.Replays.{gathered_log};
 ghost use Rattle.debugger.specs.Answers.{answer_text};
@@ -20,9 +20,9 @@ use crate::questions::NO_BYTES;
 use crate::touched::Role;
 use crate::word::Word;
 use debug_views::is_in_view;
-use integer_machine::CodePlace;
 use replica::EventAt;
 use std::alloc::Global;
+use wasm_world::CodePlace;
 
 /// What is said where no event wrote a block.
 const NOBODY: &str = "error: nobody wrote it\n";

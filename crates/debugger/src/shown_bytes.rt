@@ -1,7 +1,7 @@
 //! Bytes of a memory, as lines.
 
 ghost use Rattle.std.specs.Prelude.{◌≡◌, ◌+◌, ◌≤◌, IfOk, length, string_bytes};
-ghost use Rattle.block_objects.specs.SharedMemory.{shared_memory};
+ghost use Rattle.wasm_world.specs.SharedMemory.{shared_memory};
 ghost use Rattle.event_core.specs.World.{world_of};
 ghost use Rattle.debug_views.specs.Blocks.{AreHolding};
 ghost use Rattle.debug_views.specs.Values.{memory_bytes};

@@ -60,6 +60,7 @@ fn ends(command: Command) -> bool
         Command::Place { .. } | Command::Function { .. } | Command::Write(_) => false,
         Command::Delete => false,
         Command::Threads | Command::Where { .. } | Command::Bytes(_) => false,
+        Command::Locals { .. } | Command::Stack { .. } | Command::Waits { .. } => false,
         Command::Around { .. } | Command::Object { .. } | Command::Way => false,
         Command::Writer { .. } | Command::Readers { .. } | Command::Help => false,
     }

@@ -1,12 +1,13 @@
 //! Who wrote a version of an object, and who read it.
 
-ghost use Rattle.std.specs.Prelude.{◌≡◌, ◌++◌, ◌<◌, IfOk, OnOk, option_copied, string_bytes};
+ghost use Rattle.std.specs.Prelude.{◌≡◌, ◌++◌, ◌+◌, ◌^◌, ◌<◌, ◌≤◌, IfOk, OnOk, option_copied, string_bytes};
 ghost use Rattle.std.specs.List.{list_any};
 ghost use Rattle.event_core.specs.World.{world_of};
-ghost use Rattle.debugger.specs.Touched.{is_writer, is_reader, is_sought, is_sought_entry, is_sought_item, event_if, events_of_thread, events_of, or_nobody, role_words, sought_line};
+ghost use Rattle.debugger.specs.Touched.{is_writer, is_reader, is_sought, is_sought_entry, is_sought_item, event_if, events_from, events_of, first_of, count_of, or_nobody, role_words, sought_line};
 
 use event_core::World;
 use join_laws::Flat;
+use log_pieces::End;
 use replay_gate::ReadLog;
 use rw_objects::{Entry, Found, Machine, ObjectSpace};
 use std::alloc::Global;
@@ -47,6 +48,40 @@ impl Role {
         match self {
             Role::Writer => " written by",
             Role::Reader => " read by",
+        }
+    }
+}
+
+/// Which events of the threads are looked through.
+#[derive(Clone, Copy, Debug, PartialEq, Eq)]
+pub enum Events {
+    /// Those that they have made.
+    Made,
+    /// Those that they have still to make. Of a thread whose end is not known none is.
+    Ahead,
+}
+
+impl Events {
+    /// The first of a thread that has made so many.
+    fn first(self, places: u32) -> u32
+        ensures first { result ≡ first_of self places }
+        ensures few { result ≤ places }
+    {
+        match self {
+            Events::Made => 0,
+            Events::Ahead => places,
+        }
+    }
+
+    /// How many there are of a thread that has made so many, whose end this is.
+    fn count(self, end: Option<Flat<End>>, places: u32) -> u32
+        ensures count { result ≡ count_of self end places }
+        ensures few { first_of self places + result < 2 ^ 32 }
+    {
+        match (self, end) {
+            (Events::Made, _) => places,
+            (Events::Ahead, Some(Flat::Known(end))) => end.places.saturating_sub(places),
+            (Events::Ahead, Some(Flat::Clash) | None) => 0,
         }
     }
 }
@@ -117,44 +152,50 @@ fn write_if(text: &mut String, did: bool, thread: u32, place: u32) -> Result<(),
     Ok(())
 }
 
-/// Writes which of a thread's first events did so. The reader goes forward through the log.
-fn write_events_of_thread<L: ReadLog>(
+/// Writes which of so many of a thread's events did so, from the first on. The reader goes forward through the log.
+fn write_events<L: ReadLog>(
     text: &mut String,
     log: &L,
     reader: &mut L::Reader,
     sought: Sought,
     thread: u32,
-    places: u32,
+    first: u32,
+    count: u32,
 ) -> Result<(), NoMemory>
     requires reads { L.reads log.now reader.old }
     requires few { thread < 16 }
-    ensures written { OnOk result (string_bytes text.new ≡ string_bytes text.old ++ events_of_thread (L.log log.now) sought thread places) }
+    requires end { first + count < 2 ^ 32 }
+    ensures written { OnOk result (string_bytes text.new ≡ string_bytes text.old ++ events_from (L.log log.now) sought thread first count) }
     ensures reads { OnOk result (L.reads log.now reader.new) }
 {
-    for place in 0..places {
-        log.read(reader, thread, place);
+    for index in 0..count {
+        log.read(reader, thread, first + index);
         let did = sought.is_item(L::held(reader, thread));
-        write_if(text, did, thread, place)?;
+        write_if(text, did, thread, first + index)?;
     }
     Ok(())
 }
 
-/// Which of the events that the threads of a world made did so.
+/// Which of the threads' events did so.
 fn events_of<M: Machine<S>, S: ObjectSpace, L: ReadLog>(
     alloc: Global,
     world: &World<M, S>,
     log: &L,
     sought: Sought,
+    events: Events,
 ) -> Result<String, NoMemory>
-    ensures { IfOk result (λ text. string_bytes text ≡ events_of (L.log log.now) sought 0 (world_of world.now).threads) }
+    ensures { IfOk result (λ text. string_bytes text ≡ events_of (L.log log.now) sought events 0 (world_of world.now).threads) }
 {
     let mut text = String::new(alloc);
     let mut reader = log.reader();
-    for thread in 0..world.count() {
-        let Some(places) = world.places(thread as u32) else {
+    for number in 0..world.count() {
+        let thread = number as u32;
+        let Some(places) = world.places(thread) else {
             unreachable!()
         };
-        write_events_of_thread(&mut text, log, &mut reader, sought, thread as u32, places)?;
+        let first = events.first(places);
+        let count = events.count(log.end(thread), places);
+        write_events(&mut text, log, &mut reader, sought, thread, first, count)?;
     }
     Ok(text)
 }
@@ -166,16 +207,17 @@ fn or_nobody(events: &str) -> &str
     if events.is_empty() { " nobody" } else { events }
 }
 
-/// The line that says who wrote a version of an object, or who read it, of the events made so far.
+/// The line that says who writes a version of an object, or who reads it, of these events.
 pub(crate) fn sought_text<M: Machine<S>, S: ObjectSpace, L: ReadLog>(
     alloc: Global,
     world: &World<M, S>,
     log: &L,
     sought: Sought,
+    events: Events,
 ) -> Result<String, NoMemory>
-    ensures { IfOk result (λ text. string_bytes text ≡ sought_line sought (events_of (L.log log.now) sought 0 (world_of world.now).threads)) }
+    ensures { IfOk result (λ text. string_bytes text ≡ sought_line sought (events_of (L.log log.now) sought events 0 (world_of world.now).threads)) }
 {
-    let events = events_of(alloc, world, log, sought)?;
+    let events = events_of(alloc, world, log, sought, events)?;
     let object = sought.object;
     let version = sought.version;
     let words = sought.role.words();

@@ -8,7 +8,8 @@
 mod laws;
 mod open;
 
-pub use integer_machine::{ThreadSeen, ThreadState, memory_limits};
+pub use block_objects::block_number;
+pub use integer_machine::{CodePlace, ThreadSeen, ThreadState, memory_limits};
 pub use laws::{opening_worlds_open, plans_open};
 pub use open::{OpeningParts, open_parts, open_world};
 pub use thread_plan::Plan;

@@ -5,8 +5,8 @@ use Rattle.event_core.specs.World.{world_of}
 use Rattle.debugger.specs.Touched.{events_of}
 use Rattle.debugger.proofs.touched.events_of.Given as goal
 
-abbrev pub invariant-loop-thread : goal.invariant-loop-thread
-invariant-loop-thread g l = record {
-  written : string_bytes l.text ++ events_of (g.L.ReadLog.log l.log) l.sought l.thread (drop l.thread (world_of l.world).threads) ≡ events_of (g.L.ReadLog.log l.log) l.sought 0 (world_of l.world).threads;
+abbrev pub invariant-loop-number : goal.invariant-loop-number
+invariant-loop-number g l = record {
+  written : string_bytes l.text ++ events_of (g.L.ReadLog.log l.log) l.sought l.events l.number (drop l.number (world_of l.world).threads) ≡ events_of (g.L.ReadLog.log l.log) l.sought l.events 0 (world_of l.world).threads;
   reads : g.L.ReadLog.reads l.log l.reader;
 }

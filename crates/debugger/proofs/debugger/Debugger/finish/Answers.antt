@@ -1,6 +1,6 @@
 use Rattle.std.proofs.Common.{ap, ◌∙◌, subst, rules}
 use Rattle.std.specs.Prelude.{ℕ}
-use Rattle.block_objects.specs.SharedMemory.{shared_memory}
+use Rattle.wasm_world.specs.SharedMemory.{shared_memory}
 use Rattle.event_core.specs.World.{world_of}
 use Rattle.wasm_replay.specs.Replays.{gathered_log}
 use Rattle.wasm_world.specs.ThreadCode.{thread_code}

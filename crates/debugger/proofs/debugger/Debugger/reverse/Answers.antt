@@ -1,6 +1,6 @@
 use Rattle.std.proofs.Common.{inl, subst, List, rules}
-use Rattle.block_objects.specs.SharedMemory.{shared_memory}
-use Rattle.integer_machine.specs.declared.standing.CodePlace.{CodePlace}
+use Rattle.wasm_world.specs.SharedMemory.{shared_memory}
+use Rattle.wasm_world.specs.CodePlace.{CodePlace}
 use Rattle.wasm_replay.specs.Replays.{gathered_log}
 use Rattle.wasm_world.specs.ThreadCode.{thread_code}
 use Rattle.replay_breaks.specs.declared.breaks.Break.{Break}

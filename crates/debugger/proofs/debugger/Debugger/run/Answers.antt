@@ -1,6 +1,6 @@
 use Rattle.std.proofs.Common.{[], subst, List, sym, rules}
-use Rattle.block_objects.specs.SharedMemory.{shared_memory}
-use Rattle.integer_machine.specs.declared.standing.CodePlace.{CodePlace}
+use Rattle.wasm_world.specs.SharedMemory.{shared_memory}
+use Rattle.wasm_world.specs.CodePlace.{CodePlace}
 use Rattle.event_core.specs.World.{world_of}
 use Rattle.wasm_replay.specs.Replays.{gathered_log}
 use Rattle.wasm_world.specs.ThreadCode.{thread_code}
