@@ -83,6 +83,18 @@ impl Blocks {
         }
     }
 
+    /// The same memory once more.
+    pub fn copied(&self, alloc: Global) -> Result<Blocks, NoMemory>
+        ensures { IfOk result (λ copy. copy ≡ self.now) }
+    {
+        let bytes = self.bytes.as_slice().to_vec(alloc)?;
+        Ok(Blocks {
+            bytes,
+            pages: self.pages,
+            limits: self.limits,
+        })
+    }
+
     /// All bytes, up to the capacity.
     pub fn bytes(&self) -> &[u8]
         ensures bytes { result.now ≡ self.now.bytes }

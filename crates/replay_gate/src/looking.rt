@@ -50,7 +50,7 @@ fn local_steps_ahead<M: Machine<S> + Drop, S: ObjectSpace, L: ReadLog>(
     if left < rounds {
         return Err(Fewer(left));
     }
-    let Ok(Some(mut machine)) = world.copied(alloc, thread) else {
+    let Ok(Some(mut machine)) = world.copied_machine(alloc, thread) else {
         return Err(Fewer(0));
     };
     match machine.local_run(rounds) {

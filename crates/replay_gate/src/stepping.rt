@@ -21,7 +21,7 @@ use crate::ready::{Ready, rests_still, take_ready};
 use crate::replaying::OpenWorld;
 use crate::turn::{steps_left, take_turn};
 use event_core::World;
-use rw_objects::{Machine, ObjectSpace};
+use rw_objects::{CopiedSpace, Machine, ObjectSpace};
 use std::alloc::Global;
 use wasm_types::NoMemory;
 
@@ -52,6 +52,27 @@ impl<M: Machine<S>, S: ObjectSpace, L: ReadLog + Drop, O: OpenWorld<M, S> + Drop
             Ok(world) => Ok(Replay { opens, log, world }),
             Err(error) => Err(error),
         }
+    }
+}
+
+impl<M: Machine<S> + Drop, S: CopiedSpace, L: ReadLog + Copy, O: OpenWorld<M, S> + Copy> Replay<
+    M,
+    S,
+    L,
+    O,
+> {
+    /// The same replay once more.
+    pub fn copied(&self, alloc: Global) -> Result<Replay<M, S, L, O>, NoMemory>
+        ensures log { IfOk result (λ copy. copy.log ≡ self.now.log) }
+        ensures opens { IfOk result (λ copy. copy.opens ≡ self.now.opens) }
+        ensures world { IfOk result (λ copy. world_of copy.world ≡ world_of self.now.world) }
+    {
+        let world = self.world.copied(alloc)?;
+        Ok(Replay {
+            opens: self.opens,
+            log: self.log,
+            world,
+        })
     }
 }
 

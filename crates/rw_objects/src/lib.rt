@@ -5,6 +5,7 @@
 //! a log that may say no to it before anything changes (`EntryLog::takes`).
 #![tactic(auto)]
 
+mod copied_space;
 mod count;
 mod entry;
 mod entry_log;
@@ -17,6 +18,7 @@ mod touches;
 mod versioned;
 mod versions;
 
+pub use copied_space::CopiedSpace;
 pub use count::Count;
 pub use entry::{Entry, Kind};
 pub use entry_log::{EntryLog, NoLog};

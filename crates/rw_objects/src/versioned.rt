@@ -4,6 +4,7 @@ ghost use Rattle.std.specs.Prelude.{◌≡◌, length, true, IfOk, IsTrue, ◌�
 ghost use Rattle.rw_objects.specs.Space.{Fits, is_ready, reply_of};
 ghost use Rattle.rw_objects.specs.Counts.{no_counts, CanCountAll};
 
+use crate::copied_space::CopiedSpace;
 use crate::entry::Entry;
 use crate::space::ObjectSpace;
 use crate::versions::Versions;
@@ -26,6 +27,19 @@ impl<S: ObjectSpace + Drop> Versioned<S> {
         ensures { IfOk result (λ versioned. memory_of versioned ≡ memory_with (S.fixed space) (S.values space) no_counts) }
     {
         let versions = Versions::new(alloc, space.objects())?;
+        Ok(Versioned { space, versions })
+    }
+}
+
+impl<S: CopiedSpace> Versioned<S> {
+    ghost use Rattle.rw_objects.specs.Memory.{memory_of};
+
+    /// The same space and versions once more.
+    pub fn copied(&self, alloc: Global) -> Result<Versioned<S>, NoMemory>
+        ensures { IfOk result (λ copy. memory_of copy ≡ memory_of self.now) }
+    {
+        let versions = self.versions.copied(alloc)?;
+        let space = self.space.copied(alloc)?;
         Ok(Versioned { space, versions })
     }
 }

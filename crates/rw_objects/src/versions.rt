@@ -40,6 +40,14 @@ impl Versions {
         Ok(Versions { counts })
     }
 
+    /// The same counts once more.
+    pub fn copied(&self, alloc: Global) -> Result<Versions, NoMemory>
+        ensures { IfOk result (λ copy. copy ≡ self.now) }
+    {
+        let counts = self.counts.as_slice().to_vec(alloc)?;
+        Ok(Versions { counts })
+    }
+
     /// The allocator of the counts.
     pub fn allocator(&self) -> Global {
         *self.counts.allocator()

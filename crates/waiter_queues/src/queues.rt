@@ -50,6 +50,18 @@ fn make_up_to(made: &mut Vec<Queue>, block: usize)
     }
 }
 
+/// The same queues once more, with room for so many.
+fn copied_queues(alloc: Global, queues: &[Queue], room: usize) -> Result<Vec<Queue>, NoMemory>
+    ensures queues { IfOk result (λ copy. copy.items ≡ queues.now) }
+    ensures room { IfOk result (λ copy. room ≤ vec_capacity copy) }
+{
+    let mut copy = Vec::with_capacity(alloc, room)?;
+    for queue in queues {
+        copy.push(queue.copy())?;
+    }
+    Ok(copy)
+}
+
 impl Queues {
     /// So many queues, in which nobody stands. Nothing later takes memory.
     pub fn new(alloc: Global, count: u32) -> Result<Queues, NoMemory>
@@ -60,6 +72,18 @@ impl Queues {
         Ok(Queues {
             made,
             count,
+            nobody: Queue::new(),
+        })
+    }
+
+    /// The same queues once more.
+    pub fn copied(&self, alloc: Global) -> Result<Queues, NoMemory>
+        ensures { IfOk result (λ copy. copy ≡ self.now) }
+    {
+        let made = copied_queues(alloc, self.made.as_slice(), self.count)?;
+        Ok(Queues {
+            made,
+            count: self.count,
             nobody: Queue::new(),
         })
     }

@@ -23,7 +23,7 @@ ghost use Rattle.waiter_queues.specs.Acts.{CanAct, Acts};
 
 use crate::queues::Queues;
 use block_objects::{Blocks, MemoryLimits, ObjectValue, block_number, ends_within, lone_block};
-use rw_objects::{Entry, Kind, Mode, ObjectSpace, Touch, Touches, Versions};
+use rw_objects::{CopiedSpace, Entry, Kind, Mode, ObjectSpace, Touch, Touches, Versions};
 use std::alloc::Global;
 use wasm_types::{
     Access, Action, Block, Data, Extent, Load, MOST_PAGES, NoMemory, Op, PAGE_SIZE, Reply, Trap,
@@ -66,6 +66,16 @@ impl SharedSpace {
         ensures queues { result.queues ≡ queues }
     {
         SharedSpace { blocks, queues }
+    }
+
+    /// The same memory once more.
+    fn copy(&self, alloc: Global) -> Result<SharedSpace, NoMemory>
+        ensures blocks { IfOk result (λ copy. copy.blocks ≡ self.now.blocks) }
+        ensures queues { IfOk result (λ copy. copy.queues ≡ self.now.queues) }
+    {
+        let blocks = self.blocks.copied(alloc)?;
+        let queues = self.queues.copied(alloc)?;
+        Ok(SharedSpace { blocks, queues })
     }
 
     /// Its blocks and its queues.
@@ -284,6 +294,12 @@ fn lone_touch(op: &Op) -> Option<Touch>
             ..
         } => lone_access(&op.extent, Mode::Write, address, access.width()),
         _ => None,
+    }
+}
+
+impl CopiedSpace for SharedSpace {
+    fn copied(&self, alloc: Global) -> Result<SharedSpace, NoMemory> {
+        self.copy(alloc)
     }
 }
 
