@@ -9,6 +9,8 @@ pub mod TurnAnswers
 pub mod Keeping
 pub mod EventTurns
 pub mod Together
+pub mod RunsInParts
+pub mod PartByPart
 pub mod GoingAgain
 pub mod UntilTests
 pub mod PausedRounds
@@ -18,4 +20,6 @@ pub mod Reaching
 pub mod LastHits
 pub mod StepsOfWays
 pub mod LegByLeg
+pub mod KeptWays
+pub mod KeptLists
 pub mod Reversing

@@ -151,7 +151,7 @@ module _ {State Op Reply Value Fixed : Type 0} (space : Space Op Reply Value Fix
   pub in_first : (i : ℕ) → i < n → thread_of_turn [] n i ≡ i
   in_first i l = ap (thread_of_turn [] n) (let z : i ≡ 0 + (0 * n + i) = omega arith in z) ∙ thread_there [] n 0 i l
 
-  same_thread : (r j m : ℕ) → m ≡ n → thread_of_turn [] n (r * n + j) ≡ thread_of_turn [] m j
+  pub same_thread : (r j m : ℕ) → m ≡ n → thread_of_turn [] n (r * n + j) ≡ thread_of_turn [] m j
   same_thread r j m is =
       let a : r * n + j - 0 ≡ r * n + j = omega arith in
       let b : j ≡ j - 0 = omega arith in
@@ -167,7 +167,7 @@ module _ {State Op Reply Value Fixed : Type 0} (space : Space Op Reply Value Fix
       ∙ ap (λ x. world_after_turn space code x t (turn_of space code log x t)) (shifted r j)
       ∙ ap (λ y. let x = ordered_world space code log u [] j in world_after_turn space code x y (turn_of space code log x y)) (same_thread r j m (ordered_length space code log w [] (r * n)))
 
-  behind_rounds : (r j : ℕ) (u v : WorldAt State Value Fixed) → u ≡ point (r * n) → v ≡ ordered_world space code log u [] j → v ≡ point (r * n + j)
+  pub behind_rounds : (r j : ℕ) (u v : WorldAt State Value Fixed) → u ≡ point (r * n) → v ≡ ordered_world space code log u [] j → v ≡ point (r * n + j)
   behind_rounds r j u v a b = b ∙ ap (λ x. ordered_world space code log x [] j) a ∙ sym (shifted r j)
 
   pub turns_behind : (a b : ℕ) (u v : WorldAt State Value Fixed) → RoundsGo space code log a w u → TurnsLead space code log b u v → TurnsLead space code log (a + b) w v
@@ -176,13 +176,42 @@ module _ {State Op Reply Value Fixed : Type 0} (space : Space Op Reply Value Fix
       let t = y.steps in
       record { turns = x.rounds * n + y.turns; leads = behind_rounds x.rounds y.turns u v x.leads y.leads; steps = omega (arith, s, t) }
 
+  -- behind rounds there are as many threads
+  pub as_many : (a : ℕ) (u : WorldAt State Value Fixed) → RoundsGo space code log a w u → length u.threads ≡ n
+  as_many a u x = ap (λ (z : WorldAt State Value Fixed). length z.threads) x.leads ∙ ordered_length space code log w [] (x.rounds * n)
+
   pub rounds_behind : (a b : ℕ) (u v : WorldAt State Value Fixed) → RoundsGo space code log a w u → RoundsGo space code log b u v → RoundsGo space code log (a + b) w v
   rounds_behind a b u v x y =
       let s = x.steps in
       let t = y.steps in
-      let m : length u.threads ≡ n = ap (λ (z : WorldAt State Value Fixed). length z.threads) x.leads ∙ ordered_length space code log w [] (x.rounds * n) in
+      let m = as_many a u x in
       let k : x.rounds * n + y.rounds * length u.threads ≡ (x.rounds + y.rounds) * n = ap (λ i. x.rounds * n + y.rounds * i) m ∙ (let d : x.rounds * n + y.rounds * n ≡ (x.rounds + y.rounds) * n = grind arith in d) in
       record { rounds = x.rounds + y.rounds; leads = behind_rounds x.rounds (y.rounds * length u.threads) u v x.leads y.leads ∙ ap point k; steps = omega (arith, s, t) }
+
+  -- behind rounds come others where more steps may be made than there are threads
+  pub rounds_on : (a b made count most : ℕ) (u v : WorldAt State Value Fixed) → count ≡ n → count < most → RoundsGo space code log a w u
+      → (length u.threads < most → RoundsGo space code log b u v) → a + b ≡ made → RoundsGo space code log made w v
+  rounds_on a b made count most u v all more x y is =
+      let m = as_many a u x in
+      subst (λ i. RoundsGo space code log i w v) is (rounds_behind a b u v x (y (omega (arith, m, all, more))))
+
+  -- turns behind whole rounds are what is left
+  pub turns_rest : (s a : ℕ) (u x : WorldAt State Value Fixed) → a ≤ s → RoundsGo space code log a w u → TurnsLead space code log s w x → TurnsLead space code log (s - a) u x
+  turns_rest s a u x few r t =
+      let p = r.rounds * n in
+      let k = t.turns in
+      let made = r.steps in
+      let all = t.steps in
+      let eu = ap (λ (y : WorldAt State Value Fixed). all_steps code y.threads) r.leads in
+      let ex = ap (λ (y : WorldAt State Value Fixed). all_steps code y.threads) t.leads in
+      elim (cases_lt k p) [
+        | inl l ↦
+            let g = grows k p (omega (arith, l)) in
+            record { turns = 0; leads = t.leads ∙ same_point k p (omega (arith, eu, ex, made, all, few, g)) ∙ sym r.leads; steps = omega (arith, eu, ex, made, all, few, g) }
+        | inr l ↦
+            let z : k ≡ p + (k - p) = omega (arith, l) in
+            record { turns = k - p; leads = t.leads ∙ ap point z ∙ shifted r.rounds (k - p) ∙ ap (λ y. ordered_world space code log y [] (k - p)) (sym r.leads); steps = omega (arith, made, all, few) }
+      ]
 
   pub no_rounds : RoundsGo space code log 0 w w
   no_rounds = record { rounds = 0; leads = ap point (let z : 0 ≡ 0 * n = omega arith in z); steps = omega arith }

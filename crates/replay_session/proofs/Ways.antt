@@ -39,6 +39,15 @@ module _ {State Op Reply Value Fixed : Type 0} (space : Space Op Reply Value Fix
     leads = b.leads ∙ ap (λ y. thread_world space code log y t n) a.leads ∙ sym (further w t m n);
   }
 
+  -- turns behind the first m are what is left
+  pub thread_rest : (t n m : ℕ) (w u x : WorldAt State Value Fixed) → m ≤ n → ThreadLeads space code log t m w u → ThreadLeads space code log t n w x → ThreadLeads space code log t (n - m) u x
+  thread_rest t n m w u x few a b =
+      let there = λ (i : ℕ). ap (λ y. thread_world space code log y t i) a.leads ∙ sym (further w t m i) in
+      record {
+        steps = λ i l. ap (λ y. makes_step (turn_of space code log y t)) (there i) ∙ b.steps (m + i) (omega (arith, l, few));
+        leads = b.leads ∙ ap (thread_world space code log w t) (let z : n ≡ m + (n - m) = omega (arith, few) in z) ∙ sym (there (n - m));
+      }
+
   pub one_turn : (t : ℕ) (w v : WorldAt State Value Fixed) → makes_step (turn_of space code log w t) ≡ true → v ≡ world_after_turn space code w t (turn_of space code log w t) → ThreadLeads space code log t 1 w v
   one_turn t w v made is = record { steps = λ i l. let z : 0 ≡ i = omega (arith, l) in subst (λ j. makes_step (turn_of space code log (thread_world space code log w t j) t) ≡ true) z made; leads = is }
 
@@ -103,6 +112,14 @@ module _ {State Op Reply Value Fixed : Type 0} (space : Space Op Reply Value Fix
       go false q rest = (rest.0, (a.0, a.1, rest.1))
 
   -- ---- ways that go on
+
+  pub way_joined : (ls ms : List Leg) (w u v : WorldAt State Value Fixed) → WayLeads space code log ls w u → WayLeads space code log ms u v → WayLeads space code log (ls ++ ms) w v
+  way_joined [] ms w u v a b = subst (λ x. WayLeads space code log ms x v) a b
+  way_joined (l ∷ ls) ms w u v a b = (a.0, a.1, way_joined ls ms a.0 u v a.2 b)
+
+  pub way_parted : (ls ms : List Leg) (w v : WorldAt State Value Fixed) → WayLeads space code log (ls ++ ms) w v → (u : WorldAt State Value Fixed) × WayLeads space code log ls w u × WayLeads space code log ms u v
+  way_parted [] ms w v a = (w, refl, a)
+  way_parted (l ∷ ls) ms w v a = let r = way_parted ls ms a.0 v a.2 in (r.0, (a.0, a.1, r.1), r.2)
 
   leg_behind : (ls : List Leg) (l : Leg) (w u v : WorldAt State Value Fixed) → WayLeads space code log ls w u → LegLeads space code log l u v → WayLeads space code log (ls ++ (l ∷ [])) w v
   leg_behind [] l w u v a b = (v, subst (λ x. LegLeads space code log l x v) a b, refl)

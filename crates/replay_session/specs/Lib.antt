@@ -2,6 +2,8 @@ pub mod Legs
 pub mod Ways
 pub mod OneWay
 pub mod Rounds
+pub mod Kept
+pub mod Parts
 pub mod Gone
 pub mod Events
 pub mod Reaching

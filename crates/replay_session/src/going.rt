@@ -1,12 +1,14 @@
 //! Going a way again.
 
-ghost use Rattle.std.specs.Prelude.{◌≡◌, OnOk};
+ghost use Rattle.std.specs.Prelude.{◌≡◌, ◌≤◌, IfOk, OnOk};
 ghost use Rattle.event_core.specs.World.{WorldAt, world_of};
+ghost use Rattle.replay_session.specs.Kept.{PartLeads};
+ghost use Rattle.replay_session.specs.Legs.{leg_with};
 ghost use Rattle.replay_session.specs.Ways.{LegLeads, WayLeads};
 
 use crate::gone::Ceased;
 use crate::legs::Leg;
-use crate::rounds::go_rounds;
+use crate::rounds::{go_rounds, go_whole_rounds};
 use crate::threads::{go_thread, is_want_of_memory};
 use replay_gate::{OpenWorld, ReadLog, Replay};
 use rw_objects::{Machine, ObjectSpace};
@@ -43,6 +45,24 @@ fn go_leg<M: Machine<S> + Drop, S: ObjectSpace, L: ReadLog, O: OpenWorld<M, S>>(
             let made = go_rounds(alloc, replay, steps)?;
             if made { Ok(()) } else { unreachable!() }
         }
+    }
+}
+
+/// Goes on by at most so many steps of a leg, by whole rounds where it is of rounds, and answers how many it made.
+pub(crate) fn go_part<M: Machine<S> + Drop, S: ObjectSpace, L: ReadLog, O: OpenWorld<M, S>>(
+    alloc: Global,
+    replay: &mut Replay<M, S, L, O>,
+    leg: Leg,
+    most: u64,
+) -> Result<u64, NoMemory>
+    ensures log { replay.new.log ≡ replay.old.log }
+    ensures opens { replay.new.opens ≡ replay.old.opens }
+    ensures few { IfOk result (λ made. made ≤ most) }
+    ensures part { IfOk result (λ made. PartLeads S.meaning M.code (L.log replay.old.log) (leg_with leg made) (world_of replay.old.world) (world_of replay.new.world)) }
+{
+    match leg {
+        Leg::Thread { thread, steps: _ } => Ok(go_thread(alloc, replay, thread, most).steps),
+        Leg::Rounds { steps: _ } => go_whole_rounds(alloc, replay, most),
     }
 }
 

@@ -26,7 +26,7 @@ impl Leg {
     }
 
     /// The leg with so many steps in place of its own.
-    fn with(self, steps: u64) -> Leg
+    pub(crate) fn with(self, steps: u64) -> Leg
         ensures { result ≡ leg_with self steps }
     {
         match self {

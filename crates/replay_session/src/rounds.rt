@@ -1,6 +1,6 @@
 //! Turns of all threads in rounds.
 
-ghost use Rattle.std.specs.Prelude.{◌≡◌, ◌≤◌, ◌<◌, IfOk, true, false};
+ghost use Rattle.std.specs.Prelude.{◌≡◌, ◌≤◌, ◌<◌, IfOk, true, false, length};
 ghost use Rattle.event_core.specs.World.{world_of};
 ghost use Rattle.replay_session.specs.Gone.{TurnPasses};
 ghost use Rattle.replay_session.specs.Ways.{TurnsLead};
@@ -54,6 +54,7 @@ fn go_round<M: Machine<S>, S: ObjectSpace, L: ReadLog, O: OpenWorld<M, S>>(
     ensures log { replay.new.log ≡ replay.old.log }
     ensures opens { replay.new.opens ≡ replay.old.opens }
     ensures few { IfOk result (λ made. made ≤ most) }
+    ensures round { IfOk result (λ made. made ≤ length (world_of replay.old.world).threads) }
     ensures leads { IfOk result (λ made. TurnsLead S.meaning M.code (L.log replay.old.log) made (world_of replay.old.world) (world_of replay.new.world)) }
     ensures whole { IfOk result (λ made. made < most → RoundsGo S.meaning M.code (L.log replay.old.log) made (world_of replay.old.world) (world_of replay.new.world)) }
     ensures rest { IfOk result (λ made. made < most → made ≡ 0 → AllRest S.meaning M.code (L.log replay.old.log) (world_of replay.new.world)) }
@@ -106,6 +107,7 @@ fn go_some<M: Machine<S> + Drop, S: ObjectSpace, L: ReadLog, O: OpenWorld<M, S>>
     ensures few { IfOk result (λ made. made ≤ most) }
     ensures leads { IfOk result (λ made. TurnsLead S.meaning M.code (L.log replay.old.log) made (world_of replay.old.world) (world_of replay.new.world)) }
     ensures whole { IfOk result (λ made. made < most → RoundsGo S.meaning M.code (L.log replay.old.log) made (world_of replay.old.world) (world_of replay.new.world)) }
+    ensures rounds { IfOk result (λ made. length (world_of replay.old.world).threads < most → RoundsGo S.meaning M.code (L.log replay.old.log) made (world_of replay.old.world) (world_of replay.new.world)) }
     ensures rest { IfOk result (λ made. made < most → made ≡ 0 → AllRest S.meaning M.code (L.log replay.old.log) (world_of replay.new.world)) }
 {
     let together = go_together(alloc, replay, pace, most);
@@ -139,4 +141,30 @@ pub(crate) fn go_rounds<M: Machine<S> + Drop, S: ObjectSpace, L: ReadLog, O: Ope
         missing -= made;
     }
     Ok(true)
+}
+
+/// Takes turns of threads 0, 1, .. in whole rounds, by which at most so many steps are made, and answers how many were
+/// made. There may be fewer than come.
+pub(crate) fn go_whole_rounds<M: Machine<S> + Drop, S: ObjectSpace, L: ReadLog, O: OpenWorld<M, S>>(
+    alloc: Global,
+    replay: &mut Replay<M, S, L, O>,
+    most: u64,
+) -> Result<u64, NoMemory>
+    ensures log { replay.new.log ≡ replay.old.log }
+    ensures opens { replay.new.opens ≡ replay.old.opens }
+    ensures few { IfOk result (λ made. made ≤ most) }
+    ensures rounds { IfOk result (λ made. RoundsGo S.meaning M.code (L.log replay.old.log) made (world_of replay.old.world) (world_of replay.new.world)) }
+{
+    let mut reader = replay.reader();
+    let mut pace = Pace::new();
+    let count = replay.world().count() as u64;
+    let mut made: u64 = 0;
+    while most - made > count {
+        let more = go_some(alloc, replay, &mut reader, &mut pace, most - made)?;
+        if more == 0 {
+            return Ok(made);
+        }
+        made += more;
+    }
+    Ok(made)
 }

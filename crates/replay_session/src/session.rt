@@ -19,21 +19,22 @@ ghost use Rattle.replay_session.specs.Until.{UntilCeases};
 ghost use Rattle.replay_session.specs.Ways.{ThreadLeads, WayLeads};
 
 use crate::events::go_events;
-use crate::going::go_way;
 use crate::gone::{Gone, WITHOUT_MEMORY};
+use crate::keeps::Keeps;
 use crate::legs::{Leg, first_steps, steps_of_way};
 use crate::paused::{Met, Paused};
 use crate::pausing::rounds_until;
 use crate::putting::{put_steps, put_turns};
 use crate::reverse::{Hit, last_hit};
+use crate::run_parts::run_and_keep;
 use crate::sums::steps_of_world;
 use crate::test::Test;
 use crate::threads::{go_thread, steps_of};
 use crate::until::go_until;
 use event_core::World;
-use replay_breaks::{Break, Stopped, run_to};
+use replay_breaks::{Break, Stopped};
 use replay_gate::{OpenWorld, ReadLog, Replay, ReplayFault, Turned};
-use rw_objects::{Machine, ObjectSpace};
+use rw_objects::{CopiedSpace, Machine, ObjectSpace};
 use std::alloc::Global;
 use wasm_types::NoMemory;
 
@@ -54,8 +55,11 @@ pub struct Session<M: Machine<S>, S: ObjectSpace, L: ReadLog, O: OpenWorld<M, S>
     log: L,
     replay: Replay<M, S, L, O>,
     legs: Vec<Leg>,
+    keeps: Keeps<M, S, L, O>,
     ghost same_log: { replay.log ≡ log } by { Coded-set L.code replay.log log },
     ghost same_opens: { replay.opens ≡ opens } by { Coded-set O.code replay.opens opens },
+    ghost keeps_log: { keeps.log ≡ log } by { Coded-set L.code keeps.log log },
+    ghost keeps_opens: { keeps.opens ≡ opens } by { Coded-set O.code keeps.opens opens },
     ghost leads: { ∥ WayLeads S.meaning M.code (L.log replay.log) legs.items (O.opened replay.opens) (world_of replay.world) ∥₁ },
 }
 
@@ -79,6 +83,7 @@ impl<
             log: *log,
             replay,
             legs: Vec::new(alloc),
+            keeps: Keeps::new(alloc, *opens, *log),
         })
     }
 }
@@ -240,8 +245,14 @@ impl<M: Machine<S>, S: ObjectSpace, L: ReadLog, O: OpenWorld<M, S>> Session<M, S
     }
 }
 
-impl<M: Machine<S> + Drop, S: ObjectSpace, L: ReadLog, O: OpenWorld<M, S>> Session<M, S, L, O> {
-    /// Goes on up to a break, as `run_to` does by no order. The way goes on by the steps that all threads made.
+impl<
+    M: Machine<S> + Drop,
+    S: CopiedSpace + Drop,
+    L: ReadLog + Copy + Drop,
+    O: OpenWorld<M, S> + Copy + Drop,
+> Session<M, S, L, O> {
+    /// Goes on up to a break, as `run_to` does by no order, and keeps worlds on the way. The way goes on by the steps that
+    /// all threads made.
     pub fn run_on(&mut self, alloc: Global, breaks: &[Break]) -> Result<Stopped, NoMemory>
         ensures log { self.new.replay.log ≡ self.old.replay.log }
         ensures opens { self.new.replay.opens ≡ self.old.replay.opens }
@@ -254,20 +265,19 @@ impl<M: Machine<S> + Drop, S: ObjectSpace, L: ReadLog, O: OpenWorld<M, S>> Sessi
     {
         self.legs.reserve(1)?;
         let before = steps_of_world(self.replay.world());
-        let stopped = run_to(alloc, &mut self.replay, &[], breaks);
+        let stopped = run_and_keep(
+            alloc,
+            &mut self.replay,
+            &mut self.keeps,
+            self.legs.as_slice(),
+            breaks,
+        );
         put_turns(&mut self.legs, &self.replay, before);
         Ok(stopped)
     }
-}
 
-impl<
-    M: Machine<S> + Drop,
-    S: ObjectSpace + Drop,
-    L: ReadLog + Copy + Drop,
-    O: OpenWorld<M, S> + Copy + Drop,
-> Session<M, S, L, O> {
-    /// Goes back by so many steps, or to the opening world where there are fewer: opens the world again, and goes the
-    /// rest of the way. Where memory could not be had all is as it was.
+    /// Goes back by so many steps, or to the opening world where there are fewer: goes the rest of the way again, from
+    /// the last world that is kept on it, or from the opening world. Where memory could not be had all is as it was.
     pub fn back(&mut self, alloc: Global, steps: u64) -> Result<(), NoMemory>
         requires { O.suits self.old.opens }
         ensures log { self.new.replay.log ≡ self.old.replay.log }
@@ -277,8 +287,7 @@ impl<
         ensures kept { OnErr result (self.new.legs.items ≡ self.old.legs.items) }
     {
         let legs = self.without_last(alloc, steps)?;
-        let mut replay = Replay::new(alloc, self.opens, self.log)?;
-        go_way(alloc, &mut replay, legs.as_slice())?;
+        let replay = self.keeps.replay_behind(alloc, legs.as_slice())?;
         self.legs = legs;
         self.replay = replay;
         Ok(())
@@ -338,7 +347,8 @@ impl<
     {
         match self.last_met(alloc, breaks, test)? {
             None => {
-                *self = Session::new(alloc, &self.opens, &self.log)?;
+                self.replay = Replay::new(alloc, self.opens, self.log)?;
+                self.legs = Vec::new(alloc);
                 Ok(None)
             }
             Some(hit) => {

@@ -23,10 +23,12 @@ loop-thread-preserved g c =
     let below = c.if-made-most.false in
     let l = c.loop-thread-test.true in
     let all = inv.all in
+    let each = inv.each in
     record {
       at = next_point space code laws log w k u v (omega (arith, l, all)) inv.at p.1;
       made = turn_made space code laws log w g.met.S.ObjectSpace.laws limits k c.loop-thread.made c.in_ok-made.field-0 u v p inv.made;
       few = omega (arith, few, below);
+      each = omega (arith, few, each);
       rest = still_rests space code laws log w k c.loop-thread.made c.in_ok-made.field-0 u v p inv.rest;
       all = inv.all;
       reads = c.pass_turn.ensures.reads;

@@ -11,6 +11,7 @@ invariant-loop-thread g l = record {
   at : world_of l.replay.world ≡ ordered_world g.S.ObjectSpace.meaning g.M.Machine.code (g.L.ReadLog.log l.fn.replay.log) (world_of l.fn.replay.world) [] l.thread;
   made : all_steps g.M.Machine.code (world_of l.replay.world).threads ≡ all_steps g.M.Machine.code (world_of l.fn.replay.world).threads + l.made;
   few : l.made ≤ l.most;
+  each : l.made ≤ l.thread;
   rest : l.made ≡ 0 → (t : ℕ) → t < l.thread → makes_step (turn_of g.S.ObjectSpace.meaning g.M.Machine.code (g.L.ReadLog.log l.fn.replay.log) (world_of l.replay.world) t) ≡ false;
   all : l.thread-end ≡ length (world_of l.fn.replay.world).threads;
   reads : g.L.ReadLog.reads l.replay.log l.reader;

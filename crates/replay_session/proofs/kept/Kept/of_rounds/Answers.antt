@@ -1,0 +1,11 @@
+use Rattle.std.proofs.Common.{refl, ap}
+use Rattle.replay_session.specs.declared.legs.Leg.TheVariants as leg
+use Rattle.replay_session.proofs.KeptWays.{stands_same}
+use Rattle.replay_session.proofs.kept.Kept.of_rounds.Goals as goal
+
+pub invariant_of-result : goal.invariant_of-result
+invariant_of-result g c =
+    let copy = c.in_ok-replay.ensures in
+    let part = leg.Rounds c.args.steps in
+    let legs = c.in_ok-legs.ensures.items_if_clones_equal (λ x y same. same) in
+    record { stands = stands_same g.S.ObjectSpace.meaning g.M.Machine.code _ _ _ _ _ _ c.args.legs.now _ part part (ap g.L.ReadLog.log copy.log) (ap g.O.OpenWorld.opened copy.opens) copy.world legs refl c.requires }
