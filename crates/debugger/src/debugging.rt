@@ -47,7 +47,9 @@ pub fn debug_log<R: Source, W: Sink>(
         Ok(debugger) => debugger,
         Err(refused) => return Err(DebugFault::Replay(refused)),
     };
-    match talk(alloc, &mut debugger, source, output) {
+    let talked = talk(alloc, &mut debugger, source, output);
+    drop(debugger);
+    match talked {
         Ok(()) => Ok(()),
         Err(TalkFault::SourceFailed) => Err(DebugFault::SourceFailed),
         Err(TalkFault::SinkFailed) => Err(DebugFault::SinkFailed),

@@ -23,7 +23,7 @@ use debug_views::{PlaceWriter, write_break};
 use replay_breaks::{Break, Stopped};
 use replica::Log;
 use std::alloc::Global;
-use wasm_replay::{ReplayFault, Standing, Unreplayed, WasmReplayFault};
+use wasm_replay::{ReplayFault, Standing, Unreplayed, WasmReplayFault, opener_of};
 use wasm_types::NoMemory;
 use wasm_world::{Plan, Valid, memory_limits};
 
@@ -52,14 +52,18 @@ impl<'a> Debugger<'a> {
         ensures opening { IfOk result (λ d. IsOpening valid.now plan.now log.now (at_of d)) }
         ensures refused { IfErr result (λ u. IsNotOpened valid.now plan.now log.now u.fault) }
     {
-        let session = match open_session(alloc, valid, plan, log) {
-            Ok(session) => session,
-            Err(fault) => return Err(unopened(valid, plan, log, fault)),
-        };
+        // Behind this only memory can be wanting. The session comes last, so that none is let go.
+        if let Err(fault) = opener_of(valid, plan, log) {
+            return Err(unopened(valid, plan, log, fault));
+        }
         let source = valid.module().source.as_slice();
         let Ok(places) = PlaceWriter::new(alloc, source, true) else {
             let wanting = WasmReplayFault::Replay(ReplayFault::NoMemory);
             return Err(unopened(valid, plan, log, wanting));
+        };
+        let session = match open_session(alloc, valid, plan, log) {
+            Ok(session) => session,
+            Err(fault) => return Err(unopened(valid, plan, log, fault)),
         };
         Ok(Debugger {
             valid,
