@@ -6,6 +6,8 @@ pub mod Closing
 pub mod Places
 pub mod Lists
 pub mod ThreadEvents
+pub mod OneWriter
+pub mod WriterTold
 pub mod Awaited
 pub mod ToldEvents
 pub mod Reached

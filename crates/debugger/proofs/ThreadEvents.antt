@@ -1,11 +1,11 @@
 -- Events of threads, one thread behind the other.
-use Rattle.std.proofs.Common.{◌≡◌, ℕ, ◌+◌, ◌<◌, ◌≤◌, List, ◌++◌, length, drop, Option, Some, option_map, slice_get, sym, ap, ◌∙◌, append_assoc, subst, arith}
+use Rattle.std.proofs.Common.{◌≡◌, ℕ, ◌+◌, ◌<◌, ◌≤◌, List, ◌++◌, length, drop, true, Option, Some, option_map, slice_get, sym, ap, ◌∙◌, append_assoc, subst, arith}
 use Rattle.std.proofs.lemmas.Option.{slice_get_within}
 use Rattle.event_core.specs.Threads.{ThreadAt}
 use Rattle.replay_laws.specs.Log.{Log}
 use Rattle.debugger.specs.declared.touched.Events.{Events}
 use Rattle.debugger.specs.declared.touched.Sought.{Sought}
-use Rattle.debugger.specs.Touched.{events_of, events_of_thread, IsFirstOfThread, IsFirstEvent, NoEvent, NoEventBelow}
+use Rattle.debugger.specs.Touched.{is_sought_item, events_of, events_of_thread, IsSomeEvent, NoLastBelow, NoLast}
 use Rattle.debugger.proofs.Places.{drop_at, there}
 
 pub events_more : {State : Type 0} (log : Log) (s : Sought) (events : Events) (threads : List (ThreadAt State)) (now next : List ℕ) (n places : ℕ) → n < length threads
@@ -19,13 +19,13 @@ events_more {State} log s events threads now next n places below made more =
     ∙ append_assoc now (events_of_thread log s events n (t.0).places) (events_of log s events (n + 1) (drop (n + 1) threads))
     ∙ ap (λ (ts : List (ThreadAt State)). now ++ events_of log s events n ts) (sym (drop_at threads n t.0 t.1))
 
-pub event_found : {State : Type 0} (log : Log) (s : Sought) (threads : List (ThreadAt State)) (n places p : ℕ) → n < length threads
-    → Some places ≡ option_map (λ (t : ThreadAt State). t.places) (slice_get threads n) → IsFirstOfThread log s n places p → NoEventBelow log s threads n → IsFirstEvent log s threads (record { thread = n; place = p })
-event_found {State} log s threads n places p below made first none =
+pub some_event : {State : Type 0} (log : Log) (s : Sought) (threads : List (ThreadAt State)) (n places p : ℕ) → n < length threads
+    → Some places ≡ option_map (λ (t : ThreadAt State). t.places) (slice_get threads n) → (p < places) × (is_sought_item s (log.entry n p) ≡ true) → IsSomeEvent log s threads (record { thread = n; place = p })
+some_event {State} log s threads n places p below made did =
     let t = there threads n below in
     let some : Some places ≡ Some (t.0).places = made ∙ ap (λ (o : Option (ThreadAt State)). option_map (λ (u : ThreadAt State). u.places) o) t.1 in
     let same : places ≡ (t.0).places = cc in
-    record { at = t.0; thread = t.1; first = subst (λ (q : ℕ). IsFirstOfThread log s n q p) same first; none = none }
+    record { at = t.0; thread = t.1; made = subst (λ (q : ℕ). p < q) same did.0; sought = did.1 }
 
-pub no_event : {State : Type 0} (log : Log) (s : Sought) (threads : List (ThreadAt State)) (n : ℕ) → length threads ≤ n → NoEventBelow log s threads n → NoEvent log s threads
-no_event log s threads n all none t at is q below = none t (omega (arith, slice_get_within threads t at is, all)) at is q below
+pub no_last : {State : Type 0} (log : Log) (s : Sought) (threads : List (ThreadAt State)) (n number : ℕ) → length threads ≤ number → NoLastBelow log s threads n number → NoLast log s threads n
+no_last log s threads n number all none t at is = none t (omega (arith, slice_get_within threads t at is, all)) at is

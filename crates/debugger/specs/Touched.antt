@@ -1,5 +1,5 @@
 -- Which events made a version of an object, and which read it (LeBlanc and Mellor-Crummey 1987).
-use Rattle.std.specs.Prelude.{◌≡◌, ℕ, zero, suc, ◌+◌, ◌-◌, ◌<◌, ◌==◌, ◌&&◌, Bool, true, false, List, [], ◌∷◌, ◌++◌, Option, Some, None, codes, slice_get}
+use Rattle.std.specs.Prelude.{◌≡◌, ℕ, zero, suc, ◌+◌, ◌-◌, ◌<◌, ◌≤◌, ◌==◌, ◌&&◌, Bool, true, false, List, [], ◌∷◌, ◌++◌, Option, Some, None, codes, slice_get}
 use Rattle.std.specs.List.{list_any}
 use Rattle.std.specs.Fmt.{decimal}
 use Rattle.rw_objects.specs.declared.count.Count.{Count}
@@ -13,6 +13,7 @@ use Rattle.event_core.specs.Threads.{ThreadAt}
 use Rattle.replay_laws.specs.Log.{Log}
 use Rattle.replica.specs.declared.diverging.EventAt.{EventAt}
 use Rattle.replica.specs.Objects.{object_text as bytes_of_object}
+use Rattle.debugger.specs.declared.made_by.TheConstants.{STRETCH}
 use Rattle.debugger.specs.declared.touched.Events.{Events}
 use Rattle.debugger.specs.declared.touched.Events.TheVariants.{Made, Ahead}
 use Rattle.debugger.specs.declared.touched.Role.{Role}
@@ -79,10 +80,6 @@ pub record IsFirstOfThread (log : Log) (s : Sought) (thread places p : ℕ) : Ty
   pub sought : is_sought_item s (log.entry thread p) ≡ true
   pub first : NoEventOfThread log s thread p
 
-abbrev pub IsFoundOfThread : Log → Sought → (thread places : ℕ) → Option ℕ → Type 0
-IsFoundOfThread log s thread places None = NoEventOfThread log s thread places
-IsFoundOfThread log s thread places (Some p) = IsFirstOfThread log s thread places p
-
 -- of the events that threads made, those of threads below n did not
 abbrev pub NoEventBelow : {State : Type 0} → Log → Sought → List (ThreadAt State) → ℕ → Type 0
 NoEventBelow {State} log s threads n = (t : ℕ) → t < n → (at : ThreadAt State) → slice_get threads t ≡ Some at → NoEventOfThread log s t at.places
@@ -100,6 +97,38 @@ NoEvent {State} log s threads = (t : ℕ) (at : ThreadAt State) → slice_get th
 abbrev pub IsFoundEvent : {State : Type 0} → Log → Sought → List (ThreadAt State) → Option EventAt → Type 0
 IsFoundEvent log s threads None = NoEvent log s threads
 IsFoundEvent log s threads (Some e) = IsFirstEvent log s threads e
+
+-- none of a thread's last n events did
+abbrev pub NoLastOfThread : Log → Sought → (thread places n : ℕ) → Type 0
+NoLastOfThread log s thread places n = (q : ℕ) → q < places → places ≤ q + n → is_sought_item s (log.entry thread q) ≡ false
+
+-- some event of a thread did; or where none of the last n did, no one of the stretch in front of these did
+abbrev pub IsSomeOfThread : Log → Sought → (thread places n : ℕ) → Option ℕ → Type 0
+IsSomeOfThread log s thread places n None = NoLastOfThread log s thread places n → NoLastOfThread log s thread places (n + STRETCH)
+IsSomeOfThread log s thread places n (Some p) = (p < places) × (is_sought_item s (log.entry thread p) ≡ true)
+
+-- of threads below a number, none of the last n events did
+abbrev pub NoLastBelow : {State : Type 0} → Log → Sought → List (ThreadAt State) → (n below : ℕ) → Type 0
+NoLastBelow {State} log s threads n below = (t : ℕ) → t < below → (at : ThreadAt State) → slice_get threads t ≡ Some at → NoLastOfThread log s t at.places n
+
+abbrev pub NoLast : {State : Type 0} → Log → Sought → List (ThreadAt State) → ℕ → Type 0
+NoLast {State} log s threads n = (t : ℕ) (at : ThreadAt State) → slice_get threads t ≡ Some at → NoLastOfThread log s t at.places n
+
+-- some event that threads made did
+pub record IsSomeEvent {State : Type 0} (log : Log) (s : Sought) (threads : List (ThreadAt State)) (e : EventAt) : Type 0 where
+  pub at : ThreadAt State
+  pub thread : slice_get threads e.thread ≡ Some at
+  pub made : e.place < at.places
+  pub sought : is_sought_item s (log.entry e.thread e.place) ≡ true
+
+-- some did; or of the last n of each thread none did
+abbrev pub IsSomeOfLast : {State : Type 0} → Log → Sought → List (ThreadAt State) → ℕ → Option EventAt → Type 0
+IsSomeOfLast log s threads n None = NoLast log s threads n
+IsSomeOfLast log s threads n (Some e) = IsSomeEvent log s threads e
+
+-- no thread made more than n events
+abbrev pub MadeAtMost : {State : Type 0} → List (ThreadAt State) → ℕ → Type 0
+MadeAtMost {State} threads n = (t : ℕ) (at : ThreadAt State) → slice_get threads t ≡ Some at → at.places ≤ n
 
 abbrev pub role_words : Role → List ℕ
 role_words role.Writer = codes " written by"

@@ -33,6 +33,7 @@ mod touched;
 mod waits;
 mod way;
 mod word;
+mod written;
 
 pub use answer::Answer;
 pub use command::{Command, Line};

@@ -2,9 +2,11 @@
 
 ghost use Rattle.std.specs.Prelude.{◌≡◌, IfOk, string_bytes};
 ghost use Rattle.event_core.specs.World.{world_of};
+ghost use Rattle.replay_session.specs.Writers.{OneWriterEach};
 ghost use Rattle.debugger.specs.Touched.{object_text};
 
-use crate::touched::{Events, Role, Sought, sought_text};
+use crate::touched::{Role, Sought};
+use crate::written::made_text;
 use event_core::World;
 use replay_gate::ReadLog;
 use replica::object_text as place_text;
@@ -22,6 +24,7 @@ pub(crate) fn object_text<M: Machine<S>, S: ObjectSpace, L: ReadLog>(
     object: u32,
     count: Count,
 ) -> Result<String, NoMemory>
+    requires { OneWriterEach (L.log log.now) (world_of world.now) }
     ensures { IfOk result (λ text. string_bytes text ≡ object_text (L.log log.now) block (world_of world.now).threads object count) }
 {
     let place = place_text(block, object);
@@ -29,7 +32,7 @@ pub(crate) fn object_text<M: Machine<S>, S: ObjectSpace, L: ReadLog>(
     let version = count.version;
     let reads = count.reads;
     let role = Role::Writer;
-    let written = sought_text(
+    let written = made_text(
         alloc,
         world,
         log,
@@ -38,10 +41,9 @@ pub(crate) fn object_text<M: Machine<S>, S: ObjectSpace, L: ReadLog>(
             object,
             version,
         },
-        Events::Made,
     )?;
     let role = Role::Reader;
-    let read = sought_text(
+    let read = made_text(
         alloc,
         world,
         log,
@@ -50,7 +52,6 @@ pub(crate) fn object_text<M: Machine<S>, S: ObjectSpace, L: ReadLog>(
             object,
             version,
         },
-        Events::Made,
     )?;
     let written = written.as_str();
     let read = read.as_str();

@@ -13,8 +13,9 @@ use crate::locals::{locals_text, operands_text};
 use crate::objects::object_text;
 use crate::shown_bytes::bytes_text;
 use crate::standing::thread_text;
-use crate::touched::{Events, Role, Sought, sought_text};
+use crate::touched::{Role, Sought};
 use crate::waits::waits_text;
+use crate::written::made_text;
 use debug_views::{is_in_view, versions};
 use std::alloc::Global;
 use wasm_types::{Block, ByteRange, NoMemory};
@@ -154,7 +155,7 @@ impl<'a> Debugger<'a> {
         let world = self.session.world();
         if is_in_view(world, address, 1) {
             let sought = self.sought_at(role, address);
-            lines(sought_text(alloc, world, self.session.log(), sought, Events::Made))
+            lines(made_text(alloc, world, self.session.log(), sought))
         } else {
             line(alloc, NO_BYTES)
         }

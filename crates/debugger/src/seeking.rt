@@ -15,7 +15,7 @@ use crate::answer::{Answer, line, wanting};
 use crate::debugger::Debugger;
 use crate::functions::{function_called, has_instruction};
 use crate::heads::break_line;
-use crate::made_by::first_event;
+use crate::made_by::writing_event;
 use crate::questions::NO_BYTES;
 use crate::touched::Role;
 use crate::word::Word;
@@ -47,7 +47,7 @@ impl<'a> Debugger<'a> {
         ensures few { IfSome result (λ event. event.place + 1 < 2 ^ 32) }
     {
         let sought = self.sought_at(Role::Writer, address);
-        first_event(self.session.world(), self.session.log(), sought)
+        writing_event(self.session.world(), self.session.log(), sought)
     }
 
     /// Goes to behind the event that wrote the block of a byte last.

@@ -143,7 +143,12 @@ impl Sought {
 }
 
 /// Writes where an event stands that did so.
-fn write_if(text: &mut String, did: bool, thread: u32, place: u32) -> Result<(), NoMemory>
+pub(crate) fn write_if(
+    text: &mut String,
+    did: bool,
+    thread: u32,
+    place: u32,
+) -> Result<(), NoMemory>
     ensures { OnOk result (string_bytes text.new ≡ string_bytes text.old ++ event_if did thread place) }
 {
     if did {
@@ -207,6 +212,17 @@ fn or_nobody(events: &str) -> &str
     if events.is_empty() { " nobody" } else { events }
 }
 
+/// The line that says who writes a version of an object, or who reads it: these events.
+pub(crate) fn line_of(alloc: Global, sought: Sought, events: &str) -> Result<String, NoMemory>
+    ensures { IfOk result (λ text. string_bytes text ≡ sought_line sought events.now) }
+{
+    let object = sought.object;
+    let version = sought.version;
+    let words = sought.role.words();
+    let names = or_nobody(events);
+    Ok(format!(in alloc; "object {object} version {version}{words}{names}\n")?)
+}
+
 /// The line that says who writes a version of an object, or who reads it, of these events.
 pub(crate) fn sought_text<M: Machine<S>, S: ObjectSpace, L: ReadLog>(
     alloc: Global,
@@ -218,9 +234,5 @@ pub(crate) fn sought_text<M: Machine<S>, S: ObjectSpace, L: ReadLog>(
     ensures { IfOk result (λ text. string_bytes text ≡ sought_line sought (events_of (L.log log.now) sought events 0 (world_of world.now).threads)) }
 {
     let events = events_of(alloc, world, log, sought, events)?;
-    let object = sought.object;
-    let version = sought.version;
-    let words = sought.role.words();
-    let names = or_nobody(events.as_str());
-    Ok(format!(in alloc; "object {object} version {version}{words}{names}\n")?)
+    line_of(alloc, sought, events.as_str())
 }

@@ -23,3 +23,5 @@ pub mod LegByLeg
 pub mod KeptWays
 pub mod KeptLists
 pub mod Reversing
+pub mod OneWriter
+pub mod Writers

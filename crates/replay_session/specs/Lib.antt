@@ -1,3 +1,4 @@
+pub mod Writers
 pub mod Legs
 pub mod Ways
 pub mod OneWay

@@ -2,6 +2,7 @@
 
 ghost use Rattle.replay_session.specs.OneWay.{WaysLeadOnce, WaysCountSteps, FirstStepsLead};
 ghost use Rattle.replay_session.specs.Pauses.{PausesAsStops};
+ghost use Rattle.replay_session.specs.Writers.{VersionsHaveOneWriter};
 
 use rw_objects::{Machine, ObjectSpace};
 
@@ -18,6 +19,12 @@ pub fn ways_count_steps<M: Machine<S>, S: ObjectSpace>()
 /// Where a way leads from a world to another, so do its first steps.
 pub fn first_steps_lead<M: Machine<S>, S: ObjectSpace>()
     ensures { FirstStepsLead S.meaning M.code }
+{}
+
+/// At every point of every replay, whoever made the log, no two of the events that the threads made wrote one version of
+/// an object, and none wrote a version that the object has not yet.
+pub fn versions_have_one_writer<M: Machine<S>, S: ObjectSpace>()
+    ensures { VersionsHaveOneWriter S.meaning M.code }
 {}
 
 /// Where a test holds in no world, rounds up to a break or this test pause just where they stop at the breaks.

@@ -12,7 +12,8 @@
 //! world (`led`).
 //! Laws: a way leads from a world to one other (`ways_lead_once`), it has as many steps as all threads make on it
 //! (`ways_count_steps`), and where it leads somewhere, so do its first steps (`first_steps_lead`). Where a test holds
-//! nowhere, rounds up to it pause just where they stop at breaks (`pauses_as_stops`).
+//! nowhere, rounds up to it pause just where they stop at breaks (`pauses_as_stops`). Each version of an object was
+//! written by one event of a replay at most (`versions_have_one_writer`).
 #![tactic(auto)]
 
 mod events;
@@ -35,7 +36,9 @@ mod threads;
 mod until;
 
 pub use gone::{Ceased, Gone};
-pub use laws::{first_steps_lead, pauses_as_stops, ways_count_steps, ways_lead_once};
+pub use laws::{
+    first_steps_lead, pauses_as_stops, versions_have_one_writer, ways_count_steps, ways_lead_once,
+};
 pub use legs::Leg;
 pub use paused::{Met, Paused, paused_of};
 pub use session::Session;

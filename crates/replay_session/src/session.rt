@@ -5,6 +5,7 @@ ghost use Rattle.std.specs.Coded.{Coded-set};
 ghost use Rattle.event_core.specs.Threads.{all_steps};
 ghost use Rattle.event_core.specs.World.{world_of};
 ghost use Rattle.replay_laws.specs.Turns.{turn_of, world_after_turn};
+ghost use Rattle.replay_session.specs.Writers.{OneWriterEach};
 ghost use Rattle.replay_gate.specs.Shows.{ShowsRecorded};
 ghost use Rattle.replay_gate.specs.Turned.{answer_of_turn, TurnRefused, IsRightRefusal, IsFreeRefusal};
 ghost use Rattle.replay_gate.specs.declared.answers.ReplayFault.TheVariants as ReplayFault;
@@ -90,11 +91,13 @@ impl<
 
 impl<M: Machine<S>, S: ObjectSpace, L: ReadLog, O: OpenWorld<M, S>> Session<M, S, L, O> {
     /// The world at which it stands, to which its way leads from the opening world. On a log below that of a run, its
-    /// values and threads are recorded ones alone.
+    /// values and threads are recorded ones alone. Each version of an object was written by one of the events made at
+    /// most.
     pub fn world(&self) -> &World<M, S>
         ensures same { result.now ≡ self.now.replay.world }
         ensures recorded { ShowsRecorded S.meaning M.code (L.log self.now.replay.log) (O.opened self.now.replay.opens) (world_of result.now) }
         ensures led { ∥ WayLeads S.meaning M.code (L.log self.now.replay.log) self.now.legs.items (O.opened self.now.replay.opens) (world_of result.now) ∥₁ }
+        ensures one_writer { OneWriterEach (L.log self.now.replay.log) (world_of result.now) }
     {
         self.replay.world()
     }
