@@ -1,0 +1,13 @@
+pub mod ArgumentLists
+pub mod Arguments
+pub mod Bodies
+pub mod CommandNames
+pub mod Commands
+pub mod Events
+pub mod Fields
+pub mod Frames
+pub mod HeaderLines
+pub mod Json
+pub mod Parts
+pub mod Requests
+pub mod Responses
