@@ -1,5 +1,7 @@
 //! Why lines are no piece lines.
 
+use crate::checks::{check, compare};
+use crate::pieces::edited;
 use crate::replicas::{BLOCK_64, FIRST, WHOLE};
 use log_pieces::{DecodeFault, EntryFault, LineFault, PieceFault, read_line};
 use std::alloc::Global;
@@ -78,12 +80,18 @@ static EDITED: &[(usize, &str, LineFault)] = &[
     (106, "", LineFault::LeftOver { bytes: 3 }),
 ];
 
+/// Why a line with these digits in place of those of that byte is no piece line.
+fn refused_with(alloc: Global, at: usize, digits: &str) -> Result<Option<LineFault>, Fail> {
+    let until = at.saturating_mul(2);
+    let line = edited(alloc, WHOLE, until, digits, until.saturating_add(2))?;
+    Ok(refused(alloc, &[line.as_str(), "\n"])?)
+}
+
 #[test]
 fn edited_bytes_are_told(rt: HostRuntime) -> Result<(), Fail> {
     for (at, digits, fault) in EDITED {
-        let parts = [&WHOLE[..2 * at], *digits, &WHOLE[2 * at + 2..], "\n"];
-        let found = refused(rt.alloc(), &parts)?;
-        assert!(rt; found == Some(*fault), "{at}");
+        let found = refused_with(rt.alloc(), *at, digits)?;
+        compare(&rt, &(*at, found), &(*at, Some(*fault)), digits);
     }
     Ok(())
 }
@@ -127,9 +135,11 @@ static LINES: &[(&[&str], LineFault)] = &[
 #[test]
 fn lines_are_told(rt: HostRuntime) -> Result<(), Fail> {
     for (parts, fault) in LINES {
-        assert_eq!(rt; refused(rt.alloc(), parts)?, Some(*fault));
+        let found = refused(rt.alloc(), parts)?;
+        compare(&rt, &found, &Some(*fault), "a line");
     }
-    assert!(rt; refused(rt.alloc(), &[WHOLE, "\n"])?.is_none());
+    let found = refused(rt.alloc(), &[WHOLE, "\n"])?;
+    compare(&rt, &found, &None, "a piece line");
     Ok(())
 }
 
@@ -141,12 +151,14 @@ fn tells(alloc: Global, parts: &[&str], fault: LineFault) -> Result<bool, NoMemo
 #[test]
 fn cut_lines_are_told(rt: HostRuntime) -> Result<(), Fail> {
     let empty = LineFault::Rule(PieceFault::Empty);
-    assert!(rt; tells(rt.alloc(), &[&WHOLE[..98], "000000\n"], empty)?);
+    let is_told = tells(rt.alloc(), &[&WHOLE[..98], "000000\n"], empty)?;
+    check(&rt, is_told, "no entry and no end");
     let cut = LineFault::Entry {
         entry: 1,
         fault: EntryFault::EndsEarly,
     };
-    assert!(rt; tells(rt.alloc(), &[&WHOLE[..120], "\n"], cut)?);
+    let is_told = tells(rt.alloc(), &[&WHOLE[..120], "\n"], cut)?;
+    check(&rt, is_told, "a cut entry");
     Ok(())
 }
 
@@ -154,12 +166,12 @@ fn cut_lines_are_told(rt: HostRuntime) -> Result<(), Fail> {
 fn bad_blocks_and_objects_are_told(rt: HostRuntime) -> Result<(), Fail> {
     let power = LineFault::BadBlock { power: 5 };
     let parts = [&BLOCK_64[..88], "05", &BLOCK_64[90..], "\n"];
-    assert!(rt; tells(rt.alloc(), &parts, power)?);
+    check(&rt, tells(rt.alloc(), &parts, power)?, "a block");
     let falls = LineFault::Entry {
         entry: 1,
         fault: EntryFault::NotRising { object: 5 },
     };
     let parts = [&FIRST[..104], "0002", READ_5, READ_5, "\n"];
-    assert!(rt; tells(rt.alloc(), &parts, falls)?);
+    check(&rt, tells(rt.alloc(), &parts, falls)?, "objects");
     Ok(())
 }

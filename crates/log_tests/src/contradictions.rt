@@ -1,11 +1,12 @@
 //! Contradictions of logs that were gathered from few pieces, and the lines that listings have for them.
 
+use crate::checks::{check, compare};
+use crate::replicas::delivered;
 use crate::skipping::{run_in_form, working};
-use log_pieces::read_line;
-use replica::{Diverging, EventAt, ListingForm, Replica, Skipped, divergence};
+use replica::{Diverging, EventAt, ListingForm, Skipped, divergence};
 use std::alloc::Global;
 use std::test::Fail;
-use wasm_types::{NoMemory, Profile, RunKey};
+use wasm_types::NoMemory;
 
 // The first entry of thread 0, which writes version 0 of object 1.
 const FIRST: &str = "\
@@ -38,19 +39,7 @@ const FOURTH: &str = "\
     0000010001000101000000010100000000000000000000000000000008000000020000000303000000";
 
 fn gathered(alloc: Global, lines: &[&str]) -> Result<Vec<Diverging>, Fail> {
-    let mut replica = Replica::new(
-        alloc,
-        RunKey {
-            digest: [0xaa; 32],
-            run: 1,
-            profile: Profile::One,
-        },
-    );
-    for line in lines {
-        let text = format!(in alloc; "{line}\n")?;
-        let piece = read_line(alloc, text.as_bytes())?;
-        replica.deliver(alloc, &piece)?;
-    }
+    let replica = delivered(alloc, lines)?;
     Ok(divergence(alloc, replica.log())?)
 }
 
@@ -90,7 +79,8 @@ fn contradictions_come_in_their_order(rt: HostRuntime) -> Result<(), Fail> {
         ),
     ];
     for (lines, want) in rows {
-        assert_eq!(rt; gathered(alloc, lines)?.as_slice(), want);
+        let found = gathered(alloc, lines)?;
+        compare(&rt, &found.as_slice(), &want, "contradictions");
     }
     Ok(())
 }
@@ -186,6 +176,18 @@ pub(crate) fn text_of(alloc: Global, lines: &[&str]) -> Result<String, NoMemory>
     Ok(text)
 }
 
+/// Whether a text is listed so, of which no line is passed over.
+pub(crate) fn is_text_listed(
+    alloc: Global,
+    text: &[u8],
+    skips: bool,
+    form: ListingForm,
+    want: &[u8],
+) -> bool {
+    let found = run_in_form(alloc, text, &working(1000), skips, form);
+    found.answer == Ok(Skipped { bad: 0, foreign: 0 }) && found.sink.taken() == want
+}
+
 /// Whether pieces are listed so, also where lines that cannot be joined would be passed over.
 fn is_listed(
     alloc: Global,
@@ -193,15 +195,12 @@ fn is_listed(
     form: ListingForm,
     want: &[u8],
 ) -> Result<bool, NoMemory> {
-    let none = Skipped { bad: 0, foreign: 0 };
     let text = text_of(alloc, lines)?;
-    for skips in [false, true] {
-        let found = run_in_form(alloc, text.as_bytes(), &working(1000), skips, form);
-        if found.answer != Ok(none) || found.sink.taken() != want {
-            return Ok(false);
-        }
-    }
-    Ok(true)
+    let text = text.as_bytes();
+    Ok(
+        is_text_listed(alloc, text, false, form, want)
+            && is_text_listed(alloc, text, true, form, want),
+    )
 }
 
 /// The pieces that clash, and a listing of all that can be said.
@@ -231,10 +230,8 @@ static LISTED: &[(&[&str], ListingForm, &str)] = &[
 #[test]
 fn listings_tell_contradictions_where_the_form_asks(rt: HostRuntime) -> Result<(), Fail> {
     for (lines, form, want) in LISTED {
-        assert!(rt;
-            is_listed(rt.alloc(), lines, *form, want.as_bytes())?,
-            "{want}"
-        );
+        let is_so = is_listed(rt.alloc(), lines, *form, want.as_bytes())?;
+        check(&rt, is_so, want);
     }
     Ok(())
 }

@@ -6,6 +6,8 @@
 #[cfg(test)]
 mod bad_lines;
 #[cfg(test)]
+mod checks;
+#[cfg(test)]
 mod contradictions;
 #[cfg(test)]
 mod fitful;

@@ -2,6 +2,7 @@
 
 ghost use Rattle.std.specs.Prelude.{◌<◌, length};
 
+use crate::checks::{check, compare, compare_texts};
 use log_pieces::{DecodeFault, End, LineFault, Piece, PieceFault, decode, encode, line, read_line};
 use rw_objects::{Entry, Few, Found, Kind};
 use std::alloc::Global;
@@ -88,10 +89,10 @@ static PIECES: &[(&str, usize)] = &[
 #[test]
 fn pieces_are_read_and_written(rt: HostRuntime) -> Result<(), Fail> {
     for (text, len) in PIECES {
-        assert_eq!(rt; text.len() / 2, *len);
+        compare(&rt, &(text.len() / 2), len, text);
         let found = told_of(rt.alloc(), text)?;
         let want = format!(in rt.alloc(); "{text} {text}\n{text}")?;
-        assert_eq!(rt; found.as_str(), want.as_str());
+        compare_texts(&rt, found.as_str(), want.as_str(), "told");
     }
     Ok(())
 }
@@ -109,18 +110,23 @@ static OUTCOMES: &[(&str, Outcome)] = &[
     ("050a", Outcome::Trapped(Trap::MemoryNotShared)),
 ];
 
-// The run of a piece, its thread, its first place, how many entries it has, its end, and its digits.
-fn told_parts(alloc: Global, piece: &Piece) -> Result<String, Fail> {
-    let digits = digits_of(alloc, piece)?;
-    let (run, thread, first) = (piece.key().run, piece.thread(), piece.first());
-    let (count, end) = (piece.entries().len(), piece.end());
-    Ok(format!(in alloc; "{run} {thread} {first} {count} {end:?} {digits}")?)
+// The run of a piece, its thread, its first place, how many entries it has, and its end.
+type Parts = (u64, u32, u32, usize, Option<End>);
+
+fn parts(piece: &Piece) -> Parts {
+    (
+        piece.key().run,
+        piece.thread(),
+        piece.first(),
+        piece.entries().len(),
+        piece.end(),
+    )
 }
 
-// The same of the piece of these digits.
-fn parts_of(alloc: Global, text: &str) -> Result<String, Fail> {
+// The parts of the piece of these digits, and its digits.
+fn parts_of(alloc: Global, text: &str) -> Result<(Parts, String), Fail> {
     let piece = piece_of(alloc, text)?;
-    told_parts(alloc, &piece)
+    Ok((parts(&piece), digits_of(alloc, &piece)?))
 }
 
 #[test]
@@ -132,23 +138,24 @@ fn outcomes_are_read_and_written(rt: HostRuntime) -> Result<(), Fail> {
             places: 0,
             outcome: *outcome,
         });
-        let found = parts_of(rt.alloc(), text.as_str())?;
-        let want = format!(in rt.alloc(); "1 3 0 0 {end:?} {text}")?;
-        assert_eq!(rt; found.as_str(), want.as_str());
+        let (parts, found) = parts_of(rt.alloc(), text.as_str())?;
+        compare(&rt, &parts, &(1, 3, 0, 0, end), digits);
+        compare_texts(&rt, found.as_str(), text.as_str(), digits);
     }
     Ok(())
 }
 
 // The beginning of a text, other characters, and the rest from there on.
-fn edited(
+pub(crate) fn edited(
     alloc: Global,
     text: &str,
     until: usize,
     other: &str,
     from: usize,
 ) -> Result<String, Fail> {
-    let front = text.get(..until).ok_or("no beginning")?;
-    let rest = text.get(from..).ok_or("no rest")?;
+    let (Some(front), Some(rest)) = (text.get(..until), text.get(from..)) else {
+        return Err("the text has no such place".into());
+    };
     Ok(format!(in alloc; "{front}{other}{rest}")?)
 }
 
@@ -175,7 +182,8 @@ static NO_PIECES: &[(&str, usize, &str, usize)] = &[
 fn other_bytes_are_no_piece(rt: HostRuntime) -> Result<(), Fail> {
     for (piece, until, digits, from) in NO_PIECES {
         let text = edited(rt.alloc(), piece, *until, digits, *from)?;
-        assert!(rt; is_no_piece_in(rt.alloc(), text.as_str())?, "{text}");
+        let is_refused = is_no_piece_in(rt.alloc(), text.as_str())?;
+        check(&rt, is_refused, text.as_str());
     }
     Ok(())
 }
@@ -184,7 +192,8 @@ fn other_bytes_are_no_piece(rt: HostRuntime) -> Result<(), Fail> {
 fn beginnings_are_no_piece(rt: HostRuntime) -> Result<(), Fail> {
     let bytes = bytes_of(rt.alloc(), WHOLE)?;
     for len in 0..bytes.len() {
-        assert!(rt; is_no_piece(rt.alloc(), &bytes[..len]), "{len}");
+        let is_refused = is_no_piece(rt.alloc(), &bytes[..len]);
+        compare(&rt, &(len, is_refused), &(len, true), "a beginning");
     }
     Ok(())
 }
@@ -215,10 +224,8 @@ fn one_bit_makes_another_piece_or_none(rt: HostRuntime) -> Result<(), Fail> {
     let bytes = bytes_of(rt.alloc(), WHOLE)?;
     for i in 0..bytes.len() {
         for bit in 0..8u8 {
-            assert!(rt;
-                is_another_with(rt.alloc(), &bytes, i, bit)?,
-                "byte {i}, bit {bit}"
-            );
+            let is_other = is_another_with(rt.alloc(), &bytes, i, bit)?;
+            compare(&rt, &(i, bit, is_other), &(i, bit, true), "byte and bit");
         }
     }
     Ok(())
@@ -249,7 +256,7 @@ fn other_lines_are_no_piece(rt: HostRuntime) -> Result<(), Fail> {
     for (until, other, from, end) in NO_LINES {
         let mut text = edited(rt.alloc(), WHOLE, *until, other, *from)?;
         text.push_str(end)?;
-        assert!(rt; is_no_line(rt.alloc(), text.as_str()), "{text:?}");
+        check(&rt, is_no_line(rt.alloc(), text.as_str()), text.as_str());
     }
     Ok(())
 }
@@ -353,7 +360,8 @@ fn rules_are_tested_in_their_order(rt: HostRuntime) -> Result<(), Fail> {
             objects,
             *end,
         )?;
-        assert_eq!(rt; found, *want, "{thread} {first} {count}");
+        let row = (*thread, *first, *count);
+        compare(&rt, &(row, found), &(row, *want), "a rule");
     }
     Ok(())
 }
@@ -384,7 +392,8 @@ fn entries_touch_rising_objects(rt: HostRuntime) -> Result<(), Fail> {
     for (block, objects, want) in OBJECTS {
         let profile = profile_of(*block)?;
         let found = fault(rt.alloc(), profile, 0, 0, 1, objects, None)?;
-        assert_eq!(rt; found, *want, "{profile:?} {objects:?}");
+        let row = (*block, *objects, *want);
+        compare(&rt, &(*block, *objects, found), &row, "objects");
     }
     Ok(())
 }
@@ -395,18 +404,18 @@ fn end_of_whole(alloc: Global) -> Result<End, Fail> {
     Ok(piece.end().ok_or("the piece has an end")?)
 }
 
+// The end and two faults.
+fn told_end(alloc: Global, end: &End) -> Result<String, Fail> {
+    let fault = DecodeFault::NotAPiece(LineFault::TooShort);
+    Ok(format!(in alloc; "{end}; {fault}; {}", PieceFault::BadThread)?)
+}
+
 #[test]
 fn ends_have_a_text(rt: HostRuntime) -> Result<(), Fail> {
     let end = end_of_whole(rt.alloc())?;
-    assert_eq!(rt; end.copy(rt.alloc())?, end);
-    let text = format!(in rt.alloc();
-        "{end}; {}; {}",
-        DecodeFault::NotAPiece(LineFault::TooShort),
-        PieceFault::BadThread
-    )?;
-    assert_eq!(rt;
-        text.as_str(),
-        "steps=8 places=2 i32 1; not a piece; a thread above 15"
-    );
+    compare(&rt, &end.copy(rt.alloc())?, &end, "copied");
+    let found = told_end(rt.alloc(), &end)?;
+    let want = "steps=8 places=2 i32 1; not a piece; a thread above 15";
+    compare_texts(&rt, found.as_str(), want, "told");
     Ok(())
 }

@@ -2,16 +2,31 @@
 //! `bench/test_growths.py` does it, the call answers so, or does what it does with ample memory. Without it none is
 //! refused, and the tests pass, too.
 
+use crate::checks::{check, compare, compare_texts};
 use crate::contradictions::{CONTRADICTING, CONTRADICTING_TOLD, TELLING, text_of};
 use crate::replicas::{WHOLE, WHOLE_TEXT, delivered};
+use crate::skipping::{Gathered, answer};
 use byte_streams::{MemorySink, MemorySource, Sink, Source};
 use log_pieces::{End, Piece};
-use replica::{GatherFault, ListingForm, Log, Replica, ReplicaFault, collect, gather, listing};
+use replica::{GatherFault, ListingForm, Log, Replica, ReplicaFault, Skipped, collect, listing};
 use rw_objects::{Entry, Few, Found, Kind};
 use std::alloc::Global;
 use std::process::Abort;
 use std::test::Fail;
-use wasm_types::{NoMemory, Outcome, Profile, RunKey};
+use wasm_types::{Outcome, Profile, RunKey};
+
+/// An entry that reads this version of object 1.
+fn read_of(alloc: Global, version: u32) -> Entry {
+    let mut found = Few::new(alloc);
+    found.push(Found::Read {
+        object: 1,
+        version: u64::from(version),
+    });
+    Entry {
+        kind: Kind::Access,
+        found,
+    }
+}
 
 /// A piece of thread 0 with so many entries, each a read of the version that is its place, and perhaps with their end.
 fn long_piece(alloc: Global, count: u32, has_end: bool) -> Result<Piece, Fail> {
@@ -27,15 +42,7 @@ fn long_piece(alloc: Global, count: u32, has_end: bool) -> Result<Piece, Fail> {
     };
     let mut entries = Vec::new(alloc);
     for version in 0..count {
-        let mut found = Few::new(alloc);
-        found.push(Found::Read {
-            object: 1,
-            version: u64::from(version),
-        });
-        entries.push(Entry {
-            kind: Kind::Access,
-            found,
-        })?;
+        entries.push(read_of(alloc, version))?;
     }
     Ok(Piece::new(key, 0, 0, entries, has_end.then_some(end))?)
 }
@@ -50,12 +57,18 @@ fn standing(log: &Log) -> u32 {
     u32::MAX
 }
 
-/// The listing of what so many first entries of a long piece make, in a run with this key.
-fn listing_of_first(alloc: Global, key: RunKey, count: u32) -> Result<String, Fail> {
-    let mut replica = Replica::new(alloc, key);
+/// Delivers to a replica the piece of so many first entries, where there are any.
+fn deliver_first(alloc: Global, replica: &mut Replica, count: u32) -> Result<(), Fail> {
     if count > 0 {
         replica.deliver(alloc, &long_piece(alloc, count, false)?)?;
     }
+    Ok(())
+}
+
+/// The listing of what so many first entries of a long piece make, in a run with this key.
+fn listing_of_first(alloc: Global, key: RunKey, count: u32) -> Result<String, Fail> {
+    let mut replica = Replica::new(alloc, key);
+    deliver_first(alloc, &mut replica, count)?;
     Ok(listing(alloc, replica.log())?)
 }
 
@@ -63,102 +76,151 @@ fn listing_of_first(alloc: Global, key: RunKey, count: u32) -> Result<String, Fa
 fn check_partial(rt: &impl Abort, alloc: Global, log: &Log) -> Result<(), Fail> {
     let found = listing(alloc, log)?;
     let wanted = listing_of_first(alloc, *log.key(), standing(log))?;
-    assert_eq!(rt; found.as_str(), wanted.as_str());
+    compare_texts(rt, found.as_str(), wanted.as_str(), "a part");
+    Ok(())
+}
+
+/// Delivers a piece, and again where memory was wanting: the log is then what its first entries make.
+fn deliver_again(
+    rt: &impl Abort,
+    alloc: Global,
+    replica: &mut Replica,
+    piece: &Piece,
+) -> Result<(), Fail> {
+    if let Err(fault) = replica.deliver(alloc, piece) {
+        compare(rt, &fault, &ReplicaFault::NoMemory, "delivered once");
+        check_partial(rt, alloc, replica.log())?;
+        replica.deliver(alloc, piece)?;
+    }
     Ok(())
 }
 
 #[test]
 fn delivering_again_completes_what_want_of_memory_left(rt: HostRuntime) -> Result<(), Fail> {
-    let alloc = rt.alloc();
-    let piece = long_piece(alloc, 300, true)?;
-    let mut replica = Replica::new(alloc, *piece.key());
-    if let Err(fault) = replica.deliver(alloc, &piece) {
-        assert_eq!(rt; fault, ReplicaFault::NoMemory);
-        check_partial(&rt, alloc, replica.log())?;
-        replica.deliver(alloc, &piece)?;
-    }
-    assert!(rt; replica.log().complete(1));
-    assert_eq!(rt; replica.log().clashes(), 0);
+    let piece = long_piece(rt.alloc(), 300, true)?;
+    let mut replica = Replica::new(rt.alloc(), *piece.key());
+    deliver_again(&rt, rt.alloc(), &mut replica, &piece)?;
+    let log = replica.log();
+    compare(
+        &rt,
+        &(log.complete(1), log.clashes()),
+        &(true, 0),
+        "delivered",
+    );
     Ok(())
+}
+
+/// Merges a log, and again where memory was wanting: the end is then not there.
+fn merge_again(
+    rt: &impl Abort,
+    alloc: Global,
+    replica: &mut Replica,
+    other: &Log,
+) -> Result<(), Fail> {
+    if let Err(fault) = replica.merge(alloc, other) {
+        compare(rt, &fault, &ReplicaFault::NoMemory, "merged once");
+        check(rt, replica.log().end(0).is_none(), "no end");
+        replica.merge(alloc, other)?;
+    }
+    Ok(())
+}
+
+/// A replica to which a piece of five entries and their end was delivered.
+fn replica_of_five(alloc: Global) -> Result<Replica, Fail> {
+    let piece = long_piece(alloc, 5, true)?;
+    let mut replica = Replica::new(alloc, *piece.key());
+    replica.deliver(alloc, &piece)?;
+    Ok(replica)
 }
 
 #[test]
 fn merging_again_completes_what_want_of_memory_left(rt: HostRuntime) -> Result<(), Fail> {
-    let alloc = rt.alloc();
-    let piece = long_piece(alloc, 5, true)?;
-    let mut other = Replica::new(alloc, *piece.key());
-    other.deliver(alloc, &piece)?;
-    let mut replica = Replica::new(alloc, *piece.key());
-    if let Err(fault) = replica.merge(alloc, other.log()) {
-        assert_eq!(rt; fault, ReplicaFault::NoMemory);
-        assert!(rt; replica.log().end(0).is_none());
-        replica.merge(alloc, other.log())?;
-    }
-    assert!(rt; replica.log().complete(1));
+    let other = replica_of_five(rt.alloc())?;
+    let mut replica = Replica::new(rt.alloc(), *other.log().key());
+    merge_again(&rt, rt.alloc(), &mut replica, other.log())?;
+    check(&rt, replica.log().complete(1), "merged");
     Ok(())
 }
 
-#[test]
-fn collecting_refused_memory_is_an_answer(rt: HostRuntime) -> Result<(), Fail> {
-    let alloc = rt.alloc();
-    match collect(alloc, &mut MemorySource::new(WHOLE.as_bytes(), 100, None)) {
-        Ok(None) => assert!(rt; false, "a piece came"),
-        Ok(Some(replica)) => assert!(rt; replica.log().complete(1)),
-        Err(fault) => assert_eq!(rt; fault, GatherFault::NoMemory),
-    }
-    Ok(())
-}
-
-#[test]
-fn gathering_with_refused_memory_writes_no_other_bytes(rt: HostRuntime) -> Result<(), Fail> {
-    let alloc = rt.alloc();
+/// Whether a whole log is collected of `WHOLE`; None where no piece came.
+fn collected(alloc: Global) -> Result<Option<bool>, GatherFault> {
     let mut source = MemorySource::new(WHOLE.as_bytes(), 100, None);
+    match collect(alloc, &mut source)? {
+        Some(replica) => Ok(Some(replica.log().complete(1))),
+        None => Ok(None),
+    }
+}
+
+#[test]
+fn collecting_refused_memory_is_an_answer(rt: HostRuntime) {
+    match collected(rt.alloc()) {
+        Ok(found) => compare(&rt, &found, &Some(true), "collected"),
+        Err(fault) => compare(&rt, &fault, &GatherFault::NoMemory, "refused"),
+    }
+}
+
+/// Gathers a text of which up to a hundred bytes come at a call, and ten are taken.
+pub(crate) fn gather_by_ten(
+    alloc: Global,
+    text: &[u8],
+    skips: bool,
+    form: ListingForm,
+) -> Gathered {
+    let mut source = MemorySource::new(text, 100, None);
     let mut sink = MemorySink::new(alloc, 10, None);
-    match gather(alloc, &mut source, &mut sink, ListingForm::default()) {
-        Ok(()) => assert_eq!(rt; sink.taken(), WHOLE_TEXT.as_bytes()),
+    Gathered {
+        answer: answer(alloc, &mut source, &mut sink, skips, form),
+        source_failures: source.failures(),
+        sink_failures: sink.failures(),
+        sink,
+    }
+}
+
+/// Checks an answer to want of memory, where these bytes are written with ample memory, and no line is passed over.
+pub(crate) fn check_answer(rt: &impl Abort, found: &Gathered, wanted: &[u8]) {
+    let taken = found.sink.taken();
+    match found.answer {
+        Ok(skipped) => {
+            compare(rt, &skipped, &Skipped { bad: 0, foreign: 0 }, "skipped");
+            compare(rt, &taken, &wanted, "written");
+        }
         // A sink over memory fails where its own memory is refused.
         Err(GatherFault::SinkFailed) => {
-            assert_eq!(rt; sink.failures(), 1);
-            assert!(rt; WHOLE_TEXT.as_bytes().starts_with(sink.taken()));
+            compare(rt, &found.sink_failures, &1, "failures of the sink");
+            check(rt, wanted.starts_with(taken), "a beginning is written");
         }
         Err(fault) => {
-            assert_eq!(rt; fault, GatherFault::NoMemory);
-            assert!(rt; sink.taken().is_empty());
+            compare(rt, &fault, &GatherFault::NoMemory, "refused");
+            check(rt, taken.is_empty(), "nothing is written");
         }
     }
-    assert_eq!(rt; source.failures(), 0);
-    Ok(())
+    compare(rt, &found.source_failures, &0, "failures of the source");
+}
+
+#[test]
+fn gathering_with_refused_memory_writes_no_other_bytes(rt: HostRuntime) {
+    let found = gather_by_ten(rt.alloc(), WHOLE.as_bytes(), false, ListingForm::default());
+    check_answer(&rt, &found, WHOLE_TEXT.as_bytes());
 }
 
 #[test]
 fn contradictions_with_refused_memory_are_an_answer(rt: HostRuntime) -> Result<(), Fail> {
-    let alloc = rt.alloc();
-    let text = text_of(alloc, CONTRADICTING)?;
-    let mut source = MemorySource::new(text.as_bytes(), 100, None);
-    let mut sink = MemorySink::new(alloc, 10, None);
-    match gather(alloc, &mut source, &mut sink, TELLING) {
-        Ok(()) => assert_eq!(rt; sink.taken(), CONTRADICTING_TOLD.as_bytes()),
-        // A sink over memory fails where its own memory is refused.
-        Err(GatherFault::SinkFailed) => {
-            assert_eq!(rt; sink.failures(), 1);
-            assert!(rt; CONTRADICTING_TOLD.as_bytes().starts_with(sink.taken()));
-        }
-        Err(fault) => {
-            assert_eq!(rt; fault, GatherFault::NoMemory);
-            assert!(rt; sink.taken().is_empty());
-        }
-    }
-    assert_eq!(rt; source.failures(), 0);
+    let text = text_of(rt.alloc(), CONTRADICTING)?;
+    let found = gather_by_ten(rt.alloc(), text.as_bytes(), false, TELLING);
+    check_answer(&rt, &found, CONTRADICTING_TOLD.as_bytes());
     Ok(())
+}
+
+/// The listing of `WHOLE`; None where memory was wanting for the listing itself.
+fn listing_of_whole(alloc: Global) -> Result<Option<String>, Fail> {
+    let replica = delivered(alloc, &[WHOLE])?;
+    Ok(listing(alloc, replica.log()).ok())
 }
 
 #[test]
 fn listing_with_refused_memory_is_an_answer(rt: HostRuntime) -> Result<(), Fail> {
-    let alloc = rt.alloc();
-    let replica = delivered(alloc, &[WHOLE])?;
-    match listing(alloc, replica.log()) {
-        Ok(text) => assert_eq!(rt; text.as_str(), WHOLE_TEXT),
-        Err(NoMemory) => {}
+    if let Some(text) = listing_of_whole(rt.alloc())? {
+        compare_texts(&rt, text.as_str(), WHOLE_TEXT, "listed");
     }
     Ok(())
 }

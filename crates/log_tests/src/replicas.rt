@@ -2,6 +2,7 @@
 
 ghost use Rattle.std.specs.Prelude.{◌<◌};
 
+use crate::checks::{check, compare, compare_texts};
 use byte_streams::{MemorySink, MemorySource, Sink, Source};
 use join_laws::Flat;
 use log_pieces::{LineFault, Piece, read_line};
@@ -159,21 +160,23 @@ fn gather_over(alloc: Global, text: &str, devices: &Devices, wanted: &[u8]) -> G
     }
 }
 
-fn same(rt: &impl Abort, found: &Gathered, want: &Gathered, row: &str) {
-    assert_eq!(rt; *found, *want, "{row}");
-}
-
 /// The piece that these digits spell.
 fn piece(alloc: Global, digits: &str) -> Result<Piece, Fail> {
     let text = format!(in alloc; "{digits}\n")?;
     Ok(read_line(alloc, text.as_bytes())?)
 }
 
+/// Delivers a piece.
+fn deliver(alloc: Global, replica: &mut Replica, digits: &str) -> Result<(), Fail> {
+    replica.deliver(alloc, &piece(alloc, digits)?)?;
+    Ok(())
+}
+
 /// These pieces delivered to a replica of the run of `WHOLE`.
 pub(crate) fn delivered(alloc: Global, pieces: &[&str]) -> Result<Replica, Fail> {
-    let mut replica = Replica::new(alloc, *piece(alloc, WHOLE)?.key());
+    let mut replica = Replica::new(alloc, key(1, Profile::One));
     for digits in pieces {
-        replica.deliver(alloc, &piece(alloc, digits)?)?;
+        deliver(alloc, &mut replica, digits)?;
     }
     Ok(replica)
 }
@@ -240,9 +243,9 @@ static EXAMPLES: &[(&[&str], &str)] = &[
 fn listings_are_as_in_worked_examples(rt: HostRuntime) {
     for (pieces, listed) in EXAMPLES {
         let found = gathered_from(rt.alloc(), pieces, &LARGE, listed);
-        same(&rt, &found, &LISTED, listed);
+        compare(&rt, &found, &LISTED, listed);
         let open = gathered_from_open(rt.alloc(), pieces, listed);
-        same(&rt, &open, &LISTED, listed);
+        compare(&rt, &open, &LISTED, listed);
     }
 }
 
@@ -267,9 +270,9 @@ fn makes_no_log(alloc: Global) -> bool {
 #[test]
 fn no_line_and_profile_2_have_listings(rt: HostRuntime) {
     let none = gather_over(rt.alloc(), "", &LARGE, NO_PIECES);
-    same(&rt, &none, &LISTED, "no line");
-    assert!(rt; makes_no_log(rt.alloc()));
-    same(&rt, &gathered_blocks(rt.alloc()), &LISTED, "profile 2");
+    compare(&rt, &none, &LISTED, "no line");
+    check(&rt, makes_no_log(rt.alloc()), "no log");
+    compare(&rt, &gathered_blocks(rt.alloc()), &LISTED, "profile 2");
 }
 
 static FOUR: [&str; 4] = [SECOND, FIRST, FOURTH, THIRD];
@@ -300,9 +303,9 @@ fn every_order_gives_the_same_listing(rt: HostRuntime) {
             let third = (first + step % 3 + 1) % 4;
             let fourth = (first + (step + 1) % 3 + 1) % 4;
             let found = gathered_four(rt.alloc(), first, second, third, fourth);
-            same(&rt, &found, &LISTED, FOUR[first]);
+            compare(&rt, &found, &LISTED, FOUR[first]);
             let found = gathered_four(rt.alloc(), first, second, fourth, third);
-            same(&rt, &found, &LISTED, FOUR[first]);
+            compare(&rt, &found, &LISTED, FOUR[first]);
         }
     }
 }
@@ -373,7 +376,7 @@ fn refused_lines_have_their_numbers(rt: HostRuntime) {
             line: *line,
             reason: *reason,
         };
-        same(&rt, &found, &failed(fault, 0, 0), "refused");
+        compare(&rt, &found, &failed(fault, 0, 0), "refused");
     }
 }
 
@@ -402,13 +405,17 @@ fn lines_of_other_runs_are_refused_with_both_keys(rt: HostRuntime) {
     let second = key(2, Profile::One);
     let wide = key(1, Profile::Two(Block::least()));
     let found = gathered_parts(rt.alloc(), &[WHOLE, "\n", OTHER_RUN, "\nno piece\n"]);
-    assert!(rt; is_of_other_run(&found, 2, &second, &first));
+    let is_so = is_of_other_run(&found, 2, &second, &first);
+    check(&rt, is_so, "run 2 at line 2");
     let found = gathered_parts(rt.alloc(), &[WHOLE, "\n", FIRST, "\n", OTHER_RUN]);
-    assert!(rt; is_of_other_run(&found, 3, &second, &first));
+    let is_so = is_of_other_run(&found, 3, &second, &first);
+    check(&rt, is_so, "run 2 at line 3");
     let found = gathered_parts(rt.alloc(), &[WHOLE, "\n", BLOCK_64, "\n"]);
-    assert!(rt; is_of_other_run(&found, 2, &wide, &first));
+    let is_so = is_of_other_run(&found, 2, &wide, &first);
+    check(&rt, is_so, "profile 2 at line 2");
     let found = gathered_parts(rt.alloc(), &[BLOCK_64, "\n", WHOLE, "\n"]);
-    assert!(rt; is_of_other_run(&found, 2, &first, &wide));
+    let is_so = is_of_other_run(&found, 2, &first, &wide);
+    check(&rt, is_so, "profile 1 at line 2");
 }
 
 #[test]
@@ -427,11 +434,11 @@ fn lines_that_are_cut_or_in_upper_case_are_refused(rt: HostRuntime) {
     };
     let upper = [WHOLE, "\n", &WHOLE[..8], "AA", &WHOLE[10..], "\n"];
     let found = gathered_parts(rt.alloc(), &upper);
-    same(&rt, &found, &failed(upper_case, 0, 0), "AA");
+    compare(&rt, &found, &failed(upper_case, 0, 0), "AA");
     let found = gathered_parts(rt.alloc(), &[&WHOLE[..220], "\n"]);
-    same(&rt, &found, &failed(short, 0, 0), "220");
+    compare(&rt, &found, &failed(short, 0, 0), "220");
     let found = gathered_parts(rt.alloc(), &[&WHOLE[..221]]);
-    same(&rt, &found, &failed(odd, 0, 0), "221");
+    compare(&rt, &found, &failed(odd, 0, 0), "221");
 }
 
 /// Why collecting the bytes by 65,536 at a call fails, where this call of the source does, and how many of its calls
@@ -450,9 +457,9 @@ fn a_line_without_end_is_refused_before_the_source_ends(rt: HostRuntime) -> Resu
         line: 1,
         reason: LineFault::TooLong,
     });
-    assert!(rt; collected(rt.alloc(), &bytes, 10) == (refused, 0));
+    compare(&rt, &collected(rt.alloc(), &bytes, 10), &(refused, 0), "10");
     let fails = Some(GatherFault::SourceFailed);
-    assert!(rt; collected(rt.alloc(), &bytes, 9) == (fails, 1));
+    compare(&rt, &collected(rt.alloc(), &bytes, 9), &(fails, 1), "9");
     Ok(())
 }
 
@@ -467,7 +474,7 @@ fn single_bytes_are_gathered(rt: HostRuntime) {
         sink_fails_at: None,
     };
     let found = gathered_from(rt.alloc(), &FOUR_LINES, &single, WHOLE_LISTED);
-    same(&rt, &found, &LISTED, "single bytes");
+    compare(&rt, &found, &LISTED, "single bytes");
 }
 
 /// Where this call of the source fails, nothing is wanted to be written.
@@ -487,7 +494,7 @@ fn gathered_failing(alloc: Global, call: u64) -> Gathered {
 fn a_failing_source_is_answered(rt: HostRuntime) {
     for call in 1..10u64 {
         let found = gathered_failing(rt.alloc(), call);
-        same(
+        compare(
             &rt,
             &found,
             &failed(GatherFault::SourceFailed, 1, 0),
@@ -513,7 +520,7 @@ fn a_failing_sink_is_answered(rt: HostRuntime) -> Result<(), Fail> {
     let wanted = WHOLE_TEXT.as_bytes();
     for call in 0..wanted.len() {
         let found = gathered_up_to(rt.alloc(), &text, &wanted[..call]);
-        same(&rt, &found, &failed(GatherFault::SinkFailed, 0, 1), "sink");
+        compare(&rt, &found, &failed(GatherFault::SinkFailed, 0, 1), "sink");
     }
     Ok(())
 }
@@ -526,7 +533,7 @@ fn devices_that_fail_behind_the_last_call_do_not_matter(rt: HostRuntime) {
         sink_fails_at: Some(WHOLE_TEXT.len() as u64 + 1),
     };
     let found = gathered_from(rt.alloc(), &FOUR_LINES, &last, WHOLE_LISTED);
-    same(&rt, &found, &LISTED, "last");
+    compare(&rt, &found, &LISTED, "last");
 }
 
 #[test]
@@ -545,7 +552,7 @@ fn a_bad_line_comes_before_a_later_failure(rt: HostRuntime) {
         },
     };
     let want = failed(fault, 0, 0);
-    same(&rt, &found, &want, "no piece");
+    compare(&rt, &found, &want, "no piece");
 }
 
 /// How many known ends, missing places, strays and clashes, and whether the log is that of no, of one and of two
@@ -578,113 +585,190 @@ static COUNTED: &[(&[&str], Counts)] = &[
 fn counts_say_what_a_log_lacks(rt: HostRuntime) -> Result<(), Fail> {
     for (pieces, counts) in COUNTED {
         let found = delivered_counts(rt.alloc(), pieces)?;
-        assert_eq!(rt; found, *counts);
+        compare(&rt, &found, counts, "counts");
     }
     Ok(())
+}
+
+/// What is seen of an item that a log may have: whether it is the wanted one.
+#[derive(Clone, Copy, Debug, PartialEq, Eq)]
+enum Seen {
+    Nothing,
+    Clash,
+    Wanted,
+    Other,
+}
+
+fn item_seen<T: PartialEq>(item: &Option<Flat<T>>, wanted: &T) -> Seen {
+    match item {
+        None => Seen::Nothing,
+        Some(Flat::Clash) => Seen::Clash,
+        Some(Flat::Known(found)) => {
+            if found == wanted {
+                Seen::Wanted
+            } else {
+                Seen::Other
+            }
+        }
+    }
+}
+
+/// The first two entries and the end of thread 0, where the second entry and the end of this piece are wanted.
+fn items_seen(log: &Log, piece: &Piece) -> Option<[Seen; 3]> {
+    let second = piece.entries().get(1)?;
+    let end = piece.end()?;
+    Some([
+        item_seen(&log.entry(0, 0), second),
+        item_seen(&log.entry(0, 1), second),
+        item_seen(&log.end(0), &end),
+    ])
+}
+
+/// Whether a log has no entry at a place of a thread, and no end of another thread than the first.
+fn is_absent(log: &Log, thread: u32, place: u32) -> bool {
+    log.entry(thread, place).is_none() && (thread == 0 || log.end(thread).is_none())
+}
+
+/// Checks a log whose first entry was claimed differently, and whose other items are those of this piece.
+fn check_items(rt: &impl Abort, log: &Log, whole: &Piece) {
+    let wanted = Some([Seen::Clash, Seen::Wanted, Seen::Wanted]);
+    compare(rt, log.key(), whole.key(), "key");
+    compare(rt, &items_seen(log, whole), &wanted, "items");
+    for (thread, place) in [(0, 2), (1, 0), (15, 1), (16, 0), (u32::MAX, u32::MAX)] {
+        let is_so = is_absent(log, thread, place);
+        compare(
+            rt,
+            &(thread, place, is_so),
+            &(thread, place, true),
+            "absent",
+        );
+    }
 }
 
 #[test]
 fn items_are_known_or_clash(rt: HostRuntime) -> Result<(), Fail> {
-    let alloc = rt.alloc();
-    let whole = piece(alloc, WHOLE)?;
-    let second = whole.entries().get(1).ok_or("the piece has two entries")?;
-    let replica = delivered(alloc, &[SECOND, OTHER_FIRST, FIRST])?;
-    let log = replica.log();
-    assert_eq!(rt; log.key(), whole.key());
-    assert_eq!(rt; log.entry(0, 0), Some(Flat::Clash));
-    assert_eq!(rt; log.entry(0, 1), Some(Flat::Known(second.copy(alloc)?)));
-    assert_eq!(rt; log.end(0), whole.end().map(Flat::Known));
-    for (thread, place) in [(0, 2), (1, 0), (15, 1), (16, 0), (u32::MAX, u32::MAX)] {
-        assert_eq!(rt; log.entry(thread, place), None);
-        assert!(rt; thread == 0 || log.end(thread).is_none());
-    }
-    let other = delivered(alloc, &[WHOLE, OTHER_END])?;
-    assert_eq!(rt; other.log().end(0), Some(Flat::Clash));
+    let whole = piece(rt.alloc(), WHOLE)?;
+    let replica = delivered(rt.alloc(), &[SECOND, OTHER_FIRST, FIRST])?;
+    check_items(&rt, replica.log(), &whole);
+    let other = delivered(rt.alloc(), &[WHOLE, OTHER_END])?;
+    let is_clash = other.log().end(0) == Some(Flat::Clash);
+    check(&rt, is_clash, "ends clash");
     Ok(())
+}
+
+/// Why a piece is not delivered.
+fn delivery_fault(
+    alloc: Global,
+    replica: &mut Replica,
+    digits: &str,
+) -> Result<Option<ReplicaFault>, Fail> {
+    Ok(replica.deliver(alloc, &piece(alloc, digits)?).err())
 }
 
 #[test]
 fn a_piece_of_another_run_changes_nothing(rt: HostRuntime) -> Result<(), Fail> {
-    let alloc = rt.alloc();
-    let mut replica = delivered(alloc, &[WHOLE])?;
+    let mut replica = delivered(rt.alloc(), &[WHOLE])?;
     for digits in [OTHER_RUN, BLOCK_64] {
-        let answer = replica.deliver(alloc, &piece(alloc, digits)?);
-        assert_eq!(rt; answer, Err(ReplicaFault::OtherRun));
+        let fault = delivery_fault(rt.alloc(), &mut replica, digits)?;
+        compare(&rt, &fault, &Some(ReplicaFault::OtherRun), digits);
     }
-    let wanted = format!(in alloc; "{RUN}\n{WHOLE_LISTED}")?;
-    assert_eq!(rt; listing(alloc, replica.log())?, wanted);
+    let found = listing(rt.alloc(), replica.log())?;
+    compare_texts(&rt, found.as_str(), WHOLE_TEXT, "listed");
     Ok(())
+}
+
+/// The four pieces, as two of them and the other two.
+static HALVES: [([&str; 2], [&str; 2]); 6] = [
+    ([FIRST, SECOND], [THIRD, FOURTH]),
+    ([FIRST, THIRD], [SECOND, FOURTH]),
+    ([FOURTH, FIRST], [THIRD, SECOND]),
+    ([SECOND, THIRD], [FOURTH, FIRST]),
+    ([SECOND, FOURTH], [FIRST, THIRD]),
+    ([THIRD, FOURTH], [FIRST, SECOND]),
+];
+
+/// The listing of these pieces with which those are merged.
+fn merged_listing(alloc: Global, mine: &[&str], theirs: &[&str]) -> Result<String, Fail> {
+    let mut replica = delivered(alloc, mine)?;
+    let other = delivered(alloc, theirs)?;
+    replica.merge(alloc, other.log())?;
+    Ok(listing(alloc, replica.log())?)
 }
 
 #[test]
 fn halves_merge_into_the_whole(rt: HostRuntime) -> Result<(), Fail> {
-    let alloc = rt.alloc();
-    let wanted = format!(in alloc; "{RUN}\n{FOUR_LISTED}")?;
-    let halves: [([&str; 2], [&str; 2]); 6] = [
-        ([FIRST, SECOND], [THIRD, FOURTH]),
-        ([FIRST, THIRD], [SECOND, FOURTH]),
-        ([FOURTH, FIRST], [THIRD, SECOND]),
-        ([SECOND, THIRD], [FOURTH, FIRST]),
-        ([SECOND, FOURTH], [FIRST, THIRD]),
-        ([THIRD, FOURTH], [FIRST, SECOND]),
-    ];
-    for (mine, theirs) in halves {
-        let mut replica = delivered(alloc, &mine)?;
-        let other = delivered(alloc, &theirs)?;
-        replica.merge(alloc, other.log())?;
-        assert_eq!(rt; listing(alloc, replica.log())?, wanted);
+    let wanted = listing_of(rt.alloc(), FOUR_LISTED)?;
+    for (mine, theirs) in &HALVES {
+        let found = merged_listing(rt.alloc(), mine, theirs)?;
+        compare_texts(&rt, found.as_str(), wanted.as_str(), "merged");
     }
     Ok(())
+}
+
+/// Why these pieces are not merged.
+fn merge_fault(alloc: Global, replica: &mut Replica, other: &Replica) -> Option<ReplicaFault> {
+    replica.merge(alloc, other.log()).err()
 }
 
 #[test]
 fn a_log_of_another_run_is_not_merged(rt: HostRuntime) -> Result<(), Fail> {
-    let alloc = rt.alloc();
-    let mut replica = delivered(alloc, &[WHOLE])?;
-    let other = Replica::new(alloc, *piece(alloc, OTHER_RUN)?.key());
-    assert_eq!(rt;
-        replica.merge(alloc, other.log()),
-        Err(ReplicaFault::OtherRun)
+    let mut replica = delivered(rt.alloc(), &[WHOLE])?;
+    let other = Replica::new(rt.alloc(), key(2, Profile::One));
+    let fault = merge_fault(rt.alloc(), &mut replica, &other);
+    compare(&rt, &fault, &Some(ReplicaFault::OtherRun), "another run");
+    let clashing = delivered(rt.alloc(), &[OTHER_FIRST, OTHER_END])?;
+    let fault = merge_fault(rt.alloc(), &mut replica, &clashing);
+    compare(
+        &rt,
+        &(fault, replica.log().clashes()),
+        &(None, 2),
+        "clashes",
     );
-    let clashing = delivered(alloc, &[OTHER_FIRST, OTHER_END])?;
-    replica.merge(alloc, clashing.log())?;
-    assert_eq!(rt; replica.log().clashes(), 2);
     Ok(())
+}
+
+/// Pieces, and how many runs of neighbouring places of thread 0 they have.
+static NEIGHBOURS: &[(&[&str], u32)] = &[
+    (&[], 0),
+    (&[SECOND], 1),
+    (&[SECOND, FIRST], 1),
+    (&[FIRST, STRAY], 2),
+    (&[FIRST, STRAY, SECOND], 1),
+];
+
+fn runs_of(alloc: Global, pieces: &[&str]) -> Result<u32, Fail> {
+    Ok(delivered(alloc, pieces)?.log().runs(0))
 }
 
 #[test]
 fn neighbouring_places_make_one_run(rt: HostRuntime) -> Result<(), Fail> {
-    let alloc = rt.alloc();
-    let cases: [(&[&str], u32); 5] = [
-        (&[], 0),
-        (&[SECOND], 1),
-        (&[SECOND, FIRST], 1),
-        (&[FIRST, STRAY], 2),
-        (&[FIRST, STRAY, SECOND], 1),
-    ];
-    for (pieces, runs) in cases {
-        let replica = delivered(alloc, pieces)?;
-        assert_eq!(rt; replica.log().runs(0), runs);
+    for (pieces, runs) in NEIGHBOURS {
+        let found = runs_of(rt.alloc(), pieces)?;
+        compare(&rt, &found, runs, "runs");
     }
     Ok(())
 }
 
+/// What a cursor reads of thread 0 at places 0, 1, 200 and again 0, where the second entry of this piece is wanted.
+fn claims_read(log: &Log, piece: &Piece) -> Option<[Seen; 4]> {
+    let second = piece.entries().get(1)?;
+    let mut cursor = log.cursor(0)?;
+    let mut claim = None;
+    let mut found = [Seen::Other; 4];
+    for (at, place) in [0, 1, 200, 0].into_iter().enumerate() {
+        cursor.read(place, &mut claim);
+        found[at] = item_seen(&claim, second);
+    }
+    Some(found)
+}
+
 #[test]
 fn a_cursor_reads_places_in_any_order(rt: HostRuntime) -> Result<(), Fail> {
-    let alloc = rt.alloc();
-    let whole = piece(alloc, WHOLE)?;
-    let second = whole.entries().get(1).ok_or("the piece has two entries")?;
-    let replica = delivered(alloc, &[WHOLE, OTHER_FIRST])?;
-    let mut cursor = replica.log().cursor(0).ok_or("thread 0")?;
-    let mut claim = None;
-    cursor.read(0, &mut claim);
-    assert_eq!(rt; claim, Some(Flat::Clash));
-    cursor.read(1, &mut claim);
-    assert_eq!(rt; claim, Some(Flat::Known(second.copy(alloc)?)));
-    cursor.read(200, &mut claim);
-    assert_eq!(rt; claim, None);
-    cursor.read(0, &mut claim);
-    assert_eq!(rt; claim, Some(Flat::Clash));
-    assert!(rt; replica.log().cursor(16).is_none());
+    let whole = piece(rt.alloc(), WHOLE)?;
+    let replica = delivered(rt.alloc(), &[WHOLE, OTHER_FIRST])?;
+    let wanted = [Seen::Clash, Seen::Wanted, Seen::Nothing, Seen::Clash];
+    let found = claims_read(replica.log(), &whole);
+    compare(&rt, &found, &Some(wanted), "read");
+    check(&rt, replica.log().cursor(16).is_none(), "no thread 16");
     Ok(())
 }

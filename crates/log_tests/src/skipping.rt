@@ -1,7 +1,9 @@
 //! Lines that are gathered where bad ones and those of other runs are passed over.
 
-ghost use Rattle.std.specs.Prelude.{◌<◌};
+ghost use Rattle.std.specs.Prelude.{◌≡◌, ◌<◌};
 
+use crate::checks::{check, compare};
+use crate::refused::{check_answer, gather_by_ten};
 use crate::replicas::{
     BLOCK_64, FIRST, NO_PIECES, OTHER_RUN, RUN, SECOND, WHOLE, WHOLE_LISTED, WHOLE_TEXT,
 };
@@ -35,9 +37,29 @@ pub(crate) fn working(most: usize) -> Devices
 #[derive(Drop)]
 pub(crate) struct Gathered {
     pub(crate) answer: Result<Skipped, GatherFault>,
-    source_failures: u64,
-    sink_failures: u64,
+    pub(crate) source_failures: u64,
+    pub(crate) sink_failures: u64,
     pub(crate) sink: MemorySink,
+}
+
+/// Gathers what a source has, and passes over what cannot be joined where `skips`.
+pub(crate) fn answer(
+    alloc: Global,
+    source: &mut MemorySource<'_>,
+    sink: &mut MemorySink,
+    skips: bool,
+    form: ListingForm,
+) -> Result<Skipped, GatherFault>
+    requires source { source.old.failures ≡ 0 }
+    requires sink { sink.old.failures ≡ 0 }
+{
+    if skips {
+        return gather_skipping(alloc, source, sink, form);
+    }
+    match gather(alloc, source, sink, form) {
+        Ok(()) => Ok(Skipped { bad: 0, foreign: 0 }),
+        Err(fault) => Err(fault),
+    }
 }
 
 /// Gathers the text, and passes over what cannot be joined where `skips`.
@@ -55,16 +77,8 @@ pub(crate) fn run_in_form(
 ) -> Gathered {
     let mut source = MemorySource::new(text, devices.most, devices.source_fails_at);
     let mut sink = MemorySink::new(alloc, devices.most, devices.sink_fails_at);
-    let answer = if skips {
-        gather_skipping(alloc, &mut source, &mut sink, form)
-    } else {
-        match gather(alloc, &mut source, &mut sink, form) {
-            Ok(()) => Ok(Skipped { bad: 0, foreign: 0 }),
-            Err(fault) => Err(fault),
-        }
-    };
     Gathered {
-        answer,
+        answer: answer(alloc, &mut source, &mut sink, skips, form),
         source_failures: source.failures(),
         sink_failures: sink.failures(),
         sink,
@@ -80,16 +94,28 @@ fn joined(alloc: Global, parts: &[&str]) -> Result<String, NoMemory> {
     Ok(text)
 }
 
-/// Whether the parts are listed so, and so many lines passed over, by whatever many bytes at a call.
-fn lists(alloc: Global, parts: &[&str], skipped: Skipped, listed: &[u8]) -> Result<bool, NoMemory> {
-    let text = joined(alloc, parts)?;
+/// Whether a text is listed so, and so many lines passed over, by so many bytes at a call.
+fn lists_by(alloc: Global, text: &[u8], most: usize, skipped: Skipped, listed: &[u8]) -> bool
+    requires { 0 < most }
+{
+    let found = run_over(alloc, text, &working(most), true);
+    found.answer == Ok(skipped) && found.sink.taken() == listed
+}
+
+/// The same by whatever many bytes at a call.
+fn lists_text(alloc: Global, text: &[u8], skipped: Skipped, listed: &[u8]) -> bool {
     for most in [1, 7, 100, 65_536] {
-        let found = run_over(alloc, text.as_bytes(), &working(most), true);
-        if found.answer != Ok(skipped) || found.sink.taken() != listed {
-            return Ok(false);
+        if !lists_by(alloc, text, most, skipped, listed) {
+            return false;
         }
     }
-    Ok(true)
+    true
+}
+
+/// The same of a text of these parts.
+fn lists(alloc: Global, parts: &[&str], skipped: Skipped, listed: &[u8]) -> Result<bool, NoMemory> {
+    let text = joined(alloc, parts)?;
+    Ok(lists_text(alloc, text.as_bytes(), skipped, listed))
 }
 
 #[test]
@@ -107,8 +133,11 @@ fn bad_lines_and_other_runs_are_passed_over(rt: HostRuntime) -> Result<(), Fail>
         FIRST,
         "\n",
     ];
-    assert!(rt; lists(rt.alloc(), &parts, one_each, WHOLE_TEXT.as_bytes())?);
-    assert!(rt; lists(rt.alloc(), &parts[..8], one_each, WHOLE_TEXT.as_bytes())?);
+    let listed = WHOLE_TEXT.as_bytes();
+    let is_so = lists(rt.alloc(), &parts, one_each, listed)?;
+    check(&rt, is_so, "a whole last line");
+    let is_so = lists(rt.alloc(), &parts[..8], one_each, listed)?;
+    check(&rt, is_so, "a last line without its end");
     Ok(())
 }
 
@@ -120,15 +149,18 @@ ends 0 missing 0 strays 0 clashes 0
 
 #[test]
 fn the_first_good_line_names_the_run(rt: HostRuntime) -> Result<(), Fail> {
-    let alloc = rt.alloc();
-    let foreign = |foreign| Skipped { bad: 0, foreign };
+    let one = Skipped { bad: 0, foreign: 1 };
+    let two = Skipped { bad: 0, foreign: 2 };
     let parts = [OTHER_RUN, "\n", WHOLE, "\n", FIRST];
-    assert!(rt; lists(alloc, &parts, foreign(2), RUN_2.as_bytes())?);
+    let is_so = lists(rt.alloc(), &parts, two, RUN_2.as_bytes())?;
+    check(&rt, is_so, "run 2 first");
     let parts = [WHOLE, "\n", OTHER_RUN, "\n", WHOLE, "\n"];
-    assert!(rt; lists(alloc, &parts, foreign(1), WHOLE_TEXT.as_bytes())?);
-    let wanted = format!(in alloc; "{RUN}:64\n{WHOLE_LISTED}")?;
+    let is_so = lists(rt.alloc(), &parts, one, WHOLE_TEXT.as_bytes())?;
+    check(&rt, is_so, "run 2 second");
+    let wanted = format!(in rt.alloc(); "{RUN}:64\n{WHOLE_LISTED}")?;
     let parts = [BLOCK_64, "\n", WHOLE, "\n", BLOCK_64];
-    assert!(rt; lists(alloc, &parts, foreign(1), wanted.as_bytes())?);
+    let is_so = lists(rt.alloc(), &parts, one, wanted.as_bytes())?;
+    check(&rt, is_so, "profile 2 first");
     Ok(())
 }
 
@@ -152,7 +184,8 @@ fn texts_without_a_good_line_have_the_listing_of_no_piece(rt: HostRuntime) -> Re
             bad: *bad,
             foreign: 0,
         };
-        assert!(rt; lists(rt.alloc(), parts, skipped, NO_PIECES)?, "{bad}");
+        let is_so = lists(rt.alloc(), parts, skipped, NO_PIECES)?;
+        compare(&rt, &(*bad, is_so), &(*bad, true), "bad lines");
     }
     Ok(())
 }
@@ -167,76 +200,149 @@ fn long_line(alloc: Global, digits: usize, ended: bool) -> Result<Vec<u8>, NoMem
     Ok(text)
 }
 
+/// Whether such a line is passed over, and the rest listed so.
+fn lists_long_line(
+    alloc: Global,
+    digits: usize,
+    ended: bool,
+    listed: &[u8],
+) -> Result<bool, NoMemory> {
+    let one = Skipped { bad: 1, foreign: 0 };
+    let text = long_line(alloc, digits, ended)?;
+    Ok(lists_by(alloc, &text, 65_536, one, listed))
+}
+
 #[test]
 fn an_overlong_line_is_one_bad_line(rt: HostRuntime) -> Result<(), Fail> {
-    let alloc = rt.alloc();
-    let one = Ok(Skipped { bad: 1, foreign: 0 });
     // Lines around the longest one, and one whose end comes many calls behind the place where it is too long.
     for digits in [532_620, 532_621, 589_823, 589_824, 2_000_000] {
-        let text = long_line(alloc, digits, true)?;
-        let found = run_over(alloc, &text, &working(65_536), true);
-        assert_eq!(rt; found.answer, one);
-        assert!(rt; found.sink.taken() == WHOLE_TEXT.as_bytes());
-        let text = long_line(alloc, digits, false)?;
-        let found = run_over(alloc, &text, &working(65_536), true);
-        assert_eq!(rt; found.answer, one);
-        assert!(rt; found.sink.taken() == NO_PIECES);
+        let is_so = lists_long_line(rt.alloc(), digits, true, WHOLE_TEXT.as_bytes())?;
+        compare(&rt, &(digits, is_so), &(digits, true), "ended");
+        let is_so = lists_long_line(rt.alloc(), digits, false, NO_PIECES)?;
+        compare(&rt, &(digits, is_so), &(digits, true), "open");
     }
     Ok(())
 }
 
-/// Whether the device that fails at each of its calls in turn is answered, until a run meets no failure: 44 with
-/// nothing written, 45 with a beginning of what is written then.
-fn answers_failures(
+/// Devices of which one fails at this call, by so many bytes at a call.
+fn failing(most: usize, call: u64, of_sink: bool) -> Devices
+    requires { 0 < most }
+{
+    Devices {
+        most,
+        source_fails_at: if of_sink { None } else { Some(call) },
+        sink_fails_at: if of_sink { Some(call) } else { None },
+    }
+}
+
+/// Whether a failing device is answered: 44 with nothing written, 45 with a beginning of these bytes.
+fn is_answered(found: &Gathered, whole: &[u8], of_sink: bool) -> bool {
+    let fault = if of_sink {
+        GatherFault::SinkFailed
+    } else {
+        GatherFault::SourceFailed
+    };
+    let taken = found.sink.taken();
+    found.answer == Err(fault)
+        && found.sink_failures == u64::from(of_sink)
+        && found.source_failures == u64::from(!of_sink)
+        && whole.starts_with(taken)
+        && (of_sink || taken.is_empty())
+}
+
+/// What a run came to of which a call of a device may fail.
+enum Met {
+    /// It met no failure, and wrote all.
+    Nothing,
+    /// It met one, which is answered.
+    Failure,
+    Other,
+}
+
+/// What such a run came to, where all is these bytes.
+fn run_with_failure(
     alloc: Global,
     text: &[u8],
+    devices: &Devices,
+    skips: bool,
+    of_sink: bool,
+    whole: &[u8],
+) -> Met {
+    let found = run_over(alloc, text, devices, skips);
+    if found.answer.is_ok() && found.sink.taken() == whole {
+        Met::Nothing
+    } else if is_answered(&found, whole, of_sink) {
+        Met::Failure
+    } else {
+        Met::Other
+    }
+}
+
+/// Whether the device that fails at each of its calls in turn is answered, until a run meets no failure: the first such
+/// run writes these bytes, and the call before was the last one.
+fn answers_each_failure(
+    alloc: Global,
+    text: &[u8],
+    most: usize,
+    skips: bool,
+    of_sink: bool,
+    whole: &[u8],
+) -> bool
+    requires { 0 < most }
+{
+    for call in 1..10_000u64 {
+        let devices = failing(most, call, of_sink);
+        match run_with_failure(alloc, text, &devices, skips, of_sink, whole) {
+            Met::Nothing => return call > 1,
+            Met::Failure => {}
+            Met::Other => return false,
+        }
+    }
+    false
+}
+
+/// The same, where all is what a run writes whose devices do not fail.
+fn answers_failures(alloc: Global, text: &[u8], most: usize, skips: bool, of_sink: bool) -> bool
+    requires { 0 < most }
+{
+    let whole = run_over(alloc, text, &working(most), skips);
+    answers_each_failure(alloc, text, most, skips, of_sink, whole.sink.taken())
+}
+
+/// Good lines; and among them a bad one, one of another run and an empty one.
+static GOOD: &[&str] = &[SECOND, "\n", FIRST, "\n", WHOLE];
+
+static MIXED: &[&str] = &["zz\n", SECOND, "\n", OTHER_RUN, "\n\n", FIRST, "\n"];
+
+/// Whether failures of these devices are answered in a text of these parts.
+fn answers_in(
+    alloc: Global,
+    parts: &[&str],
     most: usize,
     skips: bool,
     of_sink: bool,
 ) -> Result<bool, NoMemory>
     requires { 0 < most }
 {
-    let whole = run_over(alloc, text, &working(most), skips);
-    for call in 1..10_000u64 {
-        let devices = Devices {
-            most,
-            source_fails_at: if of_sink { None } else { Some(call) },
-            sink_fails_at: if of_sink { Some(call) } else { None },
-        };
-        let found = run_over(alloc, text, &devices, skips);
-        if found.answer.is_ok() {
-            // The first run that meets no failure writes all, and the call before was the last one.
-            return Ok(call > 1 && found.sink.taken() == whole.sink.taken());
-        }
-        let fault = if of_sink {
-            GatherFault::SinkFailed
-        } else {
-            GatherFault::SourceFailed
-        };
-        let counted = found.sink_failures == u64::from(of_sink)
-            && found.source_failures == u64::from(!of_sink);
-        let begun = whole.sink.taken().starts_with(found.sink.taken());
-        let written = found.sink.taken().len() as u64 > 0;
-        if found.answer != Err(fault) || !counted || !begun || (written && !of_sink) {
-            return Ok(false);
-        }
-    }
-    Ok(false)
+    let text = joined(alloc, parts)?;
+    Ok(answers_failures(alloc, text.as_bytes(), most, skips, of_sink))
 }
 
 #[test]
 fn devices_that_fail_once_are_answered(rt: HostRuntime) -> Result<(), Fail> {
-    let alloc = rt.alloc();
-    let good = joined(alloc, &[SECOND, "\n", FIRST, "\n", WHOLE])?;
-    let mixed = joined(
-        alloc,
-        &["zz\n", SECOND, "\n", OTHER_RUN, "\n\n", FIRST, "\n"],
-    )?;
     for most in [1, 100, 65_536] {
         for of_sink in [false, true] {
-            assert!(rt; answers_failures(alloc, good.as_bytes(), most, false, of_sink)?);
-            assert!(rt; answers_failures(alloc, good.as_bytes(), most, true, of_sink)?);
-            assert!(rt; answers_failures(alloc, mixed.as_bytes(), most, true, of_sink)?);
+            let found = [
+                answers_in(rt.alloc(), GOOD, most, false, of_sink)?,
+                answers_in(rt.alloc(), GOOD, most, true, of_sink)?,
+                answers_in(rt.alloc(), MIXED, most, true, of_sink)?,
+            ];
+            compare(
+                &rt,
+                &(most, of_sink, found),
+                &(most, of_sink, [true; 3]),
+                "answered",
+            );
         }
     }
     Ok(())
@@ -245,31 +351,14 @@ fn devices_that_fail_once_are_answered(rt: HostRuntime) -> Result<(), Fail> {
 #[test]
 fn a_source_that_fails_in_an_overlong_line_is_answered(rt: HostRuntime) -> Result<(), Fail> {
     let text = long_line(rt.alloc(), 1_000_000, true)?;
-    assert!(rt; answers_failures(rt.alloc(), &text, 65_536, true, false)?);
+    let is_so = answers_failures(rt.alloc(), &text, 65_536, true, false);
+    check(&rt, is_so, "answered");
     Ok(())
 }
 
 // Under `rt try --test --fail-alloc N` the Nth growth of this test is refused. Without it none is.
 #[test]
-fn skipping_with_refused_memory_writes_no_other_bytes(rt: HostRuntime) -> Result<(), Fail> {
-    let alloc = rt.alloc();
-    let mut source = MemorySource::new(WHOLE.as_bytes(), 100, None);
-    let mut sink = MemorySink::new(alloc, 10, None);
-    match gather_skipping(alloc, &mut source, &mut sink, ListingForm::default()) {
-        Ok(skipped) => {
-            assert_eq!(rt; skipped, Skipped { bad: 0, foreign: 0 });
-            assert_eq!(rt; sink.taken(), WHOLE_TEXT.as_bytes());
-        }
-        // A sink over memory fails where its own memory is refused.
-        Err(GatherFault::SinkFailed) => {
-            assert_eq!(rt; sink.failures(), 1);
-            assert!(rt; WHOLE_TEXT.as_bytes().starts_with(sink.taken()));
-        }
-        Err(fault) => {
-            assert_eq!(rt; fault, GatherFault::NoMemory);
-            assert!(rt; sink.taken().is_empty());
-        }
-    }
-    assert_eq!(rt; source.failures(), 0);
-    Ok(())
+fn skipping_with_refused_memory_writes_no_other_bytes(rt: HostRuntime) {
+    let found = gather_by_ten(rt.alloc(), WHOLE.as_bytes(), true, ListingForm::default());
+    check_answer(&rt, &found, WHOLE_TEXT.as_bytes());
 }

@@ -6,6 +6,7 @@ ghost use Rattle.replica.specs.Gathered.{IsText, IsListing};
 ghost use Rattle.replica.specs.declared.fault.GatherFault.TheVariants as faults;
 ghost use Rattle.replica.specs.Listing.{plain};
 
+use crate::checks::{check, compare};
 use crate::fitful::{FitfulReader, FitfulWriter, FullWriter};
 use byte_streams::{Failed, Sink, Source, StandardSink, StandardSource, write_all};
 use replica::{GatherFault, ListingForm, gather};
@@ -56,60 +57,72 @@ fn a_slice_comes_in_order(rt: HostRuntime) {
     let text: &[u8] = b"abcdef";
     let mut source = StandardSource::new(text);
     let mut buffer = [0u8; 4];
-    assert_eq!(rt; source.read(&mut buffer), Ok(4));
-    assert!(rt; &buffer == b"abcd");
-    assert_eq!(rt; source.failures(), 0);
-    assert!(rt; source.into_inner() == b"ef".as_slice());
+    let answer = source.read(&mut buffer);
+    let found = (answer, buffer, source.failures());
+    compare(&rt, &found, &(Ok(4), *b"abcd", 0), "read");
+    compare(&rt, &source.into_inner(), &b"ef".as_slice(), "rest");
 }
 
 #[test]
 fn interrupted_calls_are_made_again(rt: HostRuntime) {
     let mut source = StandardSource::new(FitfulReader::new(b"ab", 0));
-    assert_eq!(rt; next_byte(&mut source), Ok(Some(b'a')));
-    assert_eq!(rt; next_byte(&mut source), Ok(Some(b'b')));
-    assert_eq!(rt; next_byte(&mut source), Ok(None));
-    assert_eq!(rt; next_byte(&mut source), Ok(None));
-    assert_eq!(rt; source.failures(), 0);
+    let found = [
+        next_byte(&mut source),
+        next_byte(&mut source),
+        next_byte(&mut source),
+        next_byte(&mut source),
+    ];
+    let want = [Ok(Some(b'a')), Ok(Some(b'b')), Ok(None), Ok(None)];
+    compare(&rt, &(found, source.failures()), &(want, 0), "bytes");
 }
 
 #[test]
 fn bytes_go_on_behind_a_failing_call(rt: HostRuntime) {
     for fails_at in [3, 4] {
         let mut source = StandardSource::new(FitfulReader::new(b"ab", fails_at));
-        assert_eq!(rt; next_byte(&mut source), Ok(Some(b'a')));
-        assert_eq!(rt; next_byte(&mut source), Err(Failed));
-        assert_eq!(rt; next_byte(&mut source), Ok(Some(b'b')));
-        assert_eq!(rt; next_byte(&mut source), Ok(None));
-        assert_eq!(rt; source.failures(), 1);
+        let found = [
+            next_byte(&mut source),
+            next_byte(&mut source),
+            next_byte(&mut source),
+            next_byte(&mut source),
+        ];
+        let want = [Ok(Some(b'a')), Err(Failed), Ok(Some(b'b')), Ok(None)];
+        compare(&rt, &(found, source.failures()), &(want, 1), "bytes");
     }
 }
 
 #[test]
 fn a_vector_takes_all(rt: HostRuntime) {
     let mut sink = StandardSink::new(Vec::new(rt.alloc()));
-    assert_eq!(rt; put(&mut sink, b"ab"), Ok(()));
-    assert_eq!(rt; put(&mut sink, b"c"), Ok(()));
-    assert_eq!(rt; sink.failures(), 0);
-    assert!(rt; sink.into_inner().as_slice() == b"abc".as_slice());
+    let found = [put(&mut sink, b"ab"), put(&mut sink, b"c")];
+    compare(&rt, &(found, sink.failures()), &([Ok(()); 2], 0), "written");
+    let taken = sink.into_inner();
+    compare(&rt, &taken.as_slice(), &b"abc".as_slice(), "taken");
 }
 
 #[test]
 fn a_sink_goes_on_behind_a_failing_call(rt: HostRuntime) {
     for fails_at in [3, 4] {
         let mut sink = StandardSink::new(FitfulWriter::new(rt.alloc(), fails_at));
-        assert_eq!(rt; put(&mut sink, b"abc"), Err(Failed));
-        assert_eq!(rt; sink.failures(), 1);
-        assert_eq!(rt; put(&mut sink, b"bc"), Ok(()));
-        assert_eq!(rt; sink.failures(), 1);
-        assert!(rt; sink.into_inner().taken() == b"abc".as_slice());
+        let first = (put(&mut sink, b"abc"), sink.failures());
+        let second = (put(&mut sink, b"bc"), sink.failures());
+        let want = ((Err(Failed), 1), (Ok(()), 1));
+        compare(&rt, &(first, second), &want, "written");
+        let output = sink.into_inner();
+        compare(&rt, &output.taken(), &b"abc".as_slice(), "taken");
     }
 }
 
 #[test]
 fn a_stream_that_takes_nothing_fails(rt: HostRuntime) {
     let mut sink = StandardSink::new(FullWriter);
-    assert_eq!(rt; put(&mut sink, b"a"), Err(Failed));
-    assert_eq!(rt; sink.failures(), 1);
+    let answer = put(&mut sink, b"a");
+    compare(
+        &rt,
+        &(answer, sink.failures()),
+        &(Err(Failed), 1),
+        "written",
+    );
 }
 
 // A piece of thread 3 with no entry and an end, and its listing.
@@ -127,15 +140,12 @@ ends 1 missing 0 strays 0 clashes 0
 fn streams_gather(rt: HostRuntime) {
     let alloc = rt.alloc();
     let (answer, listing) = gathered(alloc, LINE, Vec::new(alloc));
-    assert_eq!(rt; answer, Ok(()));
-    assert!(rt; listing.as_slice() == LISTING);
-    let (answer, output) = gathered(
-        alloc,
-        FitfulReader::new(LINE, 0),
-        FitfulWriter::new(alloc, 0),
-    );
-    assert_eq!(rt; answer, Ok(()));
-    assert!(rt; output.taken() == LISTING);
+    compare(&rt, &answer, &Ok(()), "a vector");
+    compare(&rt, &listing.as_slice(), &LISTING, "a vector");
+    let input = FitfulReader::new(LINE, 0);
+    let (answer, output) = gathered(alloc, input, FitfulWriter::new(alloc, 0));
+    compare(&rt, &answer, &Ok(()), "a fitful writer");
+    compare(&rt, &output.taken(), &LISTING, "a fitful writer");
 }
 
 #[test]
@@ -144,8 +154,9 @@ fn nothing_is_written_where_reading_fails(rt: HostRuntime) {
     for fails_at in 1..200 {
         let input = FitfulReader::new(LINE, fails_at);
         let (answer, output) = gathered(alloc, input, FitfulWriter::new(alloc, 0));
-        assert_eq!(rt; answer, Err(GatherFault::SourceFailed));
-        assert!(rt; output.taken().is_empty());
+        let found = (fails_at, answer, output.taken().len());
+        let want = (fails_at, Err(GatherFault::SourceFailed), 0);
+        compare(&rt, &found, &want, "gathered");
     }
 }
 
@@ -155,8 +166,10 @@ fn a_beginning_is_written_where_writing_fails(rt: HostRuntime) {
     for fails_at in 1..200 {
         let output = FitfulWriter::new(alloc, fails_at);
         let (answer, output) = gathered(alloc, LINE, output);
-        assert_eq!(rt; answer, Err(GatherFault::SinkFailed));
-        assert_eq!(rt; output.taken().len() as u64, (fails_at - 1) / 2);
-        assert!(rt; LISTING.starts_with(output.taken()));
+        let taken = output.taken();
+        let found = (fails_at, answer, taken.len() as u64);
+        let want = (fails_at, Err(GatherFault::SinkFailed), (fails_at - 1) / 2);
+        compare(&rt, &found, &want, "gathered");
+        check(&rt, LISTING.starts_with(taken), "a beginning");
     }
 }

@@ -10,6 +10,8 @@ mod arithmetic;
 #[cfg(test)]
 mod calls;
 #[cfg(test)]
+mod checks;
+#[cfg(test)]
 mod growths;
 #[cfg(test)]
 mod modules;

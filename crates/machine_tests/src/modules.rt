@@ -8,10 +8,15 @@ use validator::{Valid, validate};
 use wasm_types::Profile;
 use wasm_world::{Plan, SharedSpace, ThreadState, open_world};
 
+/// The bytes of these digits, between which there may be spaces.
+fn bytes_of(alloc: Global, digits: &str) -> Result<Vec<u8>, Fail> {
+    let digits = digits.replace(alloc, ' ', "")?;
+    Ok(hex::decode(alloc, digits.as_str())?)
+}
+
 /// The valid module of these digits, between which there may be spaces.
 pub(crate) fn valid(alloc: Global, module: &str) -> Result<Valid, Fail> {
-    let digits = module.replace(alloc, ' ', "")?;
-    let bytes = hex::decode(alloc, digits.as_str())?;
+    let bytes = bytes_of(alloc, module)?;
     Ok(validate(alloc, decode(alloc, &bytes)?)?)
 }
 

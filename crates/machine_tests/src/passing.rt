@@ -1,10 +1,12 @@
 //! Picks that a recording passes over, since nothing can be done by them, or their thread has made its steps.
 
+use crate::checks::compare;
 use crate::modules::{open, valid};
-use pick_schedule::schedule;
+use pick_schedule::{Schedule, schedule};
 use recorder::record;
 use std::alloc::Global;
 use std::test::Fail;
+use validator::Valid;
 
 /// Twice the same thread, which adds 1 at address 0 twice, in eight steps.
 const COUNTER: (&str, &str) = (
@@ -51,23 +53,39 @@ const ROWS: &[((&str, &str), &str, u32, u64)] = &[
 ];
 
 /// How many picks of a schedule a recording passes over.
-fn passed(alloc: Global, of: (&str, &str), picks: &str, steps: u32) -> Result<u64, Fail> {
-    let (module, plan) = of;
-    let picks = schedule(alloc, picks.as_bytes())?;
+fn passed_over(
+    alloc: Global,
+    valid: &Valid,
+    plan: &str,
+    picks: &Schedule,
+    steps: u32,
+) -> Result<u64, Fail> {
+    let world = open(alloc, valid, plan)?;
+    Ok(record(alloc, world, picks, steps)?.passed())
+}
+
+/// The same of the module of these digits. It alone owns a module, and the next one a schedule.
+fn passed_of(
+    alloc: Global,
+    (module, plan): (&str, &str),
+    picks: &Schedule,
+    steps: u32,
+) -> Result<u64, Fail> {
     let valid = valid(alloc, module)?;
-    let world = open(alloc, &valid, plan)?;
-    Ok(record(alloc, world, &picks, steps)?.passed())
+    passed_over(alloc, &valid, plan, picks, steps)
+}
+
+fn passed(alloc: Global, of: (&str, &str), picks: &str, steps: u32) -> Result<u64, Fail> {
+    let picks = schedule(alloc, picks.as_bytes())?;
+    passed_of(alloc, of, &picks, steps)
 }
 
 #[test]
 fn picks_are_passed_over(rt: HostRuntime) -> Result<(), Fail> {
     let rows = ROWS;
     for (of, picks, steps, wanted) in rows {
-        assert_eq!(rt;
-            passed(rt.alloc(), *of, *picks, *steps)?,
-            *wanted,
-            "{picks}"
-        );
+        let found = passed(rt.alloc(), *of, *picks, *steps)?;
+        compare(&rt, &found, wanted, picks);
     }
     Ok(())
 }

@@ -1,11 +1,15 @@
 //! Turns of a replay of threads over their memory.
 
+ghost use Rattle.wasm_world.specs.Plans.{IsPlanOf};
+
+use crate::checks::compare;
 use crate::modules::valid;
 use log_pieces::{End, Piece};
 use replay_gate::{ReplayFault, Turned};
-use replica::Replica;
+use replica::{Log, Replica};
 use rw_objects::{Entry, Few, Found, Kind};
 use std::alloc::Global;
+use std::process::Abort;
 use std::test::Fail;
 use validator::Valid;
 use wasm_replay::open_replay;
@@ -47,6 +51,16 @@ pub(crate) const WRITTEN: (Found, End) = (
     },
 );
 
+/// The piece of a thread's one entry and its end.
+fn piece_of(alloc: Global, key: RunKey, thread: u32, found: Found, end: End) -> Option<Piece> {
+    let entry = Entry {
+        kind: Kind::Access,
+        found: Few::one(alloc, found),
+    };
+    let entries = Vec::from_array(alloc, [entry]).ok()?;
+    Piece::new(key, thread, 0, entries, Some(end)).ok()
+}
+
 /// Delivers a thread's one entry and its end. Answers whether that could be done.
 pub(crate) fn deliver(
     alloc: Global,
@@ -54,17 +68,9 @@ pub(crate) fn deliver(
     thread: u32,
     (found, end): (Found, End),
 ) -> bool {
-    let mut entries = Vec::new(alloc);
-    let entry = Entry {
-        kind: Kind::Access,
-        found: Few::one(alloc, found),
-    };
-    if entries.push(entry).is_err() {
-        return false;
-    }
-    match Piece::new(*replica.log().key(), thread, 0, entries, Some(end)) {
-        Ok(piece) => replica.deliver(alloc, &piece).is_ok(),
-        Err(_) => false,
+    match piece_of(alloc, *replica.log().key(), thread, found, end) {
+        Some(piece) => replica.deliver(alloc, &piece).is_ok(),
+        None => false,
     }
 }
 
@@ -92,29 +98,45 @@ const TURNS: &[(u32, Result<Turned, ReplayFault>)] = &[
     (2, Ok(Turned::Event)),
 ];
 
-/// What the turns come to that are taken in this order.
-fn taken(alloc: Global, valid: &Valid) -> Result<Vec<Result<Turned, ReplayFault>>, Fail> {
-    let plan = Plan::read(alloc, THREE.as_bytes(), valid)?;
-    let profile = Profile::Two(Block::least());
+/// The key of run 0 of a plan, in profile 2 with the least blocks.
+pub(crate) fn key_of(valid: &Valid, plan: &Plan) -> RunKey {
     let source = valid.module().source.as_slice();
-    let replica = readers_first(alloc, RunKey::of(source, plan.bytes(), 0, profile))?;
-    let mut replay = open_replay(alloc, valid, &plan, replica.log())?;
-    let mut taken = Vec::new(alloc);
+    RunKey::of(source, plan.bytes(), 0, Profile::Two(Block::least()))
+}
+
+/// Takes the turns in this order. It alone owns a replay, and the next ones what is gathered and a plan.
+fn take_turns(
+    rt: &impl Abort,
+    alloc: Global,
+    valid: &Valid,
+    plan: &Plan,
+    log: &Log,
+) -> Result<(), Fail>
+    requires { IsPlanOf valid.now plan.now }
+{
+    let mut replay = open_replay(alloc, valid, plan, log)?;
     let turns = TURNS;
-    for (thread, _) in turns {
-        taken.push(replay.turn(alloc, *thread))?;
+    for (thread, wanted) in turns {
+        let found = replay.turn(alloc, *thread);
+        compare(rt, &(*thread, found), &(*thread, *wanted), "a turn");
     }
-    Ok(taken)
+    Ok(())
+}
+
+fn take_gathered(rt: &impl Abort, alloc: Global, valid: &Valid, plan: &Plan) -> Result<(), Fail>
+    requires { IsPlanOf valid.now plan.now }
+{
+    let replica = readers_first(alloc, key_of(valid, plan))?;
+    take_turns(rt, alloc, valid, plan, replica.log())
+}
+
+fn take_planned(rt: &impl Abort, alloc: Global, valid: &Valid) -> Result<(), Fail> {
+    let plan = Plan::read(alloc, THREE.as_bytes(), valid)?;
+    take_gathered(rt, alloc, valid, &plan)
 }
 
 #[test]
 fn a_write_waits_for_the_reads_before_it(rt: HostRuntime) -> Result<(), Fail> {
     let valid = valid(rt.alloc(), READERS)?;
-    let found = taken(rt.alloc(), &valid)?;
-    let turns = TURNS;
-    assert_eq!(rt; found.len(), turns.len());
-    for (found, (thread, wanted)) in found.iter().zip(turns.iter()) {
-        assert_eq!(rt; found, wanted, "{thread}");
-    }
-    Ok(())
+    take_planned(&rt, rt.alloc(), &valid)
 }

@@ -2,8 +2,9 @@
 
 ghost use Rattle.wasm_world.specs.Plans.{IsPlanOf};
 
+use crate::checks::{check, compare, compare_texts};
 use crate::modules::valid;
-use crate::replays::{READ, READERS, THREE, WRITTEN, deliver};
+use crate::replays::{READ, READERS, THREE, WRITTEN, deliver, key_of};
 use log_pieces::End;
 use replica::{Log, Replica};
 use rw_objects::{Count, Found, Kind, Mode, Touch};
@@ -12,7 +13,6 @@ use std::test::Fail;
 use wasm_replay::{
     Claimed, Doing, Logged, LoggedEntry, Progress, Standing, Waiting, replay_gathered,
 };
-use wasm_types::{Block, Profile, RunKey};
 use wasm_world::{Plan, Valid};
 
 /// A write behind one more read than there are.
@@ -40,27 +40,56 @@ fn refused(alloc: Global, valid: &Valid, plan: &Plan, log: &Log) -> Option<Stand
     Some(unreplayed.standing)
 }
 
-/// Where the replay stands of what each thread found and how it ends, in a log with this digest, or that of the run.
-fn standing(
+/// What each thread found and how it ends.
+type Claims<'a> = &'a [(u32, (Found, End))];
+
+/// Delivers pieces of these claims.
+fn deliver_all(alloc: Global, replica: &mut Replica, claims: Claims<'_>) -> Result<(), Fail> {
+    for (thread, claim) in claims {
+        if !deliver(alloc, replica, *thread, *claim) {
+            return Err("a piece is not gathered".into());
+        }
+    }
+    Ok(())
+}
+
+/// Where the replay stands of a plan by these claims, in a log with this digest, or that of the run.
+fn standing_of(
     alloc: Global,
+    valid: &Valid,
+    plan: &Plan,
     digest: Option<[u8; 32]>,
-    claims: &[(u32, (Found, End))],
-) -> Result<Option<Standing>, Fail> {
-    let valid = valid(alloc, READERS)?;
-    let plan = Plan::read(alloc, THREE.as_bytes(), &valid)?;
-    let source = valid.module().source.as_slice();
-    let profile = Profile::Two(Block::least());
-    let mut key = RunKey::of(source, plan.bytes(), 0, profile);
+    claims: Claims<'_>,
+) -> Result<Option<Standing>, Fail>
+    requires { IsPlanOf valid.now plan.now }
+{
+    let mut key = key_of(valid, plan);
     if let Some(digest) = digest {
         key.digest = digest;
     }
     let mut replica = Replica::new(alloc, key);
-    for (thread, claim) in claims {
-        if !deliver(alloc, &mut replica, *thread, *claim) {
-            return Err("a piece is not gathered".into());
-        }
-    }
-    Ok(refused(alloc, &valid, &plan, replica.log()))
+    deliver_all(alloc, &mut replica, claims)?;
+    Ok(refused(alloc, valid, plan, replica.log()))
+}
+
+/// The same of the plan of three threads. It alone owns a plan, and the next one a module.
+fn standing_in(
+    alloc: Global,
+    valid: &Valid,
+    digest: Option<[u8; 32]>,
+    claims: Claims<'_>,
+) -> Result<Option<Standing>, Fail> {
+    let plan = Plan::read(alloc, THREE.as_bytes(), valid)?;
+    standing_of(alloc, valid, &plan, digest, claims)
+}
+
+fn standing(
+    alloc: Global,
+    digest: Option<[u8; 32]>,
+    claims: Claims<'_>,
+) -> Result<Option<Standing>, Fail> {
+    let valid = valid(alloc, READERS)?;
+    standing_in(alloc, &valid, digest, claims)
 }
 
 /// A log of another run has another key than that of these.
@@ -70,9 +99,9 @@ fn keys_are_told(rt: HostRuntime) -> Result<(), Fail> {
     let Some(Standing::Keys { log, own }) = standing(rt.alloc(), Some(other), &[])? else {
         return Err("the keys are not told".into());
     };
-    assert_eq!(rt; log.digest, other);
-    assert_ne!(rt; own.digest, other);
-    assert_eq!(rt; own.run, log.run);
+    compare(&rt, &log.digest, &other, "the digest of the log");
+    check(&rt, own.digest != other, "the digest of the run");
+    compare(&rt, &own.run, &log.run, "the run");
     Ok(())
 }
 
@@ -81,9 +110,10 @@ fn keys_are_told(rt: HostRuntime) -> Result<(), Fail> {
 fn claims_are_told(rt: HostRuntime) -> Result<(), Fail> {
     let alloc = rt.alloc();
     let end = Some(Standing::Claims(Claimed::End));
-    assert_eq!(rt; standing(alloc, None, &[(0, READ), (1, READ)])?, end);
+    let found = standing(alloc, None, &[(0, READ), (1, READ)])?;
+    compare(&rt, &found, &end, "no end");
     let claims = [(0, READ), (1, READ), (1, (READ.0, WRITTEN.1)), (2, WRITTEN)];
-    assert_eq!(rt; standing(alloc, None, &claims)?, end);
+    compare(&rt, &standing(alloc, None, &claims)?, &end, "two ends");
     Ok(())
 }
 
@@ -102,7 +132,8 @@ fn a_thread_diverges(rt: HostRuntime) -> Result<(), Fail> {
             doing: Doing::Accesses([Some(touch), None, None]),
         }),
     };
-    assert_eq!(rt; standing(rt.alloc(), None, &claims)?, Some(wanted));
+    let found = standing(rt.alloc(), None, &claims)?;
+    compare(&rt, &found, &Some(wanted), "a reader is to write");
     Ok(())
 }
 
@@ -123,11 +154,14 @@ fn a_thread_waits(rt: HostRuntime) -> Result<(), Fail> {
             Count::default(),
         ],
     });
-    assert_eq!(rt;
-        standing(rt.alloc(), None, &claims)?,
-        Some(Standing::Stuck { waiting })
+    let found = standing(rt.alloc(), None, &claims)?;
+    compare(
+        &rt,
+        &found,
+        &Some(Standing::Stuck { waiting }),
+        "the writer",
     );
     let text = format!(in rt.alloc(); "{}", one(LATE))?;
-    assert_eq!(rt; text.as_str(), "access w1@0/3");
+    compare_texts(&rt, text.as_str(), "access w1@0/3", "the entry");
     Ok(())
 }

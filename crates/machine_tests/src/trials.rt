@@ -4,6 +4,7 @@ ghost use Rattle.std.specs.Prelude.{◌≡◌, IfOk};
 ghost use Rattle.wasm_world.specs.ThreadCode.{thread_code};
 ghost use Rattle.wasm_world.specs.Plans.{IsPlanOf};
 
+use crate::checks::compare;
 use crate::growths::{Refused, grow};
 use crate::modules::valid;
 use event_core::outcome_of;
@@ -80,6 +81,12 @@ fn code_of(alloc: Global, count: usize, bodies: &str) -> Result<String, Fail> {
     Ok(code)
 }
 
+/// Writes the code section's content behind its size.
+fn put_code(alloc: Global, text: &mut String, count: usize, bodies: &str) -> Result<(), Fail> {
+    let code = code_of(alloc, count, bodies)?;
+    put_sized(alloc, text, code.as_str())
+}
+
 /// The digits of a module.
 fn digits_of(alloc: Global, case: &Case<'_>) -> Result<String, Fail> {
     let Case {
@@ -92,11 +99,10 @@ fn digits_of(alloc: Global, case: &Case<'_>) -> Result<String, Fail> {
     } = *case;
     let count = functions.len() / 2;
     let size = count.saturating_add(1);
-    let code = code_of(alloc, count, bodies)?;
     let mut text = format!(in alloc;
         "{HEAD}{imports}03{size:02x}{count:02x}{functions}{TABLE}{memory}{GLOBALS}{segments}0a"
     )?;
-    put_sized(alloc, &mut text, code.as_str())?;
+    put_code(alloc, &mut text, count, bodies)?;
     Ok(text)
 }
 
@@ -106,18 +112,42 @@ fn module_of(alloc: Global, case: &Case<'_>) -> Result<Valid, Fail> {
     valid(alloc, digits.as_str())
 }
 
-/// The plan with these lines behind its first.
-fn plan_of(alloc: Global, valid: &Valid, lines: &str) -> Result<Plan, Fail>
-    ensures { IfOk result (λ plan. IsPlanOf valid.now plan) }
-{
+/// The text of a plan with these lines behind its first.
+fn text_of_plan(alloc: Global, lines: &str) -> Result<String, Fail> {
     let mut text = format!(in alloc; "wreplay plan 1")?;
     for line in lines.split(", ") {
         write!(text, "\n{line}")?;
     }
+    Ok(text)
+}
+
+/// The plan with these lines behind its first.
+fn plan_of(alloc: Global, valid: &Valid, lines: &str) -> Result<Plan, Fail>
+    ensures { IfOk result (λ plan. IsPlanOf valid.now plan) }
+{
+    let text = text_of_plan(alloc, lines)?;
     Ok(Plan::read(alloc, text.as_bytes(), valid)?)
 }
 
-/// The thread. Where memory is wanted for it, it is made again.
+/// The last thread of a plan. Where memory is wanted for it, it is made again.
+fn open_last<'a>(
+    alloc: Global,
+    valid: &'a Valid,
+    plan: &Plan,
+    profile: &Profile,
+) -> Result<ThreadState<'a>, Fail>
+    requires { IsPlanOf valid.now plan.now }
+{
+    let Some(last) = plan.threads().checked_sub(1) else {
+        return Err(Fail::new("no thread"));
+    };
+    if let Ok(state) = ThreadState::new(alloc, valid, plan, last, *profile) {
+        return Ok(state);
+    }
+    Ok(ThreadState::new(alloc, valid, plan, last, *profile)?)
+}
+
+/// The same of the plan with these lines behind its first.
 fn open<'a>(
     alloc: Global,
     valid: &'a Valid,
@@ -125,13 +155,7 @@ fn open<'a>(
     profile: &Profile,
 ) -> Result<ThreadState<'a>, Fail> {
     let plan = plan_of(alloc, valid, lines)?;
-    let Some(last) = plan.threads().checked_sub(1) else {
-        return Err(Fail::new("no thread"));
-    };
-    if let Ok(state) = ThreadState::new(alloc, valid, &plan, last, *profile) {
-        return Ok(state);
-    }
-    Ok(ThreadState::new(alloc, valid, &plan, last, *profile)?)
+    open_last(alloc, valid, &plan, profile)
 }
 
 /// Notes what a thread asks for.
@@ -270,7 +294,8 @@ pub(crate) fn check(
 ) -> Result<(), Fail> {
     let mut text = String::new(alloc);
     go_over(alloc, &mut text, case, profile, way)?;
-    assert_eq!(rt; text.as_str(), want, "{}, {}", case.bodies, case.lines);
+    let found = (case.lines, text.as_str());
+    compare(rt, &found, &(case.lines, want), case.bodies);
     Ok(())
 }
 

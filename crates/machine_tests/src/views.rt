@@ -3,6 +3,7 @@
 ghost use Rattle.std.specs.Prelude.{IsTrue};
 ghost use Rattle.debug_views.specs.Text.{IsShown};
 
+use crate::checks::{compare, compare_texts};
 use crate::modules::{Threads, open, valid};
 use debug_views::{bytes, thread_view, versions, view, write_break};
 use event_core::{Input, Pick};
@@ -91,17 +92,18 @@ fn bytes_shown(alloc: Global, world: &Threads<'_>, row: &Row) -> usize {
     }
 }
 
+// Adds the bytes, object 1 and thread 1.
+fn add_parts(alloc: Global, text: &mut String, world: &Threads<'_>, row: &Row) -> Result<(), Fail> {
+    let shown = bytes_shown(alloc, world, row);
+    let (count, thread) = (versions(world, 1), thread_view(world, 1));
+    Ok(write!(text, "{shown} bytes\n{count:?}\n{thread:?}\n")?)
+}
+
 // Lets the threads move, and looks at the view, the bytes, object 1 and thread 1.
 fn seen(alloc: Global, world: &mut Threads<'_>, row: &Row) -> Result<String, Fail> {
     go(world, row.moves)?;
     let mut text = text_of_view(alloc, world, row)?;
-    let shown = bytes_shown(alloc, world, row);
-    let count = versions(world, 1);
-    write!(
-        text,
-        "{shown} bytes\n{count:?}\n{:?}\n",
-        thread_view(world, 1)
-    )?;
+    add_parts(alloc, &mut text, world, row)?;
     Ok(text)
 }
 
@@ -222,7 +224,7 @@ static VIEWS: &[Row] = &[
 fn stopped_replays_are_shown(rt: HostRuntime) -> Result<(), Fail> {
     for row in VIEWS {
         let text = seen_in(rt.alloc(), row)?;
-        assert_eq!(rt; text.as_str(), row.want);
+        compare_texts(&rt, text.as_str(), row.want, "a view");
     }
     Ok(())
 }
@@ -249,6 +251,7 @@ fn a_write_break_ends_with_the_block_of_the_last_byte(rt: HostRuntime) {
         (64, 1, (3, 5)),
         (64, 0, (3, 3)),
     ] {
-        assert_eq!(rt; objects_of(from, len), Some(want), "{from} {len}");
+        let found = (from, len, objects_of(from, len));
+        compare(&rt, &found, &(from, len, Some(want)), "objects");
     }
 }
