@@ -1,4 +1,5 @@
 pub mod Padded
+pub mod LongLines
 pub mod Pausing
 pub mod MoreLines
 pub mod Writing

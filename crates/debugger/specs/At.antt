@@ -1,4 +1,5 @@
 -- Where a debugger stands.
+use Rattle.std.specs.Prelude.{◌≡◌}
 use Rattle.event_core.specs.World.{world_of}
 use Rattle.wasm_replay.specs.Replays.{Suits, opened_world}
 use Rattle.debugger.specs.Replies.{DebugAt}
@@ -16,6 +17,10 @@ at_of d = record {
   breaks = d.breaks.items;
   instructions = d.instructions.items;
 }
+
+-- its opening world is that of the other
+abbrev pub IsOpenedAs : Debugger → Debugger → Type 0
+IsOpenedAs d e = e.session.replay.opens ≡ d.session.replay.opens
 
 -- its opening world can be opened again
 abbrev pub CanOpen : Debugger → Type 0

@@ -1,5 +1,5 @@
 -- Functions of a module by what they are called: by their numbers, and by their names.
-use Rattle.std.specs.Prelude.{◌≡◌, ℕ, ◌<◌, ◌&&◌, ◌||◌, Bool, true, false, nat_lt, List, length, Option, Some, None, slice_get}
+use Rattle.std.specs.Prelude.{◌≡◌, ◌⊎◌, ℕ, ◌<◌, ◌&&◌, ◌||◌, Bool, true, false, nat_lt, List, length, Option, Some, None, slice_get}
 use Rattle.std.specs.Fmt.{decimal}
 use Rattle.std.specs.Str.{bytes_eq}
 use Rattle.wasm_types.specs.declared.modules.Body.{Body}
@@ -57,3 +57,12 @@ pub record IsShort (m : Module) (w : Word) (n : ℕ) : Type 0 where
   pub function : ℕ
   pub first : IsFirstCalled m.source w (length m.functions) function
   pub short : has_instruction m (record { function = function; instruction = n }) ≡ false
+
+-- its first instruction, where a text calls it; a text that is no word calls none
+abbrev pub IsEntryBy : Module → Option Word → Option CodePlace → Type 0
+IsEntryBy m None found = found ≡ None
+IsEntryBy m (Some w) None = NoneCalled m.source w (length m.functions) ⊎ IsShort m w 0
+IsEntryBy m (Some w) (Some p) = IsMeant m w 0 p
+
+abbrev pub IsEntry : Module → List ℕ → Option CodePlace → Type 0
+IsEntry m text found = IsEntryBy m (word_of text) found

@@ -252,14 +252,18 @@ pub record Moves (s : DebugAt) (line text : List ℕ) (u : DebugAt) : Type 0 whe
 
 -- steps of a thread, at most so many: on a log below that of a run nothing clashes and no thread diverges, and on the
 -- whole log of a run a shut gate alone stops them
-pub record Steps (s : DebugAt) (thread most : ℕ) (text : List ℕ) (u : DebugAt) : Type 0 where
-  pub gone : Gone
+pub record GoesSteps (s : DebugAt) (thread most : ℕ) (gone : Gone) (u : DebugAt) : Type 0 where
   pub few : gone.steps ≤ most
   pub leads : ThreadLeads shared_memory thread_code (gathered_log s.log) thread gone.steps s.world u.world
   pub ceased : CeasesSo shared_memory thread_code (gathered_log s.log) thread gone.steps most u.world gone.ceased
   pub right : IfFault gone.ceased (IsRightRefusal shared_memory thread_code (gathered_log s.log) s.opening)
   pub free : IfFault gone.ceased (IsFreeRefusal shared_memory thread_code (gathered_log s.log) s.opening)
   pub legs : u.legs ≡ with_thread s.legs thread gone.steps
+  pub same : u ≡ moved s u.legs u.world
+
+pub record Steps (s : DebugAt) (thread most : ℕ) (text : List ℕ) (u : DebugAt) : Type 0 where
+  pub gone : Gone
+  pub goes : GoesSteps s thread most gone u
   pub moves : Moves s (gone_line gone) text u
 
 -- steps of a thread, up to behind so many events of it
@@ -274,13 +278,17 @@ pub record MakesEvents (s : DebugAt) (thread most : ℕ) (text : List ℕ) (u : 
   pub moves : Moves s (gone_line gone) text u
 
 -- steps of a thread, up to behind the first after which it is in fewer functions
-pub record Finishes (s : DebugAt) (thread : ℕ) (text : List ℕ) (u : DebugAt) : Type 0 where
-  pub gone : Gone
+pub record GoesOut (s : DebugAt) (thread : ℕ) (gone : Gone) (u : DebugAt) : Type 0 where
   pub leads : ThreadLeads shared_memory thread_code (gathered_log s.log) thread gone.steps s.world u.world
   pub ceased : UntilCeases shared_memory thread_code (gathered_log s.log) (is_out (depth_in s.world thread)) thread gone.steps s.world u.world gone.ceased
   pub right : IfFault gone.ceased (IsRightRefusal shared_memory thread_code (gathered_log s.log) s.opening)
   pub free : IfFault gone.ceased (IsFreeRefusal shared_memory thread_code (gathered_log s.log) s.opening)
   pub legs : u.legs ≡ with_thread s.legs thread gone.steps
+  pub same : u ≡ moved s u.legs u.world
+
+pub record Finishes (s : DebugAt) (thread : ℕ) (text : List ℕ) (u : DebugAt) : Type 0 where
+  pub gone : Gone
+  pub goes : GoesOut s thread gone u
   pub moves : Moves s (gone_line gone) text u
 
 -- turns of all threads in rounds from state s to state u, up to a break: on a log below that of a run no thread
@@ -318,14 +326,24 @@ pub record Passes (s : DebugAt) (n : ℕ) (text : List ℕ) (u : DebugAt) : Type
   pub moves : Moves s (paused_line how s.breaks) text u
 
 -- the way without its last steps
-pub record GoesBack (s : DebugAt) (steps : ℕ) (text : List ℕ) (u : DebugAt) : Type 0 where
+pub record GoesBackBy (s : DebugAt) (steps : ℕ) (u : DebugAt) : Type 0 where
   pub legs : u.legs ≡ without_last steps s.legs
+  pub same : u ≡ moved s u.legs u.world
+  pub led : IsLed u
+
+pub record GoesBack (s : DebugAt) (steps : ℕ) (text : List ℕ) (u : DebugAt) : Type 0 where
+  pub goes : GoesBackBy s steps u
   pub moves : Moves s back_line text u
 
 -- back to behind the last step, before the one that led here, behind which a break holds
+pub record ReversesTo (s u : DebugAt) (found : Option Met) : Type 0 where
+  pub back : GoesBackUntil shared_memory thread_code (gathered_log s.log) s.breaks (stands_at s.instructions) s.opening s.legs u.legs found
+  pub same : u ≡ moved s u.legs u.world
+  pub led : IsLed u
+
 pub record Reverses (s : DebugAt) (text : List ℕ) (u : DebugAt) : Type 0 where
   pub found : Option Met
-  pub goes : GoesBackUntil shared_memory thread_code (gathered_log s.log) s.breaks (stands_at s.instructions) s.opening s.legs u.legs found
+  pub goes : ReversesTo s u found
   pub moves : Moves s (reverse_line found s.breaks) text u
 
 -- the move to a place, by the break there; or that the replay does not come there, and nothing changed

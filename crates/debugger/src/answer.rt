@@ -1,6 +1,6 @@
 //! What is answered to a line.
 
-ghost use Rattle.std.specs.Prelude.{◌≡◌, ℕ, ◌+◌, ◌-◌, ◌^◌, ◌<◌, ◌≤◌, List, ◌++◌, OnOk, OnErr, length};
+ghost use Rattle.std.specs.Prelude.{◌≡◌, ℕ, ◌+◌, ◌-◌, ◌^◌, ◌<◌, ◌≤◌, List, ◌++◌, IfOk, OnOk, OnErr, length, string_bytes};
 ghost use Rattle.debugger.specs.Answers.{answer_text, body_text, memory_line};
 
 use arrayvec::ArrayString;
@@ -64,6 +64,15 @@ impl Answer {
             Ok(text) => text.as_str(),
             Err(_) => NO_MEMORY,
         }
+    }
+
+    /// Its text.
+    pub fn text(&self, alloc: Global) -> Result<String, NoMemory>
+        ensures { IfOk result (λ text. string_bytes text ≡ answer_text self.now) }
+    {
+        let mut text = String::from_str(alloc, self.head.as_str())?;
+        text.push_str(self.body())?;
+        Ok(text)
     }
 
     /// Writes it.

@@ -39,7 +39,7 @@ fn ceased_words(ceased: Ceased) -> &'static str
 }
 
 /// How many steps of a thread were made, and why no more.
-pub(crate) fn gone_line(gone: Gone) -> ArrayString<64>
+pub fn gone_line(gone: Gone) -> ArrayString<64>
     ensures { result.bytes ≡ gone_line gone }
 {
     let mut number = Buffer::new();
@@ -70,7 +70,7 @@ pub(crate) fn stopped_line(stopped: Stopped, breaks: &[Break]) -> ArrayString<64
 }
 
 /// Where all threads stopped, perhaps at a break at an instruction.
-pub(crate) fn paused_line(how: Paused, breaks: &[Break]) -> ArrayString<64>
+pub fn paused_line(how: Paused, breaks: &[Break]) -> ArrayString<64>
     requires { IsPauseOf how breaks.now }
     ensures { result.bytes ≡ paused_line how breaks.now }
 {

@@ -5,11 +5,8 @@ ghost use Rattle.debugger.specs.Lines.{line_of};
 ghost use Rattle.debugger.specs.Kept.{IsKept};
 
 use crate::command::Line;
-use crate::reading::line_of;
+use crate::reading::{LONGEST, line_of};
 use arrayvec::ArrayVec;
-
-/// The most bytes of a line that is a command.
-const LONGEST: usize = 1024;
 
 /// The bytes of a line that came so far, where they are no more than the longest command has.
 #[derive(Drop)]

@@ -91,7 +91,7 @@ impl<'a> Debugger<'a> {
         ensures opens { self.new.session.replay.opens ≡ self.old.session.replay.opens }
         ensures steps { Steps (at_of self.old) thread steps (answer_text result) (at_of self.new) }
     {
-        let gone = self.session.thread_steps(alloc, thread, u64::from(steps));
+        let gone = self.go_steps(alloc, thread, steps);
         self.moved(alloc, gone_line(gone))
     }
 
@@ -110,7 +110,7 @@ impl<'a> Debugger<'a> {
         ensures opens { self.new.session.replay.opens ≡ self.old.session.replay.opens }
         ensures replies { Replies (Back steps) (at_of self.old) (answer_text result) (at_of self.new) }
     {
-        match self.session.back(alloc, u64::from(steps)) {
+        match self.go_back(alloc, steps) {
             Ok(()) => self.moved(alloc, back_line()),
             Err(NoMemory) => wanting(),
         }

@@ -9,6 +9,9 @@ use crate::word::word_of;
 use text_lines::{Parts, bits_32, is_integer};
 use wasm_types::ByteRange;
 
+/// The most bytes of a line that is a command.
+pub(crate) const LONGEST: usize = 1024;
+
 /// The words that commands begin with.
 const STEP: &[u8] = b"step";
 
@@ -272,5 +275,16 @@ pub(crate) fn line_of(line: &[u8]) -> Line
             Some(command) => Line::Command(command),
             None => Line::Unknown,
         },
+    }
+}
+
+/// What a line is.
+pub fn read_line(line: &[u8]) -> Line
+    ensures { result ≡ line_of line.now }
+{
+    if line.len() > LONGEST {
+        Line::Unknown
+    } else {
+        line_of(line)
     }
 }

@@ -9,10 +9,9 @@ ghost use Rattle.replay_gate.specs.declared.answers.ReplayFault.TheVariants as f
 ghost use Rattle.replay_session.specs.declared.paused.Paused.TheVariants as paused;
 
 use crate::answer::{Answer, wanting};
-use crate::code_tests::{AtInstruction, Out, depth_in};
 use crate::debugger::Debugger;
 use crate::heads::{gone_line, paused_line, reverse_line};
-use replay_session::{Paused, paused_of};
+use replay_session::Paused;
 use std::alloc::Global;
 use wasm_replay::ReplayFault;
 use wasm_types::NoMemory;
@@ -23,30 +22,8 @@ impl<'a> Debugger<'a> {
         ensures opens { self.new.session.replay.opens ≡ self.old.session.replay.opens }
         ensures finishes { Finishes (at_of self.old) thread (answer_text result) (at_of self.new) }
     {
-        let depth = depth_in(self.session.world(), thread);
-        let gone = self.session.thread_until(alloc, thread, &Out { depth });
+        let gone = self.go_out(alloc, thread);
         self.moved(alloc, gone_line(gone))
-    }
-
-    /// Turns of all threads, up to a break.
-    fn run(&mut self, alloc: Global) -> Result<Paused, NoMemory>
-        ensures opens { self.new.session.replay.opens ≡ self.old.session.replay.opens }
-        ensures runs { IfOk result (RunsOn (at_of self.old) (at_of self.new)) }
-        ensures unchanged { OnErr result (at_of self.new ≡ at_of self.old) }
-    {
-        if self.instructions.is_empty() {
-            return match self.session.run_on(alloc, &self.breaks) {
-                Ok(stopped) => Ok(paused_of(stopped)),
-                Err(error) => Err(error),
-            };
-        }
-        let test = AtInstruction {
-            places: self.instructions.as_slice(),
-        };
-        match self.session.run_until(alloc, &self.breaks, &test) {
-            Ok(how) => Ok(how),
-            Err(error) => Err(error),
-        }
     }
 
     /// Goes on with all threads, up to a break.
@@ -100,10 +77,7 @@ impl<'a> Debugger<'a> {
         ensures opens { self.new.session.replay.opens ≡ self.old.session.replay.opens }
         ensures replies { Replies Reverse (at_of self.old) (answer_text result) (at_of self.new) }
     {
-        let test = AtInstruction {
-            places: self.instructions.as_slice(),
-        };
-        match self.session.reverse_until(alloc, &self.breaks, &test) {
+        match self.go_reverse(alloc) {
             Ok(found) => self.moved(alloc, reverse_line(found, &self.breaks)),
             Err(NoMemory) => wanting(),
         }

@@ -49,7 +49,7 @@ pub enum TalkFault {
 }
 
 /// Whether a command asks for the end.
-fn ends(command: Command) -> bool
+pub fn ends(command: Command) -> bool
     ensures { result ≡ ends command }
 {
     match command {

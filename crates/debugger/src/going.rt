@@ -1,0 +1,93 @@
+//! Moves, and where they lead.
+
+ghost use Rattle.std.specs.Prelude.{◌≡◌, IfOk, OnErr, OnOk};
+ghost use Rattle.debugger.specs.At.{at_of, CanOpen, IsOpenedAs};
+ghost use Rattle.debugger.specs.Replies.{GoesBackBy, GoesOut, GoesSteps, IsLed, ReversesTo, RunsOn};
+
+use crate::code_tests::{AtInstruction, Out, depth_in};
+use crate::debugger::Debugger;
+use replay_session::{Gone, Met, Paused, paused_of};
+use std::alloc::Global;
+use wasm_types::NoMemory;
+
+impl<'a> Debugger<'a> {
+    /// Its way leads to its world.
+    fn led(&self)
+        ensures { IsLed (at_of self.now) }
+    {
+        let _world = self.session.world();
+    }
+
+    /// Makes steps of a thread, at most so many.
+    pub fn go_steps(&mut self, alloc: Global, thread: u32, steps: u32) -> Gone
+        ensures opens { IsOpenedAs self.old self.new }
+        ensures goes { GoesSteps (at_of self.old) thread steps result (at_of self.new) }
+    {
+        self.session.thread_steps(alloc, thread, u64::from(steps))
+    }
+
+    /// Makes steps of a thread, up to behind the return of the function that it is in.
+    pub fn go_out(&mut self, alloc: Global, thread: u32) -> Gone
+        ensures opens { IsOpenedAs self.old self.new }
+        ensures goes { GoesOut (at_of self.old) thread result (at_of self.new) }
+    {
+        let depth = depth_in(self.session.world(), thread);
+        self.session.thread_until(alloc, thread, &Out { depth })
+    }
+
+    /// Turns of all threads, up to a break.
+    pub fn run(&mut self, alloc: Global) -> Result<Paused, NoMemory>
+        ensures opens { IsOpenedAs self.old self.new }
+        ensures runs { IfOk result (RunsOn (at_of self.old) (at_of self.new)) }
+        ensures unchanged { OnErr result (at_of self.new ≡ at_of self.old) }
+    {
+        if self.instructions.is_empty() {
+            return match self.session.run_on(alloc, &self.breaks) {
+                Ok(stopped) => Ok(paused_of(stopped)),
+                Err(error) => Err(error),
+            };
+        }
+        let test = AtInstruction {
+            places: self.instructions.as_slice(),
+        };
+        match self.session.run_until(alloc, &self.breaks, &test) {
+            Ok(how) => Ok(how),
+            Err(error) => Err(error),
+        }
+    }
+
+    /// Goes back by so many steps, of whichever threads made them.
+    pub fn go_back(&mut self, alloc: Global, steps: u32) -> Result<(), NoMemory>
+        requires { CanOpen self.old }
+        ensures opens { IsOpenedAs self.old self.new }
+        ensures goes { OnOk result (GoesBackBy (at_of self.old) steps (at_of self.new)) }
+        ensures unchanged { OnErr result (at_of self.new ≡ at_of self.old) }
+    {
+        match self.session.back(alloc, u64::from(steps)) {
+            Ok(()) => {
+                self.led();
+                Ok(())
+            }
+            Err(error) => Err(error),
+        }
+    }
+
+    /// Goes back to the break before, or to the beginning.
+    pub fn go_reverse(&mut self, alloc: Global) -> Result<Option<Met>, NoMemory>
+        requires { CanOpen self.old }
+        ensures opens { IsOpenedAs self.old self.new }
+        ensures goes { IfOk result (ReversesTo (at_of self.old) (at_of self.new)) }
+        ensures unchanged { OnErr result (at_of self.new ≡ at_of self.old) }
+    {
+        let test = AtInstruction {
+            places: self.instructions.as_slice(),
+        };
+        match self.session.reverse_until(alloc, &self.breaks, &test) {
+            Ok(found) => {
+                self.led();
+                Ok(found)
+            }
+            Err(error) => Err(error),
+        }
+    }
+}
