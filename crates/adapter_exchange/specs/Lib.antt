@@ -1,0 +1,4 @@
+pub mod Exchanges
+pub mod Failures
+pub mod Sent
+pub mod Turns
