@@ -1,0 +1,4 @@
+pub mod Addresses
+pub mod Pairing
+pub mod References
+pub mod Keeping

@@ -1,0 +1,13 @@
+pub mod State
+pub mod Code
+pub mod Ids
+pub mod Replies
+pub mod Frames
+pub mod Variables
+pub mod Memory
+pub mod Moves
+pub mod InstructionBreaks
+pub mod Breakpoints
+pub mod Evaluates
+pub mod Attends
+pub mod Waits
