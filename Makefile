@@ -1,5 +1,5 @@
-# demo, build, try, test, bench and install wreplay; growths refuses it memory, pages runs what its pages show, table makes the table of
-# crates. PREFIX says where install puts it, JOBS how many processors a check takes.
+# demo, build, try, test, bench and install wreplay; growths refuses it memory, pages runs what its pages show, client asks its adapter,
+# table makes the table of crates. PREFIX says where install puts it, JOBS how many processors a check takes.
 PREFIX ?= /usr/local
 JOBS ?= $(shell nproc)
 PROGRAM = crates/wreplay/out/wreplay
@@ -10,7 +10,7 @@ REFUSED = log_tests:refused:: log_tests:joining_again log_tests:skipping_with_re
 	log_tests:contradictions:: module_tests:refused_memory module_tests:name_sections:: module_tests:schedules:: \
 	replay_tests:refused shared_tests:growths shared_tests:operations:: shared_tests:splitting::
 
-.PHONY: demo build try test pages table bench growths wrong-bodies install clean
+.PHONY: demo build try test pages client table bench growths wrong-bodies install clean
 
 # Records, gathers and replays the lost update of examples/lost with no proof, by the commands in examples/demo: within two minutes.
 demo:
@@ -35,6 +35,12 @@ pages: $(PROGRAM)
 	python3 scripts/crates.py --check
 	mkdir -p build
 	python3 bench/pages.py $(PROGRAM) README.md docs/TUTORIAL.md examples/hunt/README.md examples/start/README.md
+
+# Debian's client of the Debug Adapter Protocol (golang-go, golang-github-google-go-dap-dev) goes through the run of the hunt.
+client: $(PROGRAM)
+	mkdir -p build && cat examples/hunt/east.pieces examples/hunt/west.pieces > build/night.pieces
+	GO111MODULE=off GOPATH=/usr/share/gocode go build -o build/client bench/adapter/client.go
+	build/client $(PROGRAM) examples/hunt/queue.wasm examples/hunt/queue.plan build/night.pieces
 
 # The table of crates in docs/ARCHITECTURE.md.
 table:

@@ -1,12 +1,12 @@
 #!/usr/bin/env python3
-"""Compares random dialogues with `wreplay debug` with a plain slow model (`rows/debugs.py`).
+"""Compares random dialogues with `wreplay debug`, and exchanges with `wreplay dap`, with plain slow models (`rows/debugs.py`, `adapters.py`).
 
 usage: dialogues.py PATH_OF_WREPLAY [DIALOGUES [FROM]]
 
 A dialogue is over the replay of a small random recording, as those of standing.py, of two to four threads. Its pieces come whole, or one is
 missing, or others come beside them or in their place, in which an entry or the end of a thread is changed. Commands go forward by steps and by
-rounds, go back, set breaks and look. What is answered must be what the model answers. Without a number 300 dialogues are made, from number 0 on;
-it ends with status 1 where one differs.
+rounds, go back, set breaks and look. What is answered must be what the model answers. An exchange does likewise by requests, over the same
+recording. Without a number 300 dialogues are made, each with an exchange, from number 0 on; it ends with status 1 where one differs.
 """
 
 import os
@@ -17,7 +17,8 @@ import tempfile
 
 sys.path.insert(0, os.path.join(os.path.dirname(os.path.abspath(__file__)), "rows"))
 import standing  # noqa: E402
-from debugs import drawn_talk, talk  # noqa: E402
+from adapters import answers, drawn_requests, framed, launch, requests  # noqa: E402
+from debugs import Debugger, Gathered, drawn_talk, talk  # noqa: E402
 from model import World, digest  # noqa: E402
 
 
@@ -60,28 +61,36 @@ def pieces_of(draw, world, key):
 
 
 def made(seed):
-    """The module, plan, pieces and lines of a dialogue."""
+    """The module, plan and pieces of a dialogue, its lines, and the requests of an exchange."""
     draw = random.Random(seed)
     count = draw.randint(2, 4)
     module, threads = standing.module_of(draw, count), draw.randint(2, 4)
     plan = ("wreplay plan 1\n" + "".join(f"thread f{draw.randrange(count)}\n" for _ in range(threads))).encode()
     world = World(module, plan)
     world.draw(seed, draw.randrange(2) == 1)
-    return module, plan, pieces_of(draw, world, digest(module, plan)), drawn_talk(draw.randrange, threads, draw.randint(1, 40))
+    pieces = pieces_of(draw, world, digest(module, plan))
+    return module, plan, pieces, drawn_talk(draw.randrange, threads, draw.randint(1, 40)), drawn_requests(draw.randrange, threads, draw.randint(1, 40))
+
+
+def compared(program, words, text, wanted):
+    """What is written that is not wanted, or None."""
+    done = subprocess.run([program, *words], input=text, stdout=subprocess.PIPE, stderr=subprocess.PIPE, check=False)
+    written = (done.stdout + done.stderr).decode()
+    if done.returncode or written != wanted:
+        return f"{text.decode()}status {done.returncode}, written:\n{written}wanted:\n{wanted}"
+    return None
 
 
 def differs(program, folder, seed):
-    """What is written that the model does not write, or None."""
-    module, plan, pieces, text = made(seed)
+    """What is written that the models do not write, or None."""
+    module, plan, pieces, text, rows = made(seed)
     files = [os.path.join(folder, name) for name in ("module.wasm", "plan", "pieces")]
     for path, content in zip(files, (module.bytes, plan, pieces.encode())):
         with open(path, "wb") as file:
             file.write(content)
-    done = subprocess.run([program, "debug", *files], input=text, stdout=subprocess.PIPE, stderr=subprocess.PIPE, check=False)
-    written, wanted = (done.stdout + done.stderr).decode(), talk(module, plan, pieces, text)
-    if done.returncode or written != wanted:
-        return f"{text.decode()}status {done.returncode}, written:\n{written}wanted:\n{wanted}"
-    return None
+    contents = requests("initialize", launch(*files), *rows)
+    sent = answers(lambda *named: Debugger(module, plan, Gathered(pieces)), contents)
+    return compared(program, ["debug", *files], text, talk(module, plan, pieces, text)) or compared(program, ["dap"], framed(contents).encode(), sent)
 
 
 def main():

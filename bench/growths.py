@@ -5,16 +5,19 @@ usage: growths.py PATH_OF_WREPLAY [WORD..]
        growths.py PATH_OF_WREPLAY_BENCH
 
 The commands are those of `crates/worked_rows/data/commands` that have one of the words, and recordings by threads that come to the
-same each time; without a word those of the counter's first run, those of five waiting threads, those of two that trap, a hunt, and these recordings. A small library, made by the C compiler and loaded before the system's, answers
-one of the program's calls for memory with none: the first, then the second, and so on until a run asks for no more. Each time
+same each time; without a word those of the counter's first run, those of five waiting threads, those of two that trap, a hunt, three
+exchanges, and these recordings. A small library, made by the C compiler and loaded before the system's, answers one of the program's calls for memory with none: the first, then the second, and so on until a run asks for no more. Each time
 the program must do one of two things: exactly what it does with ample memory, or exit with 1, the output empty, and on
 standard error one line `refused N NoMemory`, with `--why` and one more line. A dialogue with `debug` that was opened goes on: one of its
-answers says that memory was wanting, and the others are as where that command was not given, or was made so far. Behind each such run the same command is run again with ample memory and must
+answers says that memory was wanting, and the others are as where that command was not given, or was made so far. An exchange by `dap` does
+likewise, or stops behind whole answers. Behind each such run the same command is run again with ample memory and must
 write the same bytes as before. Of `wreplay_bench` it is the run of a thread alone, which ends with another status than 0, the output
 empty, where memory was wanted. It prints, for each command, how many growths were refused and with which lines.
 """
 
 import collections
+import itertools
+import json
 import os
 import re
 import shlex
@@ -48,7 +51,7 @@ WITH_REASONS = [
     "replay traps.wasm traps.plan traps.pieces --offsets --why",
     "replay traps.wasm traps.plan traps.pieces --threads --offsets --why",
 ]
-USUAL = ["first.", "five.", "traps.plan", "hunt counter.wasm counter.plan --until 'thread 0 i32 3'", *BY_THREADS]
+USUAL = ["first.", "five.", "traps.plan", "hunt counter.wasm counter.plan --until 'thread 0 i32 3'", "whole_evaluated.", "whole_breakpoints.", "launch_bad.", *BY_THREADS]
 
 LIBRARY = r"""
 #include <errno.h>
@@ -144,6 +147,33 @@ def is_wanting_dialogue(answers, lines, written):
     return any(written in wanting_answers(answers, lines, n, written[len(front) :]) for n in places)
 
 
+def messages_in(text):
+    """The messages of an exchange with an editor; what is cut short is none."""
+    found = []
+    while True:
+        head, _, behind = text.partition(b"\r\n\r\n")
+        size = re.fullmatch(rb"Content-Length: (\d+)", head)
+        if size is None or len(behind) < int(size[1]):
+            return found
+        found.append(json.loads(behind[: int(size[1])]))
+        text = behind[int(size[1]) :]
+
+
+def is_wanting_exchange(usual, answer):
+    """Whether an exchange stops for want of memory behind whole answers, or says of one request that memory was wanting for it and answers
+    the others behind it."""
+    status, output, errors = answer
+    if (status, errors) not in ((0, b""), (1, b"refused 23 NoMemory\n")):
+        return False
+    told, known = messages_in(output), messages_in(usual[1])
+    same = sum(1 for _ in itertools.takewhile(lambda pair: pair[0] == pair[1], zip(told, known)))
+    if same == len(told):
+        return status == 1
+    asked, answered = ([it["request_seq"] for it in all_of if it["type"] == "response"] for all_of in (known, told))
+    is_told = re.search(r"error: memory|NoMemory|memory\\n", json.dumps(told[same])) is not None
+    return is_told and answered == asked[: len(answered)] and (status == 1 or len(answered) == len(asked))
+
+
 def run(path, library, folder, words, source, growth):
     """What a command does where one growth is refused, and whether that growth came."""
     told, tell = os.pipe()
@@ -189,6 +219,8 @@ def refuse_each(path, library, folder, line, words, source):
             answers["as with ample memory"] += 1
         elif is_refusal(words, usual, answer):
             answers[errors.decode().strip().replace("\n", " | ")] += 1
+        elif words[0] == "dap" and is_wanting_exchange(usual, answer):
+            answers["memory wanting for a request" if status == 0 else "memory wanting for an answer"] += 1
         elif words[0] == "debug" and (status, errors) == (0, b"") and is_wanting_dialogue(dialogue.answers, dialogue.lines, output):
             answers["memory wanting for a command"] += 1
         else:

@@ -3,8 +3,7 @@
 
 usage: crates.py [--check]
 
-A row has a crate, the first sentence of its head, and the crates that it stands on: those that it names and that none
-of the others stands on. With --check nothing is written: what would change is printed, and the status is 1 where there
+A row has a crate and the first sentence of its head; `crates.txt` has what each stands on. With --check nothing is written: what would change is printed, and the status is 1 where there
 is something.
 """
 
@@ -19,13 +18,11 @@ END = "<!-- end of crates -->\n"
 
 
 def crates():
-    """The crates of crates.txt in its order, lowest first, each with the words behind its name."""
-    found = {}
+    """The crates of crates.txt in its order, lowest first."""
     for line in (TOP / "crates.txt").read_text().split("\n"):
-        names, colon, libraries = line.partition("#")[0].partition(":")
+        names, colon, _ = line.partition("#")[0].partition(":")
         if colon:
-            found[names.split()[0]] = libraries.split()
-    return found
+            yield names.split()[0]
 
 
 def first_sentence(crate):
@@ -47,16 +44,10 @@ def first_sentence(crate):
 
 def table():
     """The rows of the table."""
-    found = crates()
-    below = {}
-    yield "| Crate | What it is | Stands on |\n"
-    yield "|---|---|---|\n"
-    for crate, libraries in found.items():
-        named = [name for name in libraries if name in found]
-        lower = set().union(*(below[name] for name in named))
-        below[crate] = lower.union(named)
-        highest = " ".join(name for name in named if name not in lower)
-        yield f"| `{crate}` | {first_sentence(crate)} | {highest} |\n"
+    yield "| Crate | What it is |\n"
+    yield "|---|---|\n"
+    for crate in crates():
+        yield f"| `{crate}` | {first_sentence(crate)} |\n"
 
 
 def main():

@@ -7,7 +7,7 @@ usage: man.py PROGRAM > wreplay.1
 import subprocess
 import sys
 
-COMMANDS = ("check", "record", "hunt", "gather", "chart", "replay", "view", "trace", "debug")
+COMMANDS = ("check", "record", "hunt", "gather", "chart", "replay", "view", "trace", "debug", "dap")
 
 
 def help_of(program, *words):

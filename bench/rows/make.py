@@ -3,7 +3,8 @@ recordings of profile 1 by what was recorded apart, and for the hunt by what is 
 import os, struct, sys
 from model import Module, Words, World, digest, schedule_text, shrunk
 from charts import chart, EMPTY
-from debugs import TALKS, drawn_talk, talk
+from adapters import BEFORE, BEHIND, EXCHANGES, answers, framed, launch, requests
+from debugs import Debugger, Gathered, TALKS, drawn_talk, talk
 from hints import checked
 from objects import by_object
 from views import stop, trace, view
@@ -739,6 +740,33 @@ for files, text in (
     refused('debug ' + files, text)
     command('debug %s < alone.lines' % files, '', 'refused %s\n' % text, 1)
 for more in (' --threads', ' --names'): unexpected('debug counter.wasm counter.plan first.pieces' + more, more[1:], 'debug <MODULE> <PLAN> <PIECES>', True)
+
+# ---- exchanges with a debug adapter
+
+def exchanged(name, opens, contents, behind=b'', told='', more=''):
+    """What is answered to contents that come, each of a frame, and to what comes behind them."""
+    command('dap%s < %s' % (more, keep(name + '.requests', framed(contents).encode() + behind)), answers(opens, contents), told, 1 if told else 0)
+def adapted(name, *rows):
+    """The same over the replay of a log."""
+    module_file, module, plan_file, plan, pieces = logs[name]
+    for it in rows:
+        contents = requests('initialize', launch(module_file, plan_file, name + '.pieces'), *EXCHANGES[it])
+        exchanged('%s_%s' % (name, it), lambda *named: Debugger(module, plan, Gathered(pieces)), contents)
+for name in ('whole', 'second', 'five', 'named', 'reader', 'border64', 'traps'): adapted(name, 'motions', 'shown', 'evaluated')
+for name in ('whole', 'third', 'readers', 'named'): adapted(name, 'breakpoints')
+for name in ('hole', 'missing', 'clash', 'version', 'kind', 'shorter', 'noend', 'deep'): adapted(name, 'motions')
+adapted('deep', 'shown')
+exchanged('before', None, requests(*BEFORE))
+exchanged('nothing', None, [])
+for name, files, text in (('absent', ('counter.wasm', 'counter.plan', 'absent.pieces'), '44 SourceFailed'), ('bad', ('bad.wasm', 'bad.plan', 'whole.pieces'), '1 Refused 33'), ('other', ('readers.wasm', 'readers.plan', 'whole.pieces'), '51 OtherRun'),
+                          ('old', ('large.wasm', 'counter.plan', 'large.pieces'), '58 OldProfile')):
+    exchanged('launch_' + name, lambda *named: 'refused ' + text, requests('initialize', launch(*files), *BEHIND))
+exchanged('launch_none', None, requests(launch('counter.wasm', 'counter.plan'), *BEHIND)); exchanged('launch_two', None, requests(launch('counter.wasm', 'counter.plan', 'whole.pieces', 'whole.pieces'), *BEHIND))
+for name, behind in (('ended', b'Content-Length: 9\r\n\r\n[]'), ('header', b'Content-Length: 2\r\n'), ('field', b'Length 2\r\n\r\n{}'), ('unsized', b'Content-Type: x\r\n\r\n{}'), ('large', b'Content-Length: 1048577\r\n\r\n{}')):
+    for more in ('', ' --why'):
+        reason = REASONS.get('dap --why < broken_%s.requests' % name, '?') + '\n' if more else ''
+        exchanged('broken_' + name, None, requests('initialize', 'threads'), behind, 'refused 73 BadFrame\n' + reason, more)
+unexpected('dap counter.wasm', 'counter.wasm', 'dap [OPTIONS]')
 
 # ---- checks, and hints at what may go wrong with the threads of a plan
 

@@ -8,7 +8,7 @@ use Rattle.wasm_types.specs.declared.sizes.TheConstants.{MOST_STEPS}
 use Rattle.command_words.specs.Words.{number_up_to, in_front, order_in, pair_in, may_begin}
 use Rattle.command_words.specs.Commands.{program}
 use Rattle.command_words.specs.declared.requests.Request.{Request}
-use Rattle.command_words.specs.declared.requests.Request.TheVariants.{Gather, Check, Record, Hunt, Replay, View, Trace, Debug}
+use Rattle.command_words.specs.declared.requests.Request.TheVariants.{Gather, Check, Record, Hunt, Replay, View, Trace, Debug, Adapter}
 use Rattle.command_words.specs.declared.requests.GatherForm.{GatherForm}
 use Rattle.command_words.specs.declared.requests.GatherForm.TheVariants as written
 use Rattle.command_words.specs.declared.requests.RecordOrder.{RecordOrder}
@@ -212,6 +212,7 @@ IsAsked name rows (Replay r by_threads names offsets) =
 IsAsked name rows (View v) = (name ≡ codes "view") × IsViewAsked rows v
 IsAsked name rows (Trace t) = (name ≡ codes "trace") × IsTraceAsked rows t
 IsAsked name rows (Debug r) = (name ≡ codes "debug") × AreFilesAsked rows r × (r.order.items ≡ [])
+IsAsked name rows Adapter = name ≡ codes "dap"
 
 -- the same of a command and its values that a parser found
 abbrev pub IsFoundBy : Option (Text × List Row) → Request → Type 0

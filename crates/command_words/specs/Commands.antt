@@ -120,6 +120,9 @@ tracing = with_why (with_offsets (with_events (on_pieces (new_app (codes "trace"
 abbrev pub debugging : App
 debugging = with_why (on_log (new_app (codes "debug")))
 
+abbrev pub adapting : App
+adapting = with_why (new_app (codes "dap"))
+
 -- the program before its commands, one of which is required
 abbrev pub above : App
 above = record { top = record (new_app (codes "wreplay")).top { has_version = true; subcommand_required = true }; subs = [] }
@@ -127,6 +130,8 @@ above = record { top = record (new_app (codes "wreplay")).top { has_version = tr
 abbrev pub program : App
 program = with_subcommand
     (with_subcommand
+    (with_subcommand
     (with_subcommand (with_subcommand (with_subcommand (with_subcommand (with_subcommand (with_subcommand (with_subcommand above check.top) recording.top) hunting.top) replaying.top) viewing.top) tracing.top) debugging.top)
+    adapting.top)
     gather.top)
     chart.top

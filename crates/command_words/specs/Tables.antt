@@ -1,10 +1,10 @@
 -- The arguments of commands, as the rows of tables name them.
 use Rattle.std.specs.Prelude.{List, [], ◌∷◌, codes}
 use Rattle.clap.specs.Words.{App, Rule, Text, with_rule, with_subcommand}
-use Rattle.command_words.specs.Commands.{check, recording, hunting, replaying, viewing, tracing, debugging, gather, chart, file_rule, option_rule, default_rule, repeated_rule, flag_rule}
+use Rattle.command_words.specs.Commands.{check, recording, hunting, replaying, viewing, tracing, debugging, adapting, gather, chart, file_rule, option_rule, default_rule, repeated_rule, flag_rule}
 use Rattle.command_words.specs.declared.rows.ArgumentRow.{ArgumentRow}
 use Rattle.command_words.specs.declared.rows.Subcommand.{Subcommand}
-use Rattle.command_words.specs.declared.rows.Subcommand.TheVariants.{Check, Record, Hunt, Replay, View, Trace, Debug, Gather, Chart}
+use Rattle.command_words.specs.declared.rows.Subcommand.TheVariants.{Check, Record, Hunt, Replay, View, Trace, Debug, Adapter, Gather, Chart}
 use Rattle.command_words.specs.declared.rows.Takes.{Takes}
 use Rattle.command_words.specs.declared.rows.Takes.TheVariants as takes
 
@@ -31,6 +31,7 @@ name_for Replay = codes "replay"
 name_for View = codes "view"
 name_for Trace = codes "trace"
 name_for Debug = codes "debug"
+name_for Adapter = codes "dap"
 name_for Gather = codes "gather"
 name_for Chart = codes "chart"
 
@@ -42,6 +43,7 @@ app_for Replay = replaying
 app_for View = viewing
 app_for Trace = tracing
 app_for Debug = debugging
+app_for Adapter = adapting
 app_for Gather = gather
 app_for Chart = chart
 

@@ -530,3 +530,51 @@ Refusals (exit status 1), the first of them in this order:
 Example:
   printf 'goto 1 2\\nwriter 0\\nback 2\\n' | wreplay debug examples/lost.wasm \\
       examples/lost.plan examples/lost.pieces";
+
+/// What `dap` reads and writes.
+pub(crate) const ADAPTER_ABOUT: &str = "\
+Answers an editor: reads requests of the Debug Adapter Protocol from standard
+input and writes responses and events to standard output, each message behind a
+line `Content-Length: N` and an empty one. The folder editors/vscode has what
+makes an editor start it.
+
+The editor's `launch` names the files, as the arguments of `wreplay debug` do:
+
+  module                 the file of the module
+  plan                   the file of the plan
+  pieces                 a list with one name, the file of the pieces
+
+The threads are those of the run, with numbers from 1 on; a frame of a stack is
+a function and an instruction in it, which is its offset in the module, as in
+0x1f. Its scopes are its locals and its operands. The memory's reference is
+`memory`.
+
+  next, stepIn           go on with this thread alone, by a step
+  stepOut                go on with this thread alone, until its function returns
+  continue               go on with all threads, up to a break
+  stepBack               go back by a step, of whichever thread made it
+  reverseContinue        go back to the break before, or to the beginning
+  function breakpoints   where a thread comes to the first instruction
+  instruction            where a thread comes to the instruction at an offset
+  data breakpoints       behind a write, of bytes that are named as in
+                         write 0 4
+  evaluate               any command of `wreplay debug` but `quit`, answered as
+                         there
+
+A request that can't be done is answered with a line that says why, and changes
+nothing. `disconnect` and `terminate` end, and so does the end of the input.";
+
+/// How `dap` refuses.
+pub(crate) const ADAPTER_REFUSALS: &str = "\
+Refusals (exit status 1):
+  refused 44 SourceFailed  the input can't be read
+  refused 45 SinkFailed    writing failed; a beginning was written
+  refused 23 NoMemory      a message does not fit into memory
+  refused 73 BadFrame      the input is no message of the protocol
+
+What `launch` names may be refused, too, as `wreplay debug` refuses it: the
+response says so, in such a line, and the exchange goes on, but no further
+launch is taken.
+
+Example:
+  wreplay dap < examples/lost.requests > lost.responses";

@@ -197,4 +197,6 @@ pub enum Request<'a> {
     Trace(TraceRequest<'a>),
     /// A replay that goes forward and back as commands say; it has no order.
     Debug(ReplayRequest<'a>),
+    /// The exchange of a debug adapter, whose client names the files.
+    Adapter,
 }

@@ -16,6 +16,7 @@ pub(crate) enum Subcommand {
     View,
     Trace,
     Debug,
+    Adapter,
     Gather,
     Chart,
 }
@@ -29,6 +30,7 @@ pub(crate) static SUBCOMMANDS: &[Subcommand] = &[
     Subcommand::View,
     Subcommand::Trace,
     Subcommand::Debug,
+    Subcommand::Adapter,
     Subcommand::Gather,
     Subcommand::Chart,
 ];
@@ -335,6 +337,9 @@ static OF_TRACE: &[ArgumentRow] = &[
 /// The arguments of `debug`.
 static OF_DEBUG: &[ArgumentRow] = &[MODULE, PLAN, PIECES, WHY];
 
+/// The arguments of `dap`.
+static OF_ADAPTER: &[ArgumentRow] = &[WHY];
+
 const SKIP: ArgumentRow = ArgumentRow {
     name: "skip",
     takes: Takes::Nothing,
@@ -406,6 +411,7 @@ impl Subcommand {
             Subcommand::View => "view",
             Subcommand::Trace => "trace",
             Subcommand::Debug => "debug",
+            Subcommand::Adapter => "dap",
             Subcommand::Gather => "gather",
             Subcommand::Chart => "chart",
         }
@@ -423,6 +429,7 @@ impl Subcommand {
             Subcommand::View => "Stop a replay where it matters, and show it",
             Subcommand::Trace => "Replay a run, and write a line for each access",
             Subcommand::Debug => "Go forward and back in a recorded run",
+            Subcommand::Adapter => "Do so from an editor, by the Debug Adapter Protocol",
             Subcommand::Gather => "Join piece lines into one log, and list it",
             Subcommand::Chart => "Join piece lines into one log, and draw its accesses",
         }
@@ -438,6 +445,7 @@ impl Subcommand {
             Subcommand::View => help::VIEW_ABOUT,
             Subcommand::Trace => help::TRACE_ABOUT,
             Subcommand::Debug => help::DEBUG_ABOUT,
+            Subcommand::Adapter => help::ADAPTER_ABOUT,
             Subcommand::Gather => help::GATHER_ABOUT,
             Subcommand::Chart => help::CHART_ABOUT,
         }
@@ -453,6 +461,7 @@ impl Subcommand {
             Subcommand::View => help::VIEW_REFUSALS,
             Subcommand::Trace => help::TRACE_REFUSALS,
             Subcommand::Debug => help::DEBUG_REFUSALS,
+            Subcommand::Adapter => help::ADAPTER_REFUSALS,
             Subcommand::Gather => help::GATHER_REFUSALS,
             Subcommand::Chart => help::CHART_REFUSALS,
         }
@@ -470,6 +479,7 @@ impl Subcommand {
             Subcommand::View => OF_VIEW,
             Subcommand::Trace => OF_TRACE,
             Subcommand::Debug => OF_DEBUG,
+            Subcommand::Adapter => OF_ADAPTER,
             Subcommand::Gather => OF_GATHER,
             Subcommand::Chart => OF_CHART,
         }

@@ -720,6 +720,7 @@ pub(crate) fn request_of<'a>(
             Ok(replay) => Ok(Ok(Request::Debug(replay))),
             Err(wrong) => Ok(Err(wrong)),
         },
+        "dap" => Ok(Ok(Request::Adapter)),
         "chart" => match chart_of(alloc, matches)? {
             Ok(form) => Ok(Ok(gather_of(matches, form))),
             Err(wrong) => Ok(Err(wrong)),

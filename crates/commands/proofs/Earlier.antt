@@ -4,7 +4,7 @@ use Rattle.wasm_types.specs.declared.modules.Module.{Module}
 use Rattle.commands.specs.declared.files.FileFault.{FileFault}
 use Rattle.commands.specs.declared.files.FileFault.TheVariants as file
 use Rattle.commands.specs.declared.fault.Fault.{Fault}
-use Rattle.commands.specs.declared.fault.Fault.TheVariants.{File, Decode, Valid, Plan, Schedule, Pieces, Gather, Replay, View, NotCaught, TooLong, NoMemory, SinkFailed}
+use Rattle.commands.specs.declared.fault.Fault.TheVariants.{File, Decode, Valid, Plan, Schedule, Pieces, Gather, Replay, View, NotCaught, TooLong, BadFrame, NoMemory, SinkFailed}
 use Rattle.commands.specs.Files.{IsFileFault}
 use Rattle.commands.specs.Inputs.{IsPlanRefused, IsLinesRefused}
 use Rattle.wasm_record.specs.Pick.{Pick}
@@ -31,6 +31,7 @@ module _ {holds later : List ℕ → Type 0} {fails breaks : Type 0} (held : (by
   plan_refused_earlier m (View fault) h = h
   plan_refused_earlier m NotCaught h = h
   plan_refused_earlier m TooLong h = h
+  plan_refused_earlier m (BadFrame fault) h = h
   plan_refused_earlier m NoMemory h = h
   plan_refused_earlier m SinkFailed h = h
 
@@ -46,6 +47,7 @@ module _ {holds later : List ℕ → Type 0} {fails breaks : Type 0} (held : (by
   lines_refused_earlier (View fault) h = h
   lines_refused_earlier NotCaught h = h
   lines_refused_earlier TooLong h = h
+  lines_refused_earlier (BadFrame fault) h = h
   lines_refused_earlier NoMemory h = h
   lines_refused_earlier SinkFailed h = h
 
@@ -61,6 +63,7 @@ module _ {holds later : List ℕ → Type 0} {fails breaks : Type 0} (held : (by
   schedule_refused_earlier (View fault) h = h
   schedule_refused_earlier NotCaught h = h
   schedule_refused_earlier TooLong h = h
+  schedule_refused_earlier (BadFrame fault) h = h
   schedule_refused_earlier NoMemory h = h
   schedule_refused_earlier SinkFailed h = h
 

@@ -11,3 +11,4 @@ pub mod Forms
 pub mod Wanting
 pub mod Delivering
 pub mod Debugged
+pub mod Adapted

@@ -13,4 +13,5 @@ pub mod Replays
 pub mod Views
 pub mod Traces
 pub mod Debugs
+pub mod Adapts
 pub mod Answered

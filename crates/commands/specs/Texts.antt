@@ -24,7 +24,7 @@ use Rattle.commands.specs.declared.files.FileFault.TheVariants as file
 use Rattle.wasm_record.specs.PiecesFault.{PiecesFault}
 use Rattle.wasm_record.specs.PiecesFault.TheVariants as cutting
 use Rattle.commands.specs.declared.fault.Fault.{Fault}
-use Rattle.commands.specs.declared.fault.Fault.TheVariants.{File, Decode, Valid, Plan, Schedule, Pieces, Gather, Replay, View, NotCaught, TooLong, NoMemory, SinkFailed}
+use Rattle.commands.specs.declared.fault.Fault.TheVariants.{File, Decode, Valid, Plan, Schedule, Pieces, Gather, Replay, View, NotCaught, TooLong, BadFrame, NoMemory, SinkFailed}
 
 -- a name, and two numbers behind it
 abbrev pub placed : List ℕ → ℕ → ℕ → List ℕ
@@ -101,5 +101,6 @@ fault_text (Replay refused) = refusal_text refused.fault
 fault_text (View fault) = view_text fault
 fault_text NotCaught = codes "refused 71 NotCaught"
 fault_text TooLong = codes "refused 72 TooLong"
+fault_text (BadFrame fault) = codes "refused 73 BadFrame"
 fault_text NoMemory = codes "refused 23 NoMemory"
 fault_text SinkFailed = codes "refused 45 SinkFailed"

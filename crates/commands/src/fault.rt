@@ -4,6 +4,7 @@ ghost use Rattle.std.specs.Prelude.{◌≡◌};
 
 use crate::files::{FileFault, InputFile};
 use crate::quotes::{ImportNames, Quote};
+use adapter_messages::FrameFault;
 use binary_decoder::DecodeFault;
 use debug_views::ViewFault;
 use pick_schedule::ScheduleFault;
@@ -41,6 +42,8 @@ pub enum Fault {
     NotCaught,
     /// Refusal 72: the run that is caught has more than 1,000,000 picks, and so no schedule.
     TooLong,
+    /// Refusal 73: what came is no message of the protocol of debug adapters. The reason says why.
+    BadFrame(FrameFault),
     /// Refusal 23: memory for the command line or for a text could not be had.
     NoMemory,
     /// Refusal 45: writing failed, after a beginning was written.

@@ -3,10 +3,12 @@
 //!
 //! `check`, `record`, `hunt`, `replay`, `view` and `trace` answer what is so of the bytes that the files hold
 //! (`checked`, `recorded`, `hunted`, `replayed`, `viewed`, `traced`), or the first fault in the order of the files
-//! (`refused`); `Fault::text` is its line. `debug` writes such answers as commands come (`done`, `stopped`). Through
+//! (`refused`); `Fault::text` is its line. `debug` and `adapt` write such answers as commands or requests come
+//! (`done`, `stopped`). Through
 //! `Files` they read; `MemoryFiles` are exact ones.
 #![tactic(auto)]
 
+mod adapter_command;
 mod check_command;
 mod debug_command;
 mod fault;
@@ -32,6 +34,7 @@ mod thread_runs;
 mod trace_command;
 mod view_command;
 
+pub use adapter_command::adapt;
 pub use check_command::check;
 pub use debug_command::debug;
 pub use fault::Fault;

@@ -218,6 +218,7 @@ impl Fault {
             Fault::View(fault) => text_of_view(fault),
             Fault::NotCaught => plain("refused 71 NotCaught"),
             Fault::TooLong => plain("refused 72 TooLong"),
+            Fault::BadFrame(_) => plain("refused 73 BadFrame"),
             Fault::NoMemory => plain("refused 23 NoMemory"),
             Fault::SinkFailed => plain("refused 45 SinkFailed"),
         }

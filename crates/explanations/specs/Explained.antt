@@ -3,7 +3,7 @@
 use Rattle.std.specs.Prelude.{◌≡◌, ◌++◌, ℕ, List, codes, Option, Some, None}
 use Rattle.std.specs.Borrow.{Bor}
 use Rattle.command_words.specs.declared.requests.Request.{Request}
-use Rattle.command_words.specs.declared.requests.Request.TheVariants.{Gather, Check, Record, Hunt, Replay, View, Trace, Debug}
+use Rattle.command_words.specs.declared.requests.Request.TheVariants.{Gather, Check, Record, Hunt, Replay, View, Trace, Debug, Adapter}
 use Rattle.command_words.specs.declared.requests.RecordOrder.{RecordOrder}
 use Rattle.command_words.specs.declared.requests.RecordOrder.TheVariants as order
 use Rattle.binary_decoder.specs.declared.fault.DecodeFault.{DecodeFault}
@@ -41,6 +41,7 @@ module_path (Replay r by_threads names offsets) = r.«module».now
 module_path (View v) = v.replay.«module».now
 module_path (Trace t) = t.replay.«module».now
 module_path (Debug r) = r.«module».now
+module_path Adapter = standard_input
 
 -- the plan of a check, if it names one
 abbrev pub plan_of : Option (Bor (List ℕ)) → List ℕ
@@ -56,6 +57,7 @@ plan_path (Replay r by_threads names offsets) = r.plan.now
 plan_path (View v) = v.replay.plan.now
 plan_path (Trace t) = t.replay.plan.now
 plan_path (Debug r) = r.plan.now
+plan_path Adapter = standard_input
 
 abbrev pub schedule_of : RecordOrder → List ℕ
 schedule_of (order.Schedule path) = path.now
@@ -123,6 +125,7 @@ BeginsWith r (fault.Plan f quote) place = place ≡ in_plan (plan_path r) f
 BeginsWith r (fault.Schedule f quote) place = place ≡ in_schedule (schedule_path r) f
 BeginsWith r (fault.Gather f) place = place ≡ in_lines (pieces_path r) f
 BeginsWith r (fault.Replay refused) place = place ≡ in_log (pieces_path r) refused.fault
+BeginsWith r (fault.BadFrame f) place = place ≡ standard_input
 BeginsWith r f place = Unit {0}
 
 -- what is said of a piece line of another run: in which parts its key differs from that of the first line

@@ -127,6 +127,7 @@ fn place_of<'a>(request: &Request<'a>, fault: &Fault) -> FilePlace<'a>
         Fault::View(_) => FilePlace::Whole("--from and --len"),
         Fault::NotCaught => FilePlace::Whole("--from and --runs"),
         Fault::TooLong => FilePlace::Whole("--shrink and --print"),
+        Fault::BadFrame(_) => FilePlace::Whole(STANDARD_INPUT),
         Fault::NoMemory => FilePlace::Whole("memory"),
         Fault::SinkFailed => FilePlace::Whole("standard output"),
     }

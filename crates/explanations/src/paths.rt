@@ -22,6 +22,7 @@ pub(crate) fn module_path<'a>(request: &Request<'a>) -> &'a str
         Request::View(view) => view.replay.module,
         Request::Trace(trace) => trace.replay.module,
         Request::Debug(replay) => replay.module,
+        Request::Adapter => STANDARD_INPUT,
     }
 }
 
@@ -48,6 +49,7 @@ pub(crate) fn plan_path<'a>(request: &Request<'a>) -> &'a str
         Request::View(view) => view.replay.plan,
         Request::Trace(trace) => trace.replay.plan,
         Request::Debug(replay) => replay.plan,
+        Request::Adapter => STANDARD_INPUT,
     }
 }
 

@@ -12,6 +12,7 @@ use crate::words_of_plans::plan_words;
 use crate::words_of_replays::replay_words;
 use crate::words_of_schedules::schedule_words;
 use crate::words_of_typing::valid_words;
+use adapter_messages::FrameFault;
 use command_words::Request;
 use commands::{Fault, FileFault, FileState, Files};
 use debug_views::ViewFault;
@@ -78,6 +79,19 @@ fn view_words(fault: &ViewFault) -> &'static str {
     }
 }
 
+/// Why what came is no message of the protocol of debug adapters.
+fn frame_words(fault: FrameFault) -> &'static str {
+    match fault {
+        FrameFault::Ended => "it ends within a message",
+        FrameFault::Broken => {
+            "the header of a message must be fields, one a line, and name Content-Length once, a number"
+        }
+        FrameFault::TooLong => "a message has more bytes than are taken",
+        FrameFault::SourceFailed => "reading it failed",
+        FrameFault::NoMemory => "memory for a message could not be had",
+    }
+}
+
 /// The reason of a refusal, in words.
 pub(crate) fn reason_of<F: Files>(
     alloc: Global,
@@ -105,6 +119,7 @@ pub(crate) fn reason_of<F: Files>(
             alloc,
             "the run that is caught has more than 1,000,000 picks, the most of a schedule",
         ),
+        Fault::BadFrame(fault) => words(alloc, frame_words(*fault)),
         Fault::NoMemory => words(alloc, "memory for the answer could not be had"),
         Fault::SinkFailed => words(alloc, "writing failed, after a beginning was written"),
     }

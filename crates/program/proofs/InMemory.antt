@@ -54,6 +54,7 @@ module _ (files : List MemoryFile) where
     by_request said told (Some p) path plan h (request.View v) k text done = absurd (another p.0 (codes "view") h.0 k.0 refl)
     by_request said told (Some p) path plan h (request.Trace v) k text done = absurd (another p.0 (codes "trace") h.0 k.0 refl)
     by_request said told (Some p) path plan h (request.Debug r) k text done = absurd (another p.0 (codes "debug") h.0 k.0 refl)
+    by_request said told (Some p) path plan h request.Adapter k text done = absurd (another p.0 (codes "dap") h.0 k refl)
 
     module _ (took : List ℕ → Type 0) (tells : List ℕ → Type 0) (unread : Type 0) (words : List Text) (path : Bor (List ℕ)) (plan : Option (Bor (List ℕ))) (asks : Asks words (request.Check path plan)) where
       pub is_valid : IsDoneBy (λ at. HoldsBytes (file_at files at)) (λ at. Fails (file_at files at)) brought ended broke took (Unit {0}) (Unit {0}) counted tells unread words → HasValidModule files path.now

@@ -1,5 +1,5 @@
 -- How a command stops.
-use Rattle.std.proofs.Common.{◌≡◌, ℕ, List, [], ◌++◌, Bool, true, false, Result, Ok, Err, OnOk, OnErr, IfErr, inl, inr, sym, subst, refl}
+use Rattle.std.proofs.Common.{◌≡◌, ◌∙◌, ◌+◌, add-zero, ℕ, List, [], ◌++◌, Bool, true, false, Result, Ok, Err, OnOk, OnErr, IfErr, inl, inr, sym, subst, refl}
 use Rattle.clap.specs.Words.{Text}
 use Rattle.command_words.specs.Asked.{Asks, IsRequested, asks_why}
 use Rattle.command_words.specs.declared.command.Asked.{Asked}
@@ -13,13 +13,14 @@ use Rattle.commands.specs.Records.{AnswerAt, IsRecordAnswer}
 use Rattle.commands.specs.Hunts.{IsHuntAnswer}
 use Rattle.commands.specs.Replays.{IsReplayedText, IsReplayRefused}
 use Rattle.commands.specs.Debugs.{IsShownDebug, IsDebugStopped}
+use Rattle.commands.specs.Adapts.{IsAdapted, IsAdapterStopped, source_failures_in, source_failures_of, output_failures_in, output_failures_of}
 use Rattle.commands.proofs.Debugged.{unwritten_of}
 use Rattle.replica.specs.declared.skipping.Skipped.{Skipped}
 use Rattle.debug_views.specs.declared.notes.Notes.{Notes}
 use Rattle.command_words.specs.declared.requests.Request.TheVariants as request
 use Rattle.commands.specs.declared.fault.Fault.{Fault}
 use Rattle.commands.specs.declared.fault.Fault.TheVariants.{SinkFailed}
-use Rattle.program.specs.Answers.{IsInForm, IsGatheredText, IsNotGathered, IsTextStopped, IsShown, IsSaid, IsDone, IsRefused, IsStopped}
+use Rattle.program.specs.Answers.{IsInForm, IsGatheredText, IsNotGathered, IsTextStopped, IsShown, IsSaid, IsDone, IsFailure, IsRefused, IsStopped}
 
 -- what the words ask for, where that is a request
 pub as_requested : (words : List Text) (found : Asked) (r : Request) (why : Bool) → found ≡ asked.Request r why → IsRequested words found → Asks words r × (why ≡ asks_why words)
@@ -34,9 +35,10 @@ none_said tells false h = h
 pub replayed_as : (holds : List ℕ → List ℕ → Type 0) (r : ReplayRequest) (asked wanted : Notes) (text : List ℕ) → asked ≡ wanted → IsReplayedText holds r asked text → IsReplayedText holds r wanted text
 replayed_as holds r asked wanted text same replayed = subst (λ (a : Notes). IsReplayedText holds r a text) same replayed
 
--- a dialogue is asked for, which writes more than one text
+-- a dialogue or an exchange is asked for, which writes more than one text
 abbrev pub is_dialogue : Request → Bool
 is_dialogue (request.Debug r) = true
+is_dialogue request.Adapter = true
 is_dialogue r = false
 
 module _ (holds : List ℕ → List ℕ → Type 0) (fails brought : List ℕ → Type 0) (ended broke : Type 0) (took : List ℕ → Type 0) (unwritten unwritable : Type 0) where
@@ -45,6 +47,7 @@ module _ (holds : List ℕ → List ℕ → Type 0) (fails brought : List ℕ �
       → IsTextStopped (IsRefused holds fails brought ended broke asks) (IsDone holds fails brought ended broke (λ skipped. Unit {0}) (λ line. Unit {0}) (λ line. Unit {0}) asks) took unwritten unwritable fault
       → IsStopped holds fails brought ended broke took unwritten unwritable asks fault
   text_stops (request.Debug r) fault other h = absurd (cc)
+  text_stops request.Adapter fault other h = absurd (cc)
   text_stops asks fault other h = h
 
   -- what was to be shown stops where the output fails
@@ -117,3 +120,35 @@ module _ (holds : List ℕ → List ℕ → Type 0) (fails brought : List ℕ �
   debug_stops unused less asked r (Ok x) is stopped = tt
   debug_stops unused less asked r (Err fault) is stopped =
       subst (λ (q : Request). IsStopped holds fails brought ended broke took unwritten unwritable q fault) (sym is) (unwritten_of brought ended took holds r fails unused unwritten broke unwritable less fault stopped)
+
+  -- an exchange is done where the output took its answers
+  pub adapter_done : (asked : Request) (counted : Skipped → Type 0) (said told : List ℕ → Type 0) {T : Type 0} (result : Result T Fault) → asked ≡ request.Adapter
+      → said [] → OnOk result ((came text : List ℕ) × brought came × took text × IsAdapted came ended holds fails text) → OnOk result (IsShown took (IsDone holds fails brought ended broke counted said told asked))
+  adapter_done asked counted said told (Ok x) is none done =
+      subst (λ (q : Request). IsShown took (IsDone holds fails brought ended broke counted said told q)) (sym is) (done.1, ((done.0, done.2, done.4), none), done.3)
+  adapter_done asked counted said told (Err fault) is none done = tt
+
+  pub adapter_stops : (asked : Request) {T : Type 0} (result : Result T Fault) → asked ≡ request.Adapter
+      → IfErr result (IsFailure broke unwritable) → IfErr result (λ fault. (came text : List ℕ) × brought came × took text × IsAdapterStopped came ended holds fails fault text)
+      → IfErr result (IsStopped holds fails brought ended broke took unwritten unwritable asked)
+  adapter_stops asked (Ok x) is failed stopped = tt
+  adapter_stops asked (Err fault) is failed stopped =
+      subst (λ (q : Request). IsStopped holds fails brought ended broke took unwritten unwritable q fault) (sym is) (failed, stopped.0, stopped.1, stopped.2, stopped.3, stopped.4)
+
+-- what failed, by how many calls did
+pub failure_in : {T : Type 0} (result : Result T Fault) (source_before source_now output_before output_now : ℕ)
+    → source_now ≡ source_before + source_failures_in result → output_now ≡ output_before + output_failures_in result
+    → IfErr result (IsFailure (source_now ≡ source_before + 1) (output_now ≡ output_before + 1))
+failure_in (Ok x) a b c d source output = tt
+failure_in (Err fault) a b c d source output = (
+  (λ is. subst (λ (f : Fault). b ≡ a + source_failures_of f) is source),
+  (λ is. subst (λ (f : Fault). d ≡ c + output_failures_of f) is output),
+)
+
+pub worked_in : {T : Type 0} (result : Result T Fault) (before now : ℕ) → now ≡ before + source_failures_in result → OnOk result (now ≡ before)
+worked_in (Ok x) before now same = same ∙ add-zero before
+worked_in (Err fault) before now same = tt
+
+pub written_in : {T : Type 0} (result : Result T Fault) (before now : ℕ) → now ≡ before + output_failures_in result → OnOk result (now ≡ before)
+written_in (Ok x) before now same = same ∙ add-zero before
+written_in (Err fault) before now same = tt

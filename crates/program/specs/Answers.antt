@@ -30,6 +30,7 @@ use Rattle.commands.specs.Replays.{IsInputRefused, IsReplayedText, IsReplayRefus
 use Rattle.commands.specs.Views.{IsViewedText, IsViewRefused}
 use Rattle.commands.specs.Traces.{IsTracedText, IsTraceRefused}
 use Rattle.commands.specs.Debugs.{IsDebugText, IsDebugBroken}
+use Rattle.commands.specs.Adapts.{IsAdapted, IsAdapterStopped}
 use Rattle.commands.specs.declared.fault.Fault.{Fault}
 use Rattle.commands.specs.declared.fault.Fault.TheVariants.{Gather, NoMemory, SinkFailed}
 
@@ -151,6 +152,10 @@ module _ (took : List ℕ → Type 0) where
 abbrev pub IsTextStopped : (Fault → Type 0) → (List ℕ → Type 0) → (List ℕ → Type 0) → Type 0 → Type 0 → Fault → Type 0
 IsTextStopped refused is took unwritten unwritable fault = (refused fault × unwritten) ⊎ ((fault ≡ SinkFailed) × unwritable × IsCut took is)
 
+-- the source failed, or the output did, where the fault says so
+abbrev pub IsFailure : (broke unwritable : Type 0) → Fault → Type 0
+IsFailure broke unwritable fault = ((fault ≡ Gather gathering.SourceFailed) → broke) × ((fault ≡ SinkFailed) → unwritable)
+
 -- What the files may hold and which may fail, what the source brought, and whether it ended or failed.
 module _ (holds : List ℕ → List ℕ → Type 0) (fails : List ℕ → Type 0) (brought : List ℕ → Type 0) (ended broke : Type 0) where
   -- the text of a command that is done; `counted` says that the numbers of lines passed over were told, `said` that a
@@ -164,6 +169,7 @@ module _ (holds : List ℕ → List ℕ → Type 0) (fails : List ℕ → Type 0
   IsDone counted said told (request.View r) text = IsViewedText holds r text × said []
   IsDone counted said told (request.Trace r) text = IsTracedText holds r text × said []
   IsDone counted said told (request.Debug r) text = IsDebugText brought ended holds r text × said []
+  IsDone counted said told request.Adapter text = ((came : List ℕ) × brought came × IsAdapted came ended holds fails text) × said []
 
   -- when each fault is answered before anything is written
   abbrev pub IsRefused : Request → Fault → Type 0
@@ -175,13 +181,15 @@ module _ (holds : List ℕ → List ℕ → Type 0) (fails : List ℕ → Type 0
   IsRefused (request.View r) fault = IsViewRefused holds fails r fault
   IsRefused (request.Trace r) fault = IsTraceRefused holds fails r fault
   IsRefused (request.Debug r) fault = IsInputRefused holds fails r fault
+  IsRefused request.Adapter fault = ⊥
 
   -- Which texts the output took from first to last, and whether it took nothing, or failed.
   module _ (took : List ℕ → Type 0) (unwritten unwritable : Type 0) where
-    -- a command stops: it is refused, and nothing was written; or the output failed; or a dialogue, which writes before
-    -- its source comes to its end, stops before that
+    -- a command stops: it is refused, and nothing was written; or the output failed; or a dialogue or an exchange, which
+    -- writes before its source comes to its end, stops before that
     abbrev pub IsStopped : Request → Fault → Type 0
     IsStopped (request.Debug r) fault = (IsRefused (request.Debug r) fault × unwritten) ⊎ IsDebugBroken brought ended took holds unwritten broke unwritable r fault
+    IsStopped request.Adapter fault = IsFailure broke unwritable fault × (came text : List ℕ) × brought came × took text × IsAdapterStopped came ended holds fails fault text
     IsStopped r fault = IsTextStopped (IsRefused r) (IsDone (λ skipped. Unit {0}) (λ line. Unit {0}) (λ line. Unit {0}) r) took unwritten unwritable fault
 
     -- Whether numbers of lines were told, which texts were told from first to last, and whether no file and no input

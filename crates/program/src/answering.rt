@@ -12,7 +12,7 @@ use crate::showing::{show, show_and_tell};
 use arrayvec::ArrayString;
 use byte_streams::{Sink, Source, write_all};
 use command_words::{Asked, Request, requested};
-use commands::{Fault, Files, check, debug, hunt, notes_by, record, replay, trace, view};
+use commands::{Fault, Files, adapt, check, debug, hunt, notes_by, record, replay, trace, view};
 use itoa::Buffer;
 use log::Log;
 use std::alloc::Global;
@@ -92,6 +92,7 @@ fn perform<L: Log + Sync, T: Threads + Wait + Sync, F: Files, R: Source, W: Sink
             Err(fault) => Err(fault),
         },
         Request::Debug(request) => debug(rt, alloc, files, request, source, output),
+        Request::Adapter => adapt(rt, alloc, files, source, output),
     }
 }
 
@@ -160,7 +161,7 @@ pub fn run<
     // numbers of lines that were passed over, which run is caught, or where the words ask for it the line of the threads
     // that stopped, or else nothing; or it failed. Refused: `errors` took the line of the fault, and where the words ask
     // for it one more line, of the reason, or failed; and nothing was written but by a failing output, or by a dialogue
-    // whose source failed. Not understood: nothing was read or written.
+    // or an exchange that stopped. Not understood: nothing was read or written.
     ensures answered { IsAnswered (F.holds files.old) (F.fails files.old)
         (λ text. R.brings source.old text source.new) (R.ended source.new) (R.failed source.new ≡ R.failed source.old + 1)
         (λ text. W.takes output.old text output.new) (output.new ≡ output.old) (W.failed output.new ≡ W.failed output.old + 1)
