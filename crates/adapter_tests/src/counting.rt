@@ -60,10 +60,10 @@ impl Attend for Counter {
             }
             Command::Threads => Ok(told_nothing(Outcome::Success(Body::Empty), true)),
             Command::Disconnect => Ok(told_nothing(Outcome::Success(Body::Empty), false)),
-            _ => {
-                let message = Text::new(alloc, "no such command")?;
-                Ok(told_nothing(Outcome::Failure(message), true))
-            }
+            _ => match Text::new(alloc, "no such command") {
+                Ok(message) => Ok(told_nothing(Outcome::Failure(message), true)),
+                Err(AllocError) => Err(AllocError),
+            },
         }
     }
 }

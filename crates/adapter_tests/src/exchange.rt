@@ -168,9 +168,14 @@ fn try_twice(alloc: Global) -> Result<(Way, Way), Fail> {
     let requests = framed(alloc, &REQUESTS)?;
     let mut source = MemorySource::new(&requests, 1000, None);
     let mut sink = MemorySink::new(alloc, 1000, None);
-    let first = answer_all(alloc, &mut 1, &mut source, &mut sink);
-    let second = answer_all(alloc, &mut 1, &mut source, &mut sink);
-    Ok((first, second))
+    let mut counter = Counter { attended: 0 };
+    let mut next = 1;
+    let first = exchange(alloc, &mut counter, &mut next, &mut source, &mut sink);
+    let second = match first {
+        Ok(_) => exchange(alloc, &mut counter, &mut next, &mut source, &mut sink),
+        Err(fault) => Err(fault),
+    };
+    Ok((way_of(&first), way_of(&second)))
 }
 
 /// Holds back a launch, answers it, and goes on.
