@@ -5,9 +5,9 @@ use Rattle.wasm_types.specs.declared.modules.Module.{Module}
 use Rattle.wasm_replay.specs.declared.opener.Opener.{Opener}
 use Rattle.wasm_replay.specs.Replays.{Suits as OpensSo}
 use Rattle.wasm_world.specs.CodePlace.{CodePlace}
-use Rattle.replay_breaks.specs.declared.breaks.Break.{Break}
-use Rattle.replay_breaks.specs.declared.breaks.Stopped.{Stopped}
-use Rattle.replay_breaks.specs.declared.breaks.Stopped.TheVariants as stopped
+use Rattle.replay_gate.specs.declared.breaks.Break.{Break}
+use Rattle.replay_gate.specs.declared.breaks.Stopped.{Stopped}
+use Rattle.replay_gate.specs.declared.breaks.Stopped.TheVariants as stopped
 use Rattle.debugger.specs.At.{at_of, CanOpen, IsOpenedAs}
 use Rattle.debugger.specs.Replies.{DebugAt, IsLed, IsToldOf, Reaches, Replies, moved}
 use Rattle.debugger.specs.declared.command.Command.{Command as DebugCommand}
@@ -15,7 +15,7 @@ use Rattle.debugger.specs.declared.command.Command.TheVariants.{Step, Event, Fin
 use Rattle.debugger.specs.declared.debugger.Debugger.{Debugger}
 use Rattle.adapter_messages.specs.declared.request.Motion.{Motion}
 use Rattle.adapter_messages.specs.declared.request.Command.{Command}
-use Rattle.adapter_exchange.specs.declared.reply.Reply.{Reply}
+use Rattle.adapter_messages.specs.declared.reply.Reply.{Reply}
 use Rattle.adapter.specs.Attends.{Attends, Shows}
 use Rattle.adapter.specs.Moves.{Goes, MovesBy, went_reply}
 use Rattle.adapter.specs.State.{AdapterAt, Suits}

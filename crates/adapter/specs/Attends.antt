@@ -4,7 +4,7 @@ use Rattle.adapter_messages.specs.declared.body.Body.TheVariants as body
 use Rattle.adapter_messages.specs.declared.event.StopReason.TheVariants as reason
 use Rattle.adapter_messages.specs.declared.request.Command.{Command}
 use Rattle.adapter_messages.specs.declared.request.Command.TheVariants.{Initialize, Launch, ConfigurationDone, Threads, StackTrace, Scopes, Variables, ReadMemory, Disassemble, SetBreakpoints, SetFunctionBreakpoints, SetInstructionBreakpoints, DataBreakpointInfo, SetDataBreakpoints, SetExceptionBreakpoints, Move, Evaluate, Disconnect, Terminate, Unknown, BadArguments}
-use Rattle.adapter_exchange.specs.declared.reply.Reply.{Reply}
+use Rattle.adapter_messages.specs.declared.reply.Reply.{Reply}
 use Rattle.event_core.specs.Threads.{ThreadAt}
 use Rattle.wasm_world.specs.SharedMemory.{shared_memory}
 use Rattle.wasm_world.specs.Standing.{standing}

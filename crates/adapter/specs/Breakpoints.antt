@@ -6,10 +6,10 @@ use Rattle.std.specs.Option.{option_to_list}
 use Rattle.adapter_messages.specs.declared.body.Body.TheVariants.{Breakpoints, DataBreakpoint}
 use Rattle.adapter_messages.specs.declared.parts.Breakpoint.{Breakpoint}
 use Rattle.adapter_messages.specs.declared.request.InstructionBreakpoint.{InstructionBreakpoint}
-use Rattle.adapter_exchange.specs.declared.reply.Reply.{Reply}
+use Rattle.adapter_messages.specs.declared.reply.Reply.{Reply}
 use Rattle.wasm_types.specs.declared.range.ByteRange.{ByteRange}
 use Rattle.wasm_world.specs.CodePlace.{CodePlace}
-use Rattle.replay_breaks.specs.declared.breaks.Break.{Break}
+use Rattle.replay_gate.specs.declared.breaks.Break.{Break}
 use Rattle.debug_views.specs.Writes.{IsWriteOfRange}
 use Rattle.debugger.specs.Functions.{IsEntry}
 use Rattle.debugger.specs.Lines.{line_of}

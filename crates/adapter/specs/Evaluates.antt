@@ -3,7 +3,7 @@ use Rattle.std.specs.Prelude.{◌≡◌, ℕ, Bool, true, false, List, [], ◌�
 use Rattle.adapter_messages.specs.declared.body.Body.TheVariants.{Evaluated}
 use Rattle.adapter_messages.specs.declared.event.EventKind.{EventKind}
 use Rattle.adapter_messages.specs.declared.event.StopReason.TheVariants.{Pause}
-use Rattle.adapter_exchange.specs.declared.reply.Reply.{Reply}
+use Rattle.adapter_messages.specs.declared.reply.Reply.{Reply}
 use Rattle.debugger.specs.declared.command.Command.{Command}
 use Rattle.debugger.specs.declared.command.Command.TheVariants.{Step, Event, Finish, Continue, Again, Back, Reverse, Goto, GotoWriter, Place, Function, Write, Delete, Threads, Where, Locals, Stack, Waits, Around, Object, Writer, Readers, Bytes, Way, Help, Quit}
 use Rattle.debugger.specs.declared.command.Line.{Line}

@@ -5,9 +5,9 @@ use Rattle.adapter_messages.specs.declared.event.StopReason.{StopReason}
 use Rattle.adapter_messages.specs.declared.event.StopReason.TheVariants as reason
 use Rattle.adapter_messages.specs.declared.request.Motion.{Motion}
 use Rattle.adapter_messages.specs.declared.request.Motion.TheVariants as motion
-use Rattle.adapter_exchange.specs.declared.reply.Reply.{Reply}
-use Rattle.replay_breaks.specs.declared.breaks.Break.{Break}
-use Rattle.replay_breaks.specs.declared.breaks.Break.TheVariants as break
+use Rattle.adapter_messages.specs.declared.reply.Reply.{Reply}
+use Rattle.replay_gate.specs.declared.breaks.Break.{Break}
+use Rattle.replay_gate.specs.declared.breaks.Break.TheVariants as break
 use Rattle.replay_session.specs.declared.legs.Leg.{Leg}
 use Rattle.replay_session.specs.declared.gone.Ceased.{Ceased}
 use Rattle.replay_session.specs.declared.gone.Ceased.TheVariants as ceased

@@ -6,7 +6,7 @@ use Rattle.adapter_messages.specs.declared.event.EventKind.TheVariants.{Output, 
 use Rattle.adapter_messages.specs.declared.event.Category.TheVariants.{Important}
 use Rattle.adapter_messages.specs.declared.event.StopReason.{StopReason}
 use Rattle.adapter_messages.specs.declared.response.Outcome.TheVariants.{Success, Failure}
-use Rattle.adapter_exchange.specs.declared.reply.Reply.{Reply}
+use Rattle.adapter_messages.specs.declared.reply.Reply.{Reply}
 
 abbrev pub success : Body → List EventKind → Reply
 success body told = record { outcome = Success body; told = told; goes_on = true }

@@ -6,7 +6,7 @@ use Rattle.wasm_types.specs.Text.{value_text}
 use Rattle.adapter_messages.specs.declared.body.Body.TheVariants.{Scopes, Variables}
 use Rattle.adapter_messages.specs.declared.parts.Scope.{Scope}
 use Rattle.adapter_messages.specs.declared.parts.Variable.{Variable}
-use Rattle.adapter_exchange.specs.declared.reply.Reply.{Reply}
+use Rattle.adapter_messages.specs.declared.reply.Reply.{Reply}
 use Rattle.event_core.specs.Threads.{ThreadAt}
 use Rattle.wasm_world.specs.CodePlace.{CodePlace}
 use Rattle.wasm_world.specs.Standing.{standing, locals_at, operands_at}

@@ -5,7 +5,7 @@ use Rattle.adapter_messages.specs.declared.event.EventKind.TheVariants.{Initiali
 use Rattle.adapter_messages.specs.declared.parts.Capabilities.{Capabilities as Supported}
 use Rattle.adapter_messages.specs.declared.request.Command.{Command}
 use Rattle.adapter_messages.specs.declared.request.Command.TheVariants.{Initialize, Launch, Disconnect, Terminate, BadArguments}
-use Rattle.adapter_exchange.specs.declared.reply.Reply.{Reply}
+use Rattle.adapter_messages.specs.declared.reply.Reply.{Reply}
 use Rattle.adapter.specs.Replies.{bad_arguments, ended, failure, success}
 use Rattle.adapter.specs.declared.waiting.Waiting.{Waiting}
 use Rattle.adapter.specs.declared.waiting.Waiting.TheVariants.{ForLaunch, ForEnd}

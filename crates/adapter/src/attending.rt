@@ -4,13 +4,12 @@ ghost use Rattle.std.specs.Prelude.{◌≡◌, ◌⊎◌, [], ◌∷◌, IfOk, O
 ghost use Rattle.adapter.specs.Attends.{Attends};
 ghost use Rattle.adapter.specs.Replies.{stopped, success};
 ghost use Rattle.adapter.specs.State.{Suits, state_of};
-ghost use Rattle.adapter_exchange.specs.declared.reply.Reply.{Reply};
+ghost use Rattle.adapter_messages.specs.declared.reply.Reply.{Reply};
 
 use crate::adapter::Adapter;
 use crate::data_breaks::data_info;
 use crate::replies::{ended, failure, stopped, success};
-use adapter_exchange::{Attend, Reply, Told};
-use adapter_messages::{Body, Command, StopReason};
+use adapter_messages::{Attend, Body, Command, Reply, StopReason, Told};
 use std::alloc::{AllocError, Global};
 use wasm_types::NoMemory;
 

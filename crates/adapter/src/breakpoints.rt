@@ -7,8 +7,7 @@ ghost use Rattle.adapter.specs.State.{Suits, state_of};
 
 use crate::adapter::Adapter;
 use crate::replies::success;
-use adapter_exchange::{Reply, Told};
-use adapter_messages::{Body, Breakpoint, List, Text};
+use adapter_messages::{Body, Breakpoint, List, Reply, Text, Told};
 use std::alloc::Global;
 use wasm_types::NoMemory;
 use wasm_world::CodePlace;

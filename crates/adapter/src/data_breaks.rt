@@ -7,10 +7,9 @@ ghost use Rattle.adapter.specs.State.{state_of};
 use crate::adapter::Adapter;
 use crate::breakpoints::NO_RANGE;
 use crate::replies::success;
-use adapter_exchange::{Reply, Told};
-use adapter_messages::{Body, Text};
+use adapter_messages::{Body, Reply, Text, Told};
 use debugger::{Command, Line, read_line};
-use replay_breaks::Break;
+use replay_gate::Break;
 use std::alloc::Global;
 use wasm_types::{ByteRange, NoMemory};
 

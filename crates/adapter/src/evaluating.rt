@@ -5,12 +5,11 @@ ghost use Rattle.debugger.specs.Answers.{answer_text};
 ghost use Rattle.debugger.specs.Lines.{ends, line_of};
 ghost use Rattle.adapter.specs.Evaluates.{EvaluatesLine, Obeys, moves, told_if};
 ghost use Rattle.adapter.specs.State.{Suits, state_of};
-ghost use Rattle.adapter_exchange.specs.declared.reply.Reply.{Reply};
+ghost use Rattle.adapter_messages.specs.declared.reply.Reply.{Reply};
 
 use crate::adapter::Adapter;
 use crate::replies::{failure, stopped, success};
-use adapter_exchange::{Reply, Told};
-use adapter_messages::{Body, StopReason, Text};
+use adapter_messages::{Body, Reply, StopReason, Text, Told};
 use debugger::{Answer, Command, Line, Respond, ends, read_line};
 use std::alloc::Global;
 use wasm_types::NoMemory;

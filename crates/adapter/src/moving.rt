@@ -4,15 +4,14 @@ ghost use Rattle.std.specs.Prelude.{◌≡◌, ◌⊎◌, IfOk, OnErr, length, o
 ghost use Rattle.adapter.specs.Ids.{thread_of};
 ghost use Rattle.adapter.specs.Moves.{Goes, MovesBy, back_reason, break_reason, ceased_reply, met_reason, reverse_reason, steps_reply, stopped_reply, turns_reply, went_reply};
 ghost use Rattle.adapter.specs.State.{Suits, state_of};
-ghost use Rattle.adapter_exchange.specs.declared.reply.Reply.{Reply};
+ghost use Rattle.adapter_messages.specs.declared.reply.Reply.{Reply};
 
 use crate::adapter::Adapter;
 use crate::ids::thread_of;
 use crate::replies::{failure, put_out, stopped, success};
-use adapter_exchange::{Reply, Told};
-use adapter_messages::{Body, Motion, StopReason};
+use adapter_messages::{Body, Motion, Reply, StopReason, Told};
 use debugger::{gone_line, paused_line};
-use replay_breaks::Break;
+use replay_gate::Break;
 use replay_session::{Ceased, Gone, Leg, Met, Paused};
 use std::alloc::Global;
 use wasm_types::NoMemory;

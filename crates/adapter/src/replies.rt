@@ -3,8 +3,7 @@
 ghost use Rattle.std.specs.Prelude.{◌≡◌, IfOk};
 ghost use Rattle.adapter.specs.Replies.{ended, failure, put_out, stopped, success};
 
-use adapter_exchange::{Reply, Told};
-use adapter_messages::{Body, Category, EventKind, Outcome, StopReason, Text};
+use adapter_messages::{Body, Category, EventKind, Outcome, Reply, StopReason, Text, Told};
 use std::alloc::Global;
 use wasm_types::NoMemory;
 

@@ -12,8 +12,7 @@ use crate::frames::{threads_below, trace_of};
 use crate::ids::thread_of;
 use crate::moving::NO_THREAD;
 use crate::replies::{failure, success};
-use adapter_exchange::{Reply, Told};
-use adapter_messages::Body;
+use adapter_messages::{Body, Reply, Told};
 use std::alloc::Global;
 use wasm_types::NoMemory;
 

@@ -10,8 +10,7 @@ ghost use Rattle.adapter.specs.Variables.{frame_depth, frame_thread, is_frame, l
 use crate::adapter::Adapter;
 use crate::frames::MOST_FRAMES;
 use crate::replies::{failure, success};
-use adapter_exchange::{Reply, Told};
-use adapter_messages::{Body, List, Scope, Text, Variable};
+use adapter_messages::{Body, List, Reply, Scope, Text, Told, Variable};
 use std::alloc::Global;
 use std::fmt::Write;
 use wasm_types::{NoMemory, Value};

@@ -5,8 +5,7 @@ ghost use Rattle.adapter.specs.Waits.{launched_reply, supported, waiting_reply};
 
 use crate::attending::BAD_ARGUMENTS;
 use crate::replies::{ended, failure, success};
-use adapter_exchange::{Attend, Reply, Told};
-use adapter_messages::{Body, Capabilities, Command, EventKind};
+use adapter_messages::{Attend, Body, Capabilities, Command, EventKind, Reply, Told};
 use std::alloc::{AllocError, Global};
 use wasm_types::NoMemory;
 

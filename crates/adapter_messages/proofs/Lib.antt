@@ -5,3 +5,8 @@ pub mod Coming
 pub mod Splits
 pub mod Numerals
 pub mod Beginnings
+pub mod Behind
+pub mod Going
+pub mod EventFrames
+pub mod Taken
+pub mod Turning

@@ -11,3 +11,7 @@ pub mod Json
 pub mod Parts
 pub mod Requests
 pub mod Responses
+pub mod Exchanges
+pub mod Failures
+pub mod Sent
+pub mod Turns

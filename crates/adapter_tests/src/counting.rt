@@ -1,7 +1,6 @@
 //! An attendant that counts.
 
-use adapter_exchange::{Attend, Reply, Told};
-use adapter_messages::{Body, Command, EventKind, Outcome, StopReason, Text};
+use adapter_messages::{Attend, Body, Command, EventKind, Outcome, Reply, StopReason, Text, Told};
 use std::alloc::{AllocError, Global};
 
 /// Counts the requests that it attends. It holds back a launch, tells of a motion that its thread stands and how many

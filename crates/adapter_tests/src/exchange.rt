@@ -3,8 +3,7 @@
 ghost use Rattle.std.specs.Prelude.{◌-◌, ◌^◌, ◌<◌};
 
 use crate::counting::{Counter, told_nothing};
-use adapter_exchange::{Ended, ExchangeFault, exchange, resume};
-use adapter_messages::{Body, FrameFault, Outcome};
+use adapter_messages::{Body, Ended, ExchangeFault, FrameFault, Outcome, exchange, resume};
 use byte_streams::{MemorySink, MemorySource};
 use std::alloc::Global;
 use std::test::Fail;

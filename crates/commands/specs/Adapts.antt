@@ -11,11 +11,11 @@ use Rattle.adapter_messages.specs.declared.fault.FrameFault.TheVariants as frame
 use Rattle.adapter_messages.specs.declared.request.Command.{Command}
 use Rattle.adapter_messages.specs.declared.request.Command.TheVariants.{Launch}
 use Rattle.adapter_messages.specs.declared.request.Request.{Request}
-use Rattle.adapter_exchange.specs.Exchanges.{At, at_of, IsBroken, IsEnded, IsResumed, IsUnresumed, IsWaiting}
-use Rattle.adapter_exchange.specs.declared.exchanging.Ended.{Ended}
-use Rattle.adapter_exchange.specs.declared.exchanging.Ended.TheVariants.{Asked, HeldBack, NothingMore}
-use Rattle.adapter_exchange.specs.declared.exchanging.ExchangeFault.{ExchangeFault}
-use Rattle.adapter_exchange.specs.declared.exchanging.ExchangeFault.TheVariants as exchange
+use Rattle.adapter_messages.specs.Exchanges.{At, at_of, IsBroken, IsEnded, IsResumed, IsUnresumed, IsWaiting}
+use Rattle.adapter_messages.specs.declared.exchanging.Ended.{Ended}
+use Rattle.adapter_messages.specs.declared.exchanging.Ended.TheVariants.{Asked, HeldBack, NothingMore}
+use Rattle.adapter_messages.specs.declared.exchanging.ExchangeFault.{ExchangeFault}
+use Rattle.adapter_messages.specs.declared.exchanging.ExchangeFault.TheVariants as exchange
 use Rattle.adapter.specs.Attends.{Attends}
 use Rattle.adapter.specs.Replies.{failure}
 use Rattle.adapter.specs.State.{AdapterAt, opening_of}

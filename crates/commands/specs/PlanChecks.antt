@@ -3,7 +3,7 @@ use Rattle.std.specs.Prelude.{◌≡◌, ◌⊎◌, ℕ, List, ◌++◌, Option,
 use Rattle.std.specs.Borrow.{Bor}
 use Rattle.wasm_types.specs.declared.modules.Module.{Module}
 use Rattle.thread_plan.specs.Plans.{PlanValue}
-use Rattle.hazards.specs.Hints.{hints_text}
+use Rattle.thread_plan.specs.Hints.{hints_text}
 use Rattle.commands.specs.Checks.{IsChecked, IsCheckRefused, valid_text}
 use Rattle.commands.specs.Inputs.{IsProgram, IsProgramRefused}
 use Rattle.commands.specs.declared.fault.Fault.{Fault}

@@ -10,9 +10,9 @@ use crate::fault::Fault;
 use crate::files::Files;
 use crate::program::{Program, read_module, read_program};
 use binary_decoder::summary;
-use hazards::hints;
 use log::Log;
 use std::alloc::Global;
+use thread_plan::hints;
 use wasm_types::Module;
 
 /// The last line of the summary of a module that is well typed.

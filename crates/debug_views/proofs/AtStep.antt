@@ -4,9 +4,9 @@ use Rattle.wasm_types.specs.declared.modules.Module.{Module}
 use Rattle.wasm_world.specs.Plans.{PlanValue}
 use Rattle.wasm_world.specs.Opening.{WasmWorld}
 use Rattle.replica.specs.declared.log.Log.{Log as GatheredLog}
-use Rattle.replay_breaks.specs.OneStop.{HadMemory}
-use Rattle.replay_breaks.specs.declared.breaks.Break.TheVariants as break
-use Rattle.replay_breaks.specs.declared.breaks.Stopped.{Stopped}
+use Rattle.replay_gate.specs.OneStop.{HadMemory}
+use Rattle.replay_gate.specs.declared.breaks.Break.TheVariants as break
+use Rattle.replay_gate.specs.declared.breaks.Stopped.{Stopped}
 use Rattle.wasm_replay.specs.Replays.{Opens}
 use Rattle.debug_views.specs.Stopping.{Stops}
 use Rattle.debug_views.specs.ThreadNotes.{IsAtStep}

@@ -9,10 +9,10 @@ use Rattle.replica.specs.declared.log.Log.{Log as GatheredLog}
 use Rattle.wasm_world.specs.Opening.{WasmWorld}
 use Rattle.replay_gate.specs.declared.answers.ReplayFault.{ReplayFault}
 use Rattle.replay_gate.specs.Shows.{ShowsRecorded}
-use Rattle.replay_breaks.specs.declared.breaks.Break.{Break}
-use Rattle.replay_breaks.specs.declared.breaks.Stopped.{Stopped}
-use Rattle.replay_breaks.specs.declared.breaks.Stopped.TheVariants as stopped
-use Rattle.replay_breaks.specs.Stops.{StopsAt}
+use Rattle.replay_gate.specs.declared.breaks.Break.{Break}
+use Rattle.replay_gate.specs.declared.breaks.Stopped.{Stopped}
+use Rattle.replay_gate.specs.declared.breaks.Stopped.TheVariants as stopped
+use Rattle.replay_gate.specs.Stops.{StopsAt}
 use Rattle.wasm_types.specs.Memories.{block_power}
 use Rattle.replica.specs.Log.{key_of}
 use Rattle.debug_views.specs.Text.{IsShown, IsView}

@@ -8,8 +8,8 @@ use Rattle.rw_objects.specs.Code.{Code}
 use Rattle.rw_objects.specs.declared.count.Count.{Count}
 use Rattle.block_objects.specs.Objects.{block_object}
 use Rattle.event_core.specs.World.{WorldAt}
-use Rattle.replay_breaks.specs.declared.breaks.Break.{Break}
-use Rattle.replay_breaks.specs.declared.breaks.Stopped.{Stopped}
+use Rattle.replay_gate.specs.declared.breaks.Break.{Break}
+use Rattle.replay_gate.specs.declared.breaks.Stopped.{Stopped}
 use Rattle.debug_views.specs.Report.{note_at, shown}
 use Rattle.debug_views.specs.declared.blocks.BlockRange.{BlockRange}
 use Rattle.debug_views.specs.declared.threads.ThreadView.{ThreadView}

@@ -8,10 +8,10 @@ use Rattle.wasm_types.specs.Memories.{block_power}
 use Rattle.block_objects.specs.SharedMemory.{shared_memory}
 use Rattle.replay_laws.specs.Ordered.{ordered_world}
 use Rattle.replay_gate.specs.Shows.{ShowsRecorded}
-use Rattle.replay_breaks.specs.declared.breaks.Break.{Break}
-use Rattle.replay_breaks.specs.declared.breaks.Stopped.{Stopped}
-use Rattle.replay_breaks.specs.Stops.{StopsAt}
-use Rattle.replay_breaks.specs.Notes.{notes}
+use Rattle.replay_gate.specs.declared.breaks.Break.{Break}
+use Rattle.replay_gate.specs.declared.breaks.Stopped.{Stopped}
+use Rattle.replay_gate.specs.Stops.{StopsAt}
+use Rattle.replay_gate.specs.Notes.{notes}
 use Rattle.wasm_world.specs.Plans.{PlanValue}
 use Rattle.wasm_world.specs.Opening.{WasmWorld}
 use Rattle.wasm_types.specs.declared.operation.Action.{Action}

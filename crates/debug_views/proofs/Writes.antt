@@ -2,9 +2,9 @@
 use Rattle.std.proofs.Common.{◌≡◌, ℕ, ◌+◌, ◌-◌, ◌*◌, ◌/◌, ◌%◌, ◌&&◌, nat_le, nat_lt, arith}
 use Rattle.std.proofs.lemmas.Bool.{eqb-true, eq-eqb, ltb-true, lt-ltb, leb-true, le-leb, and_parts, and_from}
 use Rattle.block_objects.specs.Objects.{block_object}
-use Rattle.replay_breaks.specs.declared.breaks.Break.TheVariants as break
-use Rattle.replay_breaks.specs.declared.breaks.Every.TheVariants as every
-use Rattle.replay_breaks.specs.declared.breaks.ObjectRange.{ObjectRange}
+use Rattle.replay_gate.specs.declared.breaks.Break.TheVariants as break
+use Rattle.replay_gate.specs.declared.breaks.Every.TheVariants as every
+use Rattle.replay_gate.specs.declared.breaks.ObjectRange.{ObjectRange}
 use Rattle.debug_views.specs.declared.blocks.BlockRange.{BlockRange}
 use Rattle.debug_views.specs.Blocks.{AreHolding}
 use Rattle.debug_views.specs.Writes.{IsWriteOfRange}

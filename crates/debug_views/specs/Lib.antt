@@ -11,7 +11,7 @@ pub mod Views
 pub use Rattle.binary_decoder.specs.Kept
 pub use Rattle.binary_decoder.specs.Names
 pub use Rattle.binary_decoder.specs.Printable
-pub use Rattle.replay_breaks.specs.declared.breaks.Break
+pub use Rattle.replay_gate.specs.declared.breaks.Break
 pub mod TraceLines
 pub mod Trace
 pub mod Traces

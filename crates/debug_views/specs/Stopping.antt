@@ -6,9 +6,9 @@ use Rattle.wasm_world.specs.Plans.{PlanValue}
 use Rattle.wasm_world.specs.Opening.{WasmWorld}
 use Rattle.wasm_world.specs.ThreadCode.{thread_code}
 use Rattle.replica.specs.declared.log.Log.{Log as GatheredLog}
-use Rattle.replay_breaks.specs.declared.breaks.Break.{Break}
-use Rattle.replay_breaks.specs.declared.breaks.Stopped.{Stopped}
-use Rattle.replay_breaks.specs.Stops.{StopsAt}
+use Rattle.replay_gate.specs.declared.breaks.Break.{Break}
+use Rattle.replay_gate.specs.declared.breaks.Stopped.{Stopped}
+use Rattle.replay_gate.specs.Stops.{StopsAt}
 use Rattle.wasm_replay.specs.Replays.{Opens, gathered_log}
 use Rattle.debug_views.specs.Text.{IsShown}
 

@@ -7,10 +7,10 @@ use Rattle.rw_objects.specs.Code.{Code}
 use Rattle.rw_objects.specs.declared.count.Count.{Count}
 use Rattle.block_objects.specs.Objects.{block_object}
 use Rattle.event_core.specs.World.{WorldAt}
-use Rattle.replay_breaks.specs.declared.breaks.Break.{Break}
-use Rattle.replay_breaks.specs.declared.breaks.Break.TheVariants as break
-use Rattle.replay_breaks.specs.declared.breaks.Stopped.{Stopped}
-use Rattle.replay_breaks.specs.declared.breaks.Stopped.TheVariants as stopped
+use Rattle.replay_gate.specs.declared.breaks.Break.{Break}
+use Rattle.replay_gate.specs.declared.breaks.Break.TheVariants as break
+use Rattle.replay_gate.specs.declared.breaks.Stopped.{Stopped}
+use Rattle.replay_gate.specs.declared.breaks.Stopped.TheVariants as stopped
 use Rattle.debug_views.specs.Report.{note_at, shown}
 use Rattle.debug_views.specs.declared.blocks.BlockRange.{BlockRange}
 use Rattle.debug_views.specs.declared.threads.ThreadView.{ThreadView}

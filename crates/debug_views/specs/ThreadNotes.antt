@@ -12,9 +12,9 @@ use Rattle.wasm_world.specs.Opening.{WasmWorld}
 use Rattle.wasm_world.specs.ThreadCode.{thread_code, ThreadAt as CodeThread}
 use Rattle.replica.specs.declared.log.Log.{Log as GatheredLog}
 use Rattle.replay_gate.specs.Shows.{ShowsRecorded}
-use Rattle.replay_breaks.specs.OneStop.{HadMemory}
-use Rattle.replay_breaks.specs.declared.breaks.Break.TheVariants as break
-use Rattle.replay_breaks.specs.declared.breaks.Stopped.{Stopped}
+use Rattle.replay_gate.specs.OneStop.{HadMemory}
+use Rattle.replay_gate.specs.declared.breaks.Break.TheVariants as break
+use Rattle.replay_gate.specs.declared.breaks.Stopped.{Stopped}
 use Rattle.wasm_replay.specs.Replays.{Opens, gathered_log}
 use Rattle.debug_views.specs.Standing.{PlaceForm, note_of}
 use Rattle.debug_views.specs.Stopping.{Stops, StopsToShow}

@@ -11,9 +11,9 @@ use Rattle.replica.specs.declared.log.Log.{Log as GatheredLog}
 use Rattle.replica.specs.Log.{key_of}
 use Rattle.replay_laws.specs.Ordered.{ordered_world}
 use Rattle.replay_gate.specs.Shows.{ShowsRecorded}
-use Rattle.replay_breaks.specs.declared.breaks.Break.{Break}
-use Rattle.replay_breaks.specs.declared.breaks.Stopped.{Stopped}
-use Rattle.replay_breaks.specs.Notes.{notes as noted}
+use Rattle.replay_gate.specs.declared.breaks.Break.{Break}
+use Rattle.replay_gate.specs.declared.breaks.Stopped.{Stopped}
+use Rattle.replay_gate.specs.Notes.{notes as noted}
 use Rattle.wasm_replay.specs.Replays.{Opens, IsOfRun, gathered_log}
 use Rattle.debug_views.specs.declared.trace_choice.TraceChoice.{TraceChoice}
 use Rattle.debug_views.specs.declared.tracing.TraceFault.{TraceFault}

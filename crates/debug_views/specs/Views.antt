@@ -12,9 +12,9 @@ use Rattle.wasm_world.specs.Opening.{WasmWorld}
 use Rattle.replay_gate.specs.declared.answers.ReplayFault.{ReplayFault}
 use Rattle.replay_gate.specs.declared.answers.ReplayFault.TheVariants as fault
 use Rattle.replay_gate.specs.Shows.{ShowsRecorded}
-use Rattle.replay_breaks.specs.declared.breaks.Break.{Break}
-use Rattle.replay_breaks.specs.declared.breaks.Stopped.{Stopped}
-use Rattle.replay_breaks.specs.declared.breaks.Stopped.TheVariants as stopped
+use Rattle.replay_gate.specs.declared.breaks.Break.{Break}
+use Rattle.replay_gate.specs.declared.breaks.Stopped.{Stopped}
+use Rattle.replay_gate.specs.declared.breaks.Stopped.TheVariants as stopped
 use Rattle.debug_views.specs.Text.{IsView}
 use Rattle.debug_views.specs.Values.{memory_bytes}
 use Rattle.debug_views.specs.declared.fault.ViewFault.TheVariants as showing

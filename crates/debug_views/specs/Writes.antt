@@ -1,9 +1,9 @@
 -- The break at the writes of a range of addresses.
 use Rattle.std.specs.Prelude.{◌≡◌, ◌↔◌, ℕ, true}
 use Rattle.block_objects.specs.Objects.{block_object}
-use Rattle.replay_breaks.specs.declared.breaks.Break.{Break}
-use Rattle.replay_breaks.specs.declared.breaks.Break.TheVariants as break
-use Rattle.replay_breaks.specs.Breaks.{is_among}
+use Rattle.replay_gate.specs.declared.breaks.Break.{Break}
+use Rattle.replay_gate.specs.declared.breaks.Break.TheVariants as break
+use Rattle.replay_gate.specs.Breaks.{is_among}
 use Rattle.debug_views.specs.Blocks.{HoldsByte}
 
 -- the break holds behind a write of object o

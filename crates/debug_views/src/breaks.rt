@@ -3,7 +3,7 @@
 ghost use Rattle.debug_views.specs.Writes.{IsWriteOfRange};
 
 use crate::blocks::blocks_of_range;
-use replay_breaks::{Break, Every, ObjectRange};
+use replay_gate::{Break, Every, ObjectRange};
 use wasm_types::Block;
 
 /// The break at the writes of a range of addresses, which is that from an address on of so many bytes, of a memory with

@@ -8,7 +8,7 @@ ghost use Rattle.debug_views.specs.Views.{IsNotReplayed};
 
 use crate::notes::{Notes, notes_by};
 use crate::replays::{OrderedReplay, opened, refused_at};
-use replay_breaks::{Stopped, run_to};
+use replay_gate::{Stopped, run_to};
 use replica::Log;
 use std::alloc::Global;
 use wasm_replay::{ReplayFault, Unreplayed};

@@ -37,7 +37,7 @@ pub use fault::ViewFault;
 pub use memory_space::MemorySpace;
 pub use notes::{Notes, note_of};
 pub use places::PlaceWriter;
-pub use replay_breaks::Break;
+pub use replay_gate::Break;
 pub use report_text::{noted_report, put_row, report};
 pub use text::{stop_words, view, write_objects, write_rows, write_thread};
 pub use threads::{ThreadView, thread_view};

@@ -10,7 +10,7 @@ ghost use Rattle.wasm_replay.specs.declared.replaying.WasmReplayFault.TheVariant
 
 use event_core::World;
 use integer_machine::ThreadState;
-use replay_breaks::{Break, Stopped, run_to};
+use replay_gate::{Break, Stopped, run_to};
 use replica::Log;
 use std::alloc::Global;
 use wasm_replay::{ReplayFault, Standing, Unreplayed, WasmReplay, WasmReplayFault, open_replay};

@@ -14,7 +14,7 @@ use crate::report_text::{note_at, put_row};
 use crate::threads::{ThreadView, thread_view};
 use crate::values::bytes;
 use event_core::World;
-use replay_breaks::{Break, Stopped};
+use replay_gate::{Break, Stopped};
 use rw_objects::{Count, Machine, ObjectSpace, Versions};
 use std::alloc::Global;
 use std::fmt::Write;

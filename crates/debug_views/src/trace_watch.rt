@@ -16,7 +16,7 @@ use crate::trace_lines::put_done;
 use crate::trace_seen::{Seen, action_of, seen_of};
 use event_core::World;
 use integer_machine::{CodePlace, ThreadState};
-use replay_breaks::Watch;
+use replay_gate::Watch;
 use std::alloc::Global;
 use std::marker::Model;
 use wasm_types::{MOST_THREADS, NoMemory};

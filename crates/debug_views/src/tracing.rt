@@ -18,7 +18,7 @@ use crate::trace_choice::TraceChoice;
 use crate::trace_watch::Tracer;
 use event_core::World;
 use integer_machine::{ThreadState, memory_limits};
-use replay_breaks::{Break, Stopped, run_watched};
+use replay_gate::{Break, Stopped, run_watched};
 use replica::Log;
 use std::alloc::Global;
 use thiserror::Error;

@@ -18,7 +18,7 @@ use crate::text::view;
 use crate::values::is_in_view;
 use event_core::World;
 use integer_machine::{ThreadState, memory_limits};
-use replay_breaks::{Break, Stopped, run_to};
+use replay_gate::{Break, Stopped, run_to};
 use replica::Log;
 use std::alloc::Global;
 use thiserror::Error;

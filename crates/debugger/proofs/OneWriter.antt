@@ -8,8 +8,8 @@ use Rattle.rw_objects.specs.declared.touch.Found.{Found}
 use Rattle.rw_objects.specs.declared.touch.Found.TheVariants as found
 use Rattle.event_core.specs.Threads.{ThreadAt}
 use Rattle.event_core.specs.World.{WorldAt}
-use Rattle.join_laws.specs.declared.flat.Flat.{Flat}
-use Rattle.join_laws.specs.declared.flat.Flat.TheVariants.{Known, Clash}
+use Rattle.log_pieces.specs.declared.flat.Flat.{Flat}
+use Rattle.log_pieces.specs.declared.flat.Flat.TheVariants.{Known, Clash}
 use Rattle.replay_laws.specs.Log.{Log}
 use Rattle.replay_session.specs.Writers.{writes_version, item_writes, HasWritten, OneWriterEach}
 use Rattle.replica.specs.declared.diverging.EventAt.{EventAt}

@@ -11,10 +11,10 @@ use Rattle.wasm_world.specs.ThreadCode.{thread_code}
 use Rattle.replay_laws.specs.Log.{Log}
 use Rattle.replay_laws.specs.Ordered.{ordered_world, thread_of_turn}
 use Rattle.replay_laws.specs.Turns.{turn_of, world_after_turn}
-use Rattle.replay_breaks.specs.declared.breaks.Break.{Break}
-use Rattle.replay_breaks.specs.declared.breaks.Stopped.{Stopped}
-use Rattle.replay_breaks.specs.declared.breaks.Stopped.TheVariants as stopped
-use Rattle.replay_breaks.specs.Stops.{StopsAt, StopsRight, StopsFree}
+use Rattle.replay_gate.specs.declared.breaks.Break.{Break}
+use Rattle.replay_gate.specs.declared.breaks.Stopped.{Stopped}
+use Rattle.replay_gate.specs.declared.breaks.Stopped.TheVariants as stopped
+use Rattle.replay_gate.specs.Stops.{StopsAt, StopsRight, StopsFree}
 use Rattle.replay_session.specs.declared.paused.Met.{Met}
 use Rattle.replay_session.specs.declared.paused.Met.TheVariants as met
 use Rattle.replay_session.specs.declared.paused.Paused.{Paused}

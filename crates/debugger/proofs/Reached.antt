@@ -5,9 +5,9 @@ use Rattle.wasm_world.specs.SharedMemory.{shared_memory}
 use Rattle.wasm_world.specs.Opening.{WasmWorld}
 use Rattle.wasm_world.specs.ThreadCode.{thread_code}
 use Rattle.replay_laws.specs.Log.{Log}
-use Rattle.replay_breaks.specs.declared.breaks.Break.{Break}
-use Rattle.replay_breaks.specs.declared.breaks.Stopped.{Stopped}
-use Rattle.replay_breaks.specs.declared.breaks.Stopped.TheVariants as stopped
+use Rattle.replay_gate.specs.declared.breaks.Break.{Break}
+use Rattle.replay_gate.specs.declared.breaks.Stopped.{Stopped}
+use Rattle.replay_gate.specs.declared.breaks.Stopped.TheVariants as stopped
 use Rattle.replay_session.specs.declared.legs.Leg.{Leg}
 use Rattle.replay_session.specs.Reaching.{GoesTo}
 use Rattle.debugger.specs.Replies.{IsStopOf}

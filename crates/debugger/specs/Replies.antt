@@ -22,11 +22,11 @@ use Rattle.replay_gate.specs.declared.answers.ReplayFault.{ReplayFault}
 use Rattle.replay_gate.specs.declared.answers.ReplayFault.TheVariants as fault
 use Rattle.replay_gate.specs.Shows.{ShowsRecorded}
 use Rattle.replay_gate.specs.Turned.{IsRightRefusal, IsFreeRefusal}
-use Rattle.replay_breaks.specs.declared.breaks.Break.{Break}
-use Rattle.replay_breaks.specs.declared.breaks.Break.TheVariants as break
-use Rattle.replay_breaks.specs.declared.breaks.Stopped.{Stopped}
-use Rattle.replay_breaks.specs.declared.breaks.Stopped.TheVariants as stopped
-use Rattle.replay_breaks.specs.Stops.{StopsRight, StopsFree}
+use Rattle.replay_gate.specs.declared.breaks.Break.{Break}
+use Rattle.replay_gate.specs.declared.breaks.Break.TheVariants as break
+use Rattle.replay_gate.specs.declared.breaks.Stopped.{Stopped}
+use Rattle.replay_gate.specs.declared.breaks.Stopped.TheVariants as stopped
+use Rattle.replay_gate.specs.Stops.{StopsRight, StopsFree}
 use Rattle.replay_session.specs.declared.legs.Leg.{Leg}
 use Rattle.replay_session.specs.declared.legs.Leg.TheVariants as leg
 use Rattle.replay_session.specs.declared.gone.Ceased.{Ceased}

@@ -6,8 +6,8 @@ use Rattle.rw_objects.specs.declared.entry.Entry.{Entry}
 use Rattle.rw_objects.specs.declared.touch.Found.{Found}
 use Rattle.rw_objects.specs.declared.touch.Found.TheVariants as found
 use Rattle.rw_objects.specs.Touch.{object_of}
-use Rattle.join_laws.specs.declared.flat.Flat.{Flat}
-use Rattle.join_laws.specs.declared.flat.Flat.TheVariants.{Known, Clash}
+use Rattle.log_pieces.specs.declared.flat.Flat.{Flat}
+use Rattle.log_pieces.specs.declared.flat.Flat.TheVariants.{Known, Clash}
 use Rattle.event_core.specs.Threads.{ThreadAt}
 use Rattle.replay_laws.specs.Log.{Log}
 use Rattle.replay_gate.specs.declared.answers.Gate.{Gate}

@@ -3,7 +3,7 @@
 ghost use Rattle.std.specs.Prelude.{◌≡◌, ◌+◌, ◌^◌, ◌<◌, ◌++◌, IfOk, OnOk, option_copied, string_bytes};
 ghost use Rattle.debugger.specs.Around.{entry_line, item_line, items_text, next_line, around_text};
 
-use join_laws::Flat;
+use log_pieces::Flat;
 use replay_gate::ReadLog;
 use rw_objects::Entry;
 use std::alloc::Global;

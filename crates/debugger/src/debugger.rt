@@ -2,7 +2,7 @@
 
 use crate::opening::WasmSession;
 use debug_views::PlaceWriter;
-use replay_breaks::Break;
+use replay_gate::Break;
 use wasm_types::Block;
 use wasm_world::{CodePlace, Valid};
 

@@ -7,7 +7,7 @@ ghost use Rattle.replay_session.specs.declared.paused.Paused.TheVariants as paus
 use arrayvec::ArrayString;
 use debug_views::stop_words;
 use itoa::Buffer;
-use replay_breaks::{Break, Stopped};
+use replay_gate::{Break, Stopped};
 use replay_session::{Ceased, Gone, Met, Paused};
 use wasm_replay::ReplayFault;
 

@@ -20,7 +20,7 @@ use crate::touched::Role;
 use crate::way::way_text;
 use arrayvec::ArrayString;
 use debug_views::{PlaceWriter, write_break};
-use replay_breaks::{Break, Stopped};
+use replay_gate::{Break, Stopped};
 use replica::Log;
 use std::alloc::Global;
 use wasm_replay::{ReplayFault, Standing, Unreplayed, WasmReplayFault, opener_of};

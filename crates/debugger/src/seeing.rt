@@ -12,7 +12,7 @@ use crate::functions::{function_called, has_instruction};
 use crate::word::word_of;
 use debug_views::write_break;
 use event_core::World;
-use replay_breaks::Break;
+use replay_gate::Break;
 use replay_session::Leg;
 use std::alloc::Global;
 use wasm_types::{ByteRange, NoMemory};

@@ -6,8 +6,7 @@ ghost use Rattle.event_core.specs.World.{world_of};
 ghost use Rattle.debugger.specs.Touched.{is_writer, is_reader, is_sought, is_sought_entry, is_sought_item, event_if, events_from, events_of, first_of, count_of, or_nobody, role_words, sought_line};
 
 use event_core::World;
-use join_laws::Flat;
-use log_pieces::End;
+use log_pieces::{End, Flat};
 use replay_gate::ReadLog;
 use rw_objects::{Entry, Found, Machine, ObjectSpace};
 use std::alloc::Global;

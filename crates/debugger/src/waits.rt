@@ -7,7 +7,7 @@ ghost use Rattle.debugger.specs.Waits.{awaited, awaited_by, awaited_line, awaite
 use crate::around::write_next;
 use crate::touched::{Events, Role, Sought, sought_text};
 use event_core::World;
-use join_laws::Flat;
+use log_pieces::Flat;
 use replay_gate::{Gate, ReadLog, gate};
 use rw_objects::{Count, Entry, Found, Machine, ObjectSpace};
 use std::alloc::Global;

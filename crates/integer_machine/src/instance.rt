@@ -2,8 +2,8 @@
 
 ghost use Rattle.std.specs.Prelude.{◌≡◌, true, IfOk};
 ghost use Rattle.wasm_types.specs.Segments.{elements_are_within};
-ghost use Rattle.thread_step.specs.Opening.{instance_of};
-ghost use Rattle.thread_step.specs.ThreadCode.{limits_of};
+ghost use Rattle.thread_words.specs.Opening.{instance_of};
+ghost use Rattle.thread_words.specs.ThreadCode.{limits_of};
 ghost use Rattle.thread_words.specs.Words.{instance_at};
 
 use block_objects::MemoryLimits;

@@ -4,7 +4,7 @@ ghost use Rattle.std.specs.Prelude.{◌≡◌, ℕ, ◌+◌, true, false, OnOk, 
 ghost use Rattle.wasm_types.specs.declared.instruction.Instr.{Instr as Instruction};
 ghost use Rattle.rw_objects.specs.Code.{TakesReply};
 ghost use Rattle.wasm_types.specs.declared.modules.Module.{Module};
-ghost use Rattle.thread_step.specs.Thread.{move, time_out};
+ghost use Rattle.thread_words.specs.Thread.{move, time_out};
 ghost use Rattle.thread_words.specs.declared.stacks.Stage.TheVariants.{Running};
 ghost use Rattle.thread_words.specs.Accesses.{IsAccess};
 ghost use Rattle.thread_words.specs.Leaving.{InstructionAt};
@@ -14,7 +14,7 @@ ghost use Rattle.integer_machine.specs.Meaning.{meaning};
 ghost use Rattle.integer_machine.specs.Rooms.{IsNoAccess};
 ghost use Rattle.integer_machine.specs.Sound.{Sound, HasMost};
 ghost use Rattle.integer_machine.specs.Trying.{IsNextLocal};
-ghost use Rattle.thread_step.specs.ThreadCode.{nanos_in, nanos_by, op_of, next_by, local_by, replied_by};
+ghost use Rattle.thread_words.specs.ThreadCode.{nanos_in, nanos_by, op_of, next_by, local_by, replied_by};
 
 use crate::trying::try_step;
 use rw_objects::Next;

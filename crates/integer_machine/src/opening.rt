@@ -3,9 +3,9 @@
 ghost use Rattle.std.specs.Prelude.{◌≡◌, ℕ, ◌++◌, OnOk, IfOk, map, Some};
 ghost use Rattle.wasm_types.specs.declared.modules.FuncType.{FuncType};
 ghost use Rattle.validator.specs.Context.{function_type};
-ghost use Rattle.thread_step.specs.Thread.{State};
+ghost use Rattle.thread_words.specs.Thread.{State};
 ghost use Rattle.wasm_types.specs.Globals.{opening_globals};
-ghost use Rattle.thread_step.specs.Opening.{opening};
+ghost use Rattle.thread_words.specs.Opening.{opening};
 ghost use Rattle.thread_words.specs.Words.{words_of, Stands, AreInRange};
 ghost use Rattle.integer_machine.specs.Entry.{entry_words, HasType};
 

@@ -3,9 +3,9 @@
 ghost use Rattle.std.specs.Prelude.{◌≡◌, length, option_copied, slice_get};
 ghost use Rattle.wasm_types.specs.declared.modules.Module.{Module};
 ghost use Rattle.event_core.specs.End.{outcome_of};
-ghost use Rattle.thread_step.specs.Instance.{Instance};
-ghost use Rattle.thread_step.specs.Thread.{move};
-ghost use Rattle.thread_step.specs.ThreadCode.{next_by};
+ghost use Rattle.thread_words.specs.Instance.{Instance};
+ghost use Rattle.thread_words.specs.Thread.{move};
+ghost use Rattle.thread_words.specs.ThreadCode.{next_by};
 ghost use Rattle.integer_machine.specs.Frames.{levels_of};
 ghost use Rattle.integer_machine.specs.Meaning.{meaning};
 ghost use Rattle.integer_machine.specs.Standing.{standing, place_of_level};

@@ -2,7 +2,7 @@
 
 ghost use Rattle.std.specs.Prelude.{◌≡◌, true, IfOk, OnOk, OnErr, IsOk};
 ghost use Rattle.wasm_types.specs.declared.instruction.Instr.TheVariants.{Plain as PlainInstr, Index as IndexInstr};
-ghost use Rattle.thread_step.specs.Instance.{Instance as StepInstance};
+ghost use Rattle.thread_words.specs.Instance.{Instance as StepInstance};
 ghost use Rattle.thread_words.specs.Words.{instance_at};
 ghost use Rattle.thread_words.specs.Fields.{Keeps};
 ghost use Rattle.thread_words.specs.Moves.{CanStep, Steps, CanStepIn, StepsIn, Unchanged};

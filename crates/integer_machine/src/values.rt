@@ -6,7 +6,7 @@ ghost use Rattle.wasm_types.specs.declared.value.ValType.TheVariants.{I32};
 ghost use Rattle.wasm_types.specs.declared.modules.Module.{Module};
 ghost use Rattle.wasm_types.specs.Locals.{locals_of};
 ghost use Rattle.wasm_types.specs.Values.{value_of};
-ghost use Rattle.thread_step.specs.Thread.{Invocation};
+ghost use Rattle.thread_words.specs.Thread.{Invocation};
 ghost use Rattle.thread_words.specs.Words.{words_of};
 ghost use Rattle.integer_machine.specs.Frames.{ends_of, HasFrame, HaveTypes, IsFrame, IsFrameAt, IsSoundIn};
 ghost use Rattle.integer_machine.specs.Meaning.{meaning, typed};

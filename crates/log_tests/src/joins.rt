@@ -1,10 +1,10 @@
 //! Joins of claims, of pairs and of maps.
 
 ghost use Rattle.std.specs.Prelude.{◌≡◌, ◌⊎◌, ℕ, Some};
-ghost use Rattle.join_laws.specs.Agreed.{IsAgreed};
+ghost use Rattle.log_pieces.specs.Agreed.{IsAgreed};
 
 use crate::checks::{check, compare};
-use join_laws::{Both, Claims, Flat, Join, Keyed, agreed_joined};
+use log_pieces::{Both, Claims, Flat, Join, Keyed, agreed_joined};
 use std::alloc::Global;
 use std::test::Fail;
 use wasm_types::{NoMemory, Same};

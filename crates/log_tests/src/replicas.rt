@@ -4,8 +4,7 @@ ghost use Rattle.std.specs.Prelude.{◌<◌};
 
 use crate::checks::{check, compare, compare_texts};
 use byte_streams::{MemorySink, MemorySource, Sink, Source};
-use join_laws::Flat;
-use log_pieces::{LineFault, Piece, read_line};
+use log_pieces::{Flat, LineFault, Piece, read_line};
 use replica::{GatherFault, ListingForm, Log, Replica, ReplicaFault, collect, gather, listing};
 use std::alloc::Global;
 use std::process::Abort;

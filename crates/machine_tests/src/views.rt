@@ -7,7 +7,7 @@ use crate::checks::{compare, compare_texts};
 use crate::modules::{Threads, open, valid};
 use debug_views::{bytes, thread_view, versions, view, write_break};
 use event_core::{Input, Pick};
-use replay_breaks::{Break, Every, ObjectRange, Stopped};
+use replay_gate::{Break, Every, ObjectRange, Stopped};
 use std::alloc::Global;
 use std::test::Fail;
 use validator::Valid;

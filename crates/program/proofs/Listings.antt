@@ -9,8 +9,8 @@ use Rattle.replica.specs.Judged.{IsFound}
 use Rattle.replica.specs.Gathered.{Collects}
 use Rattle.replica.proofs.FoundLemmas.{found_gathered_some}
 use Rattle.replica.specs.declared.diverging.EventAt.{EventAt}
-use Rattle.object_listing.specs.Chosen.{IsObjectListing}
-use Rattle.object_listing.specs.Chart.{IsChart}
+use Rattle.replica.specs.Chosen.{IsObjectListing}
+use Rattle.replica.specs.Chart.{IsChart}
 use Rattle.command_words.specs.declared.requests.GatherForm.{GatherForm}
 use Rattle.command_words.specs.declared.requests.GatherForm.TheVariants as forms
 use Rattle.command_words.specs.declared.requests.ThreadCount.{ThreadCount}

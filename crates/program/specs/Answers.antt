@@ -18,8 +18,8 @@ use Rattle.command_words.specs.declared.requests.GatherForm.TheVariants as form
 use Rattle.command_words.specs.declared.requests.Request.{Request}
 use Rattle.command_words.specs.declared.requests.Request.TheVariants as request
 use Rattle.command_words.specs.declared.requests.ThreadCount.{ThreadCount}
-use Rattle.object_listing.specs.Chosen.{IsObjectListing}
-use Rattle.object_listing.specs.Chart.{IsChart}
+use Rattle.replica.specs.Chosen.{IsObjectListing}
+use Rattle.replica.specs.Chart.{IsChart}
 use Rattle.commands.specs.Texts.{fault_text}
 use Rattle.explanations.specs.Explained.{IsExplanation}
 use Rattle.commands.specs.PlanChecks.{IsCheckAnswer, IsNotChecked}

@@ -1,9 +1,9 @@
 -- Texts that are made of a whole log.
 use Rattle.std.specs.Prelude.{ℕ, List}
 use Rattle.log_pieces.specs.Piece.{PieceValue}
-use Rattle.object_listing.specs.Chosen.{asked_of, IsObjectListing}
-use Rattle.object_listing.specs.Lines.{chart_asked}
-use Rattle.object_listing.specs.Chart.{IsChart}
+use Rattle.replica.specs.Chosen.{asked_of, IsObjectListing}
+use Rattle.replica.specs.ObjectLines.{chart_asked}
+use Rattle.replica.specs.Chart.{IsChart}
 use Rattle.program.specs.declared.log_texts.LogText.{LogText}
 use Rattle.program.specs.declared.log_texts.LogText.TheVariants.{Objects, Chart}
 

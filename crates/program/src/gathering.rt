@@ -10,8 +10,9 @@ use crate::log_texts::{LogText, show_text};
 use byte_streams::{Sink, Source, write_all};
 use command_words::{GatherForm, ThreadCount};
 use commands::{Fault, skipped_text};
-use object_listing::{ChartChoice, Choice};
-use replica::{EventAt, GatherFault, ListingForm, Skipped, gather, gather_skipping};
+use replica::{
+    ChartChoice, Choice, EventAt, GatherFault, ListingForm, Skipped, gather, gather_skipping,
+};
 use std::alloc::Global;
 
 /// The program's fault where gathering is refused.

@@ -12,8 +12,9 @@ use crate::gathering::tell_skipped;
 use crate::showing::show;
 use byte_streams::{Sink, Source};
 use commands::Fault;
-use object_listing::{ChartChoice, Choice, chart_of, listing_of};
-use replica::{GatherFault, Replica, collect, collect_skipping};
+use replica::{
+    ChartChoice, Choice, GatherFault, Replica, chart_of, collect, collect_skipping, listing_of,
+};
 use std::alloc::Global;
 use wasm_types::NoMemory;
 

@@ -10,7 +10,7 @@ use Rattle.event_core.specs.declared.step.PickStep.TheVariants as step
 use Rattle.event_core.specs.Threads.{change_at, thread_after_local}
 use Rattle.event_core.specs.World.{WorldAt, step_of_pick, world_after_step}
 use Rattle.event_core.proofs.LocalRuns.{get_same, get_other}
-use Rattle.join_laws.specs.declared.flat.Flat.TheVariants.{Known}
+use Rattle.log_pieces.specs.declared.flat.Flat.TheVariants.{Known}
 use Rattle.replay_laws.specs.declared.turn.Turn.{Turn}
 use Rattle.replay_laws.specs.declared.turn.Turn.TheVariants as turn
 use Rattle.replay_laws.specs.Log.{Log, HasLimits}

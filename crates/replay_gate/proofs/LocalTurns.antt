@@ -17,8 +17,8 @@ use Rattle.event_core.specs.World.{WorldAt, step_of_pick, world_after_step}
 use Rattle.event_core.proofs.Steps.{thread_local}
 use Rattle.event_core.proofs.Threads.{step_some}
 use Rattle.log_pieces.specs.declared.end.End.{End}
-use Rattle.join_laws.specs.declared.flat.Flat.{Flat}
-use Rattle.join_laws.specs.declared.flat.Flat.TheVariants as flat
+use Rattle.log_pieces.specs.declared.flat.Flat.{Flat}
+use Rattle.log_pieces.specs.declared.flat.Flat.TheVariants as flat
 use Rattle.replay_laws.specs.declared.turn.Turn.{Turn}
 use Rattle.replay_laws.specs.declared.turn.Turn.TheVariants as turn
 use Rattle.replay_laws.specs.declared.turn.Refusal.TheVariants.{Shut, Diverged}

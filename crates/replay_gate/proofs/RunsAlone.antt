@@ -20,8 +20,8 @@ use Rattle.event_core.proofs.LocalRuns.{get_same, get_other, changed_twice, noth
 use Rattle.event_core.proofs.SoundSteps.{length_change}
 use Rattle.event_core.proofs.Steps.{thread_local}
 use Rattle.log_pieces.specs.declared.end.End.{End}
-use Rattle.join_laws.specs.declared.flat.Flat.{Flat}
-use Rattle.join_laws.specs.declared.flat.Flat.TheVariants as flat
+use Rattle.log_pieces.specs.declared.flat.Flat.{Flat}
+use Rattle.log_pieces.specs.declared.flat.Flat.TheVariants as flat
 use Rattle.replay_laws.specs.Log.{Log}
 use Rattle.replay_gate.specs.Alone.{GoesAlone}
 use Rattle.replay_gate.specs.Leads.{Leads}

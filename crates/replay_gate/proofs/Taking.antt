@@ -29,8 +29,8 @@ use Rattle.event_core.proofs.LocalRuns.{get_same}
 use Rattle.event_core.proofs.Steps.{thread_local}
 use Rattle.event_core.proofs.Threads.{step_some}
 use Rattle.log_pieces.specs.declared.end.End.{End}
-use Rattle.join_laws.specs.declared.flat.Flat.{Flat}
-use Rattle.join_laws.specs.declared.flat.Flat.TheVariants.{Known, Clash}
+use Rattle.log_pieces.specs.declared.flat.Flat.{Flat}
+use Rattle.log_pieces.specs.declared.flat.Flat.TheVariants.{Known, Clash}
 use Rattle.replay_laws.specs.Log.{Log, HasLimits}
 use Rattle.replay_laws.specs.Gates.{is_met, is_open, is_of, are_of, MeetsLog, IsGatedRun}
 use Rattle.replay_gate.specs.Following.{is_claimed, LogPlace, follow}

@@ -10,7 +10,7 @@ use Rattle.event_core.specs.End.{outcome_of}
 use Rattle.event_core.specs.World.{WorldAt}
 use Rattle.log_pieces.specs.Decides.{end_decides}
 use Rattle.log_pieces.specs.declared.end.End.{End}
-use Rattle.join_laws.specs.declared.flat.Flat.TheVariants.{Known}
+use Rattle.log_pieces.specs.declared.flat.Flat.TheVariants.{Known}
 use Rattle.replay_laws.specs.declared.turn.Turn.TheVariants as turn
 use Rattle.replay_laws.specs.declared.turn.Refusal.TheVariants.{Diverged}
 use Rattle.replay_laws.specs.Log.{Log}

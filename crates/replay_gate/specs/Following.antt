@@ -2,8 +2,8 @@
 use Rattle.std.specs.Prelude.{Bool, false, cond, ◌&&◌, ◌+◌, ℕ, Option, Some, None, nat_lt}
 use Rattle.rw_objects.specs.contracts.entry.EntryPartialEq.TheImpl as entries
 use Rattle.rw_objects.specs.declared.entry.Entry.{Entry}
-use Rattle.join_laws.specs.declared.flat.Flat.{Flat}
-use Rattle.join_laws.specs.declared.flat.Flat.TheVariants.{Known, Clash}
+use Rattle.log_pieces.specs.declared.flat.Flat.{Flat}
+use Rattle.log_pieces.specs.declared.flat.Flat.TheVariants.{Known, Clash}
 use Rattle.replay_laws.specs.Log.{Log}
 
 -- the entry is what is claimed

@@ -9,7 +9,7 @@ use Rattle.event_core.specs.declared.pick.Input.{Input}
 use Rattle.event_core.specs.Threads.{ThreadAt}
 use Rattle.event_core.specs.World.{WorldAt, step_of_pick}
 use Rattle.log_pieces.specs.declared.end.End.{End}
-use Rattle.join_laws.specs.declared.flat.Flat.TheVariants.{Known}
+use Rattle.log_pieces.specs.declared.flat.Flat.TheVariants.{Known}
 use Rattle.replay_laws.specs.declared.turn.Turn.{Turn}
 use Rattle.replay_laws.specs.declared.turn.Turn.TheVariants as turn
 use Rattle.replay_laws.specs.declared.turn.Refusal.TheVariants.{Missing, Clash, Shut, Diverged}

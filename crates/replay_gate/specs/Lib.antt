@@ -12,3 +12,14 @@ pub mod Local
 pub mod Needs
 pub mod Ready
 pub mod Alone
+pub mod Breaks
+pub mod Marks
+pub mod Tests
+pub mod Stops
+pub mod BreakRounds
+pub mod Clear
+pub mod OneStop
+pub mod Free
+pub mod Known
+pub mod Going
+pub mod Notes

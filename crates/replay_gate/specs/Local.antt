@@ -4,8 +4,8 @@ use Rattle.rw_objects.specs.Code.{Code}
 use Rattle.event_core.specs.Threads.{ThreadAt}
 use Rattle.event_core.specs.World.{WorldAt}
 use Rattle.log_pieces.specs.declared.end.End.{End}
-use Rattle.join_laws.specs.declared.flat.Flat.{Flat}
-use Rattle.join_laws.specs.declared.flat.Flat.TheVariants as flat
+use Rattle.log_pieces.specs.declared.flat.Flat.{Flat}
+use Rattle.log_pieces.specs.declared.flat.Flat.TheVariants as flat
 use Rattle.replay_laws.specs.declared.turn.Turn.{Turn}
 use Rattle.replay_laws.specs.declared.turn.Turn.TheVariants as turn
 use Rattle.replay_laws.specs.Log.{Log}

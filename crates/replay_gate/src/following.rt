@@ -2,14 +2,13 @@
 
 ghost use Rattle.std.specs.Prelude.{◌≡◌, ◌<◌, Some, OnOk, OnErr};
 ghost use Rattle.event_core.specs.World.{world_of};
-ghost use Rattle.join_laws.specs.declared.flat.Flat.TheVariants.{Known};
+ghost use Rattle.log_pieces.specs.declared.flat.Flat.TheVariants.{Known};
 ghost use Rattle.replay_gate.specs.Leads.{Leads};
 
 use crate::event::{event_of, input_for};
 use crate::read_log::ReadLog;
 use event_core::{Pick, World};
-use join_laws::Flat;
-use log_pieces::End;
+use log_pieces::{End, Flat};
 use rw_objects::{Entry, EntryLog, Machine, ObjectSpace, Versioned};
 use std::alloc::Global;
 use std::marker::Model;

@@ -2,15 +2,14 @@
 
 ghost use Rattle.std.specs.Prelude.{◌≡◌, true, false, Some, IfOk, OnOk, OnErr};
 ghost use Rattle.event_core.specs.World.{world_of};
-ghost use Rattle.join_laws.specs.declared.flat.Flat.TheVariants.{Known};
+ghost use Rattle.log_pieces.specs.declared.flat.Flat.TheVariants.{Known};
 ghost use Rattle.replay_laws.specs.Gates.{IsFinished};
 ghost use Rattle.replay_gate.specs.Leads.{Leads, IsAtEnd};
 
 use crate::following::Following;
 use crate::read_log::ReadLog;
 use event_core::World;
-use join_laws::Flat;
-use log_pieces::End;
+use log_pieces::{End, Flat};
 use rw_objects::{Machine, ObjectSpace};
 use std::alloc::Global;
 use wasm_types::{MOST_STEPS, NoMemory};

@@ -10,7 +10,7 @@ ghost use Rattle.replay_gate.specs.LocalRounds.{IsAhead, AreAhead, AreLocalRound
 use crate::read_log::ReadLog;
 use crate::turn::turn_of;
 use event_core::World;
-use join_laws::Flat;
+use log_pieces::Flat;
 use replay_laws::{Refusal, Turn};
 use rw_objects::{Machine, ObjectSpace};
 use std::alloc::Global;

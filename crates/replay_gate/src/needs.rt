@@ -9,8 +9,7 @@ ghost use Rattle.replay_gate.specs.Needs.{needs_by_next, turn_by_needs, IsOfFew}
 
 use crate::read_log::ReadLog;
 use event_core::World;
-use join_laws::Flat;
-use log_pieces::End;
+use log_pieces::{End, Flat};
 use replay_laws::{Refusal, Turn};
 use rw_objects::{Machine, Next, ObjectSpace};
 

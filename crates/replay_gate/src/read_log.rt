@@ -2,11 +2,10 @@
 
 ghost use Rattle.std.specs.Prelude.{◌≡◌, ◌<◌, ℕ, Option, option_copied};
 ghost use Rattle.rw_objects.specs.declared.entry.Entry.{Entry};
-ghost use Rattle.join_laws.specs.declared.flat.Flat.{Flat};
+ghost use Rattle.log_pieces.specs.declared.flat.Flat.{Flat};
 ghost use Rattle.replay_laws.specs.Log.{Log, HasLimits};
 
-use join_laws::Flat;
-use log_pieces::End;
+use log_pieces::{End, Flat};
 use rw_objects::Entry;
 
 /// A log: what is claimed of each event, and of each thread's end.

@@ -10,7 +10,7 @@ ghost use Rattle.replay_gate.specs.Ready.{IsReady, IsLogged};
 use crate::gates::is_open;
 use crate::read_log::ReadLog;
 use event_core::{Input, Pick, PickStep, World};
-use join_laws::Flat;
+use log_pieces::Flat;
 use rw_objects::{Machine, ObjectSpace};
 use wasm_types::NoMemory;
 

@@ -14,7 +14,7 @@ use crate::gates::{are_of, is_open};
 use crate::needs::{EntryNeeds, needs_of};
 use crate::read_log::ReadLog;
 use event_core::{Input, Pick, PickStep, World};
-use join_laws::Flat;
+use log_pieces::Flat;
 use replay_laws::{Refusal, Turn};
 use rw_objects::{Entry, Kind, Machine, Next, ObjectSpace};
 use std::alloc::Global;

@@ -1,8 +1,8 @@
 -- A turn has one answer.
 use Rattle.replay_laws.specs.Log.{Log}
 use Rattle.log_pieces.specs.declared.end.End.{End}
-use Rattle.join_laws.specs.declared.flat.Flat.{Flat}
-use Rattle.join_laws.specs.declared.flat.Flat.TheVariants.{Clash, Known}
+use Rattle.log_pieces.specs.declared.flat.Flat.{Flat}
+use Rattle.log_pieces.specs.declared.flat.Flat.TheVariants.{Clash, Known}
 use Rattle.rw_objects.specs.declared.entry.Entry.{Entry}
 use Rattle.std.proofs.Common.{◌≡◌, ℕ, Option, Some, None, sym, ◌∙◌, arith}
 use Rattle.replay_laws.proofs.System.{Next, Local, Ask, Asleep, Halted, System}

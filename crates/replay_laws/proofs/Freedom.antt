@@ -16,7 +16,7 @@ use Rattle.event_core.specs.PickStep.{is_enabled}
 use Rattle.event_core.specs.World.{WorldAt, step_of_thread, step_of_pick, world_after}
 use Rattle.event_core.specs.Run.{IsRun, world_run, entries}
 use Rattle.event_core.proofs.Opens.{opening_is_sound}
-use Rattle.join_laws.specs.declared.flat.Flat.{Flat}
+use Rattle.log_pieces.specs.declared.flat.Flat.{Flat}
 use Rattle.replay_laws.specs.declared.turn.Turn.{Turn}
 use Rattle.replay_laws.specs.declared.turn.Turn.TheVariants as turn
 use Rattle.replay_laws.specs.declared.turn.Refusal.TheVariants as refusal

@@ -26,7 +26,7 @@ use Rattle.event_core.specs.End.{outcome_of}
 use Rattle.event_core.specs.PickStep.{is_enabled}
 use Rattle.event_core.specs.Run.{IsRun as AreEnabled, world_run, entries, entries_of_step, run_end}
 use Rattle.log_pieces.specs.declared.end.End.{End}
-use Rattle.join_laws.specs.declared.flat.Flat.TheVariants.{Known}
+use Rattle.log_pieces.specs.declared.flat.Flat.TheVariants.{Known}
 use Rattle.replay_laws.specs.Log.{Log}
 use Rattle.replay_laws.proofs.System.{ReadOf, WriteOf, System}
 use Rattle.replay_laws.proofs.Worlds.{touch_of, touches_of, IsOpening}

@@ -2,8 +2,8 @@
 use Rattle.replay_laws.specs.Log.{Log}
 use Rattle.replay_laws.specs.Turns.{input_for}
 use Rattle.log_pieces.specs.declared.end.End.{End}
-use Rattle.join_laws.specs.declared.flat.Flat.{Flat}
-use Rattle.join_laws.specs.declared.flat.Flat.TheVariants.{Clash, Known}
+use Rattle.log_pieces.specs.declared.flat.Flat.{Flat}
+use Rattle.log_pieces.specs.declared.flat.Flat.TheVariants.{Clash, Known}
 use Rattle.rw_objects.specs.declared.entry.Entry.{Entry}
 use Rattle.rw_objects.specs.declared.entry.Kind.{Kind}
 use Rattle.rw_objects.specs.declared.entry.Kind.TheVariants.{Access, TimedOut, Woken}

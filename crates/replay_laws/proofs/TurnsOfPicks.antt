@@ -20,8 +20,8 @@ use Rattle.event_core.specs.World.{WorldAt, step_of_pick}
 use Rattle.event_core.proofs.Threads.{step_some}
 use Rattle.event_core.proofs.Steps.{next_local, next_event}
 use Rattle.log_pieces.specs.declared.end.End.{End}
-use Rattle.join_laws.specs.declared.flat.Flat.{Flat}
-use Rattle.join_laws.specs.declared.flat.Flat.TheVariants.{Known, Clash}
+use Rattle.log_pieces.specs.declared.flat.Flat.{Flat}
+use Rattle.log_pieces.specs.declared.flat.Flat.TheVariants.{Known, Clash}
 use Rattle.log_pieces.specs.Decides.{end_decides}
 use Rattle.replay_laws.specs.declared.turn.Turn.{Turn}
 use Rattle.replay_laws.specs.declared.turn.Turn.TheVariants as turn

@@ -10,9 +10,9 @@ use Rattle.replay_laws.specs.Turns.{turn_of}
 use Rattle.replay_gate.specs.Answers.{makes_step}
 use Rattle.replay_gate.specs.declared.answers.ReplayFault.{ReplayFault}
 use Rattle.replay_gate.specs.declared.answers.ReplayFault.TheVariants as fault
-use Rattle.replay_breaks.specs.declared.breaks.Break.{Break}
-use Rattle.replay_breaks.specs.declared.running.Taken.{Taken}
-use Rattle.replay_breaks.specs.Stops.{taken_of, is_step, Diverges, TurnTakes}
+use Rattle.replay_gate.specs.declared.breaks.Break.{Break}
+use Rattle.replay_gate.specs.declared.running.Taken.{Taken}
+use Rattle.replay_gate.specs.Stops.{taken_of, is_step, Diverges, TurnTakes}
 use Rattle.replay_laws.specs.declared.turn.Turn.{Turn}
 use Rattle.replay_laws.specs.declared.turn.Turn.TheVariants as turn
 use Rattle.replay_session.specs.declared.paused.Met.{Met}

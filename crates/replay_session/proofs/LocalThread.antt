@@ -10,8 +10,8 @@ use Rattle.event_core.specs.World.{WorldAt}
 use Rattle.event_core.proofs.LocalRuns.{get_same, get_other}
 use Rattle.event_core.proofs.SoundSteps.{length_change}
 use Rattle.log_pieces.specs.declared.end.End.{End}
-use Rattle.join_laws.specs.declared.flat.Flat.{Flat}
-use Rattle.join_laws.specs.declared.flat.Flat.TheVariants as flat
+use Rattle.log_pieces.specs.declared.flat.Flat.{Flat}
+use Rattle.log_pieces.specs.declared.flat.Flat.TheVariants as flat
 use Rattle.replay_laws.specs.declared.turn.Turn.TheVariants as turn
 use Rattle.replay_laws.specs.Log.{Log, HasLimits}
 use Rattle.replay_laws.specs.Turns.{turn_of, world_after_turn}

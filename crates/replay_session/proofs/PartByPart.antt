@@ -7,10 +7,10 @@ use Rattle.rw_objects.specs.Code.{Code, CodeLaws}
 use Rattle.event_core.specs.Threads.{all_steps}
 use Rattle.event_core.specs.World.{WorldAt}
 use Rattle.replay_laws.specs.Log.{Log}
-use Rattle.replay_breaks.specs.declared.breaks.Break.{Break}
-use Rattle.replay_breaks.specs.declared.breaks.Stopped.{Stopped}
-use Rattle.replay_breaks.specs.declared.breaks.Stopped.TheVariants as stopped
-use Rattle.replay_breaks.specs.Stops.{IsBehind, StopsAt}
+use Rattle.replay_gate.specs.declared.breaks.Break.{Break}
+use Rattle.replay_gate.specs.declared.breaks.Stopped.{Stopped}
+use Rattle.replay_gate.specs.declared.breaks.Stopped.TheVariants as stopped
+use Rattle.replay_gate.specs.Stops.{IsBehind, StopsAt}
 use Rattle.replay_session.specs.declared.legs.Leg.{Leg}
 use Rattle.replay_session.specs.declared.legs.Leg.TheVariants as leg
 use Rattle.replay_session.specs.Kept.{StandsBehind}

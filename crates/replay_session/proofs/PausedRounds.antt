@@ -11,11 +11,11 @@ use Rattle.replay_laws.specs.Log.{Log, HasLimits}
 use Rattle.replay_laws.specs.Ordered.{thread_of_turn, ordered_world}
 use Rattle.replay_laws.specs.Turns.{turn_of}
 use Rattle.replay_gate.proofs.Rounds.{turn_grows, turn_keeps}
-use Rattle.replay_breaks.specs.declared.breaks.Break.{Break}
-use Rattle.replay_breaks.specs.declared.running.Taken.{Taken}
-use Rattle.replay_breaks.specs.Rounds.{IsInRound}
-use Rattle.replay_breaks.specs.Stops.{is_step, is_held, TurnTakes}
-use Rattle.replay_breaks.proofs.Rounds.{steps_taken, below_next, at_start, turns_in, round_start, round_again, round_on, of_round, ends_so, sticks_so}
+use Rattle.replay_gate.specs.declared.breaks.Break.{Break}
+use Rattle.replay_gate.specs.declared.running.Taken.{Taken}
+use Rattle.replay_gate.specs.BreakRounds.{IsInRound}
+use Rattle.replay_gate.specs.Stops.{is_step, is_held, TurnTakes}
+use Rattle.replay_gate.proofs.BreakRoundsOn.{steps_taken, below_next, at_start, turns_in, round_start, round_again, round_on, of_round, ends_so, sticks_so}
 use Rattle.replay_session.specs.declared.paused.Paused.{Paused}
 use Rattle.replay_session.specs.declared.paused.Paused.TheVariants as paused
 use Rattle.replay_session.specs.Meets.{Untested}

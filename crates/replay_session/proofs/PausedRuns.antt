@@ -8,11 +8,11 @@ use Rattle.replay_laws.specs.Log.{Log, HasLimits}
 use Rattle.replay_laws.specs.Ordered.{thread_of_turn, ordered_world}
 use Rattle.replay_laws.specs.Turns.{turn_of, world_after_turn}
 use Rattle.replay_gate.specs.Leads.{Leads}
-use Rattle.replay_breaks.specs.declared.breaks.Break.{Break}
-use Rattle.replay_breaks.specs.declared.breaks.Stopped.{Stopped}
-use Rattle.replay_breaks.specs.declared.breaks.Stopped.TheVariants as stopped
-use Rattle.replay_breaks.specs.Stops.{StopsAt}
-use Rattle.replay_breaks.proofs.Recorded.{stops_right, stops_free}
+use Rattle.replay_gate.specs.declared.breaks.Break.{Break}
+use Rattle.replay_gate.specs.declared.breaks.Stopped.{Stopped}
+use Rattle.replay_gate.specs.declared.breaks.Stopped.TheVariants as stopped
+use Rattle.replay_gate.specs.Stops.{StopsAt}
+use Rattle.replay_gate.proofs.Recorded.{stops_right, stops_free}
 use Rattle.replay_session.specs.declared.paused.Met.TheVariants as met
 use Rattle.replay_session.specs.declared.paused.Paused.{Paused}
 use Rattle.replay_session.specs.declared.paused.Paused.TheVariants as paused

@@ -5,7 +5,7 @@ use Rattle.rw_objects.specs.Space.{Space}
 use Rattle.rw_objects.specs.Code.{Code, CodeLaws}
 use Rattle.event_core.specs.World.{WorldAt}
 use Rattle.replay_laws.specs.Log.{Log}
-use Rattle.replay_breaks.specs.declared.breaks.Break.{Break}
+use Rattle.replay_gate.specs.declared.breaks.Break.{Break}
 use Rattle.replay_session.specs.declared.legs.Leg.{Leg}
 use Rattle.replay_session.specs.declared.reverse.Hit.{Hit}
 use Rattle.replay_session.specs.Legs.{steps_of_way, first_steps}

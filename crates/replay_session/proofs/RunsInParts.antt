@@ -12,13 +12,13 @@ use Rattle.replay_laws.specs.Log.{Log}
 use Rattle.replay_laws.specs.Ordered.{thread_of_turn, ordered_world}
 use Rattle.replay_laws.specs.Turns.{turn_of}
 use Rattle.replay_gate.specs.Answers.{makes_step}
-use Rattle.replay_breaks.specs.declared.breaks.Break.{Break}
-use Rattle.replay_breaks.specs.declared.breaks.Break.TheVariants as break
-use Rattle.replay_breaks.specs.declared.breaks.Stopped.{Stopped}
-use Rattle.replay_breaks.specs.declared.breaks.Stopped.TheVariants as stopped
-use Rattle.replay_breaks.specs.Breaks.{Holds, NoneHits, FirstHits}
-use Rattle.replay_breaks.specs.Stops.{GoesOn, TurnStopsAt, IsBehind, StopsInTurn, RunsOut, StopsAt}
-use Rattle.replay_breaks.proofs.Rounds.{at_length, at_start, turn_on}
+use Rattle.replay_gate.specs.declared.breaks.Break.{Break}
+use Rattle.replay_gate.specs.declared.breaks.Break.TheVariants as break
+use Rattle.replay_gate.specs.declared.breaks.Stopped.{Stopped}
+use Rattle.replay_gate.specs.declared.breaks.Stopped.TheVariants as stopped
+use Rattle.replay_gate.specs.Breaks.{Holds, NoneHits, FirstHits}
+use Rattle.replay_gate.specs.Stops.{GoesOn, TurnStopsAt, IsBehind, StopsInTurn, RunsOut, StopsAt}
+use Rattle.replay_gate.proofs.BreakRoundsOn.{at_length, at_start, turn_on}
 use Rattle.replay_session.specs.Parts.{OfThread}
 use Rattle.replay_session.specs.Rounds.{RoundsGo}
 use Rattle.replay_session.proofs.RoundTurns.{some_made, same_thread, behind_rounds}

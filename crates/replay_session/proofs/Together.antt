@@ -9,11 +9,11 @@ use Rattle.replay_laws.specs.Log.{Log}
 use Rattle.replay_laws.specs.Ordered.{thread_of_turn, ordered_world}
 use Rattle.replay_laws.specs.Turns.{turn_of, world_after_turn}
 use Rattle.replay_gate.specs.LocalRounds.{RoundsLead}
-use Rattle.replay_breaks.specs.declared.breaks.Break.{Break}
-use Rattle.replay_breaks.specs.declared.breaks.Stopped.{Stopped}
-use Rattle.replay_breaks.specs.declared.breaks.Stopped.TheVariants as stopped
-use Rattle.replay_breaks.specs.Stops.{IsBehind, StopsAt}
-use Rattle.replay_breaks.proofs.LocalRounds.{behind_rounds}
+use Rattle.replay_gate.specs.declared.breaks.Break.{Break}
+use Rattle.replay_gate.specs.declared.breaks.Stopped.{Stopped}
+use Rattle.replay_gate.specs.declared.breaks.Stopped.TheVariants as stopped
+use Rattle.replay_gate.specs.Stops.{IsBehind, StopsAt}
+use Rattle.replay_gate.proofs.LocalRounds.{behind_rounds}
 use Rattle.replay_session.specs.Rounds.{RoundsGo}
 use Rattle.replay_session.specs.Ways.{TurnsLead}
 use Rattle.replay_session.proofs.RoundTurns.{few_made, some_made, turns_made}

@@ -6,8 +6,8 @@ use Rattle.event_core.specs.World.{WorldAt}
 use Rattle.replay_laws.specs.Log.{Log}
 use Rattle.replay_laws.specs.Turns.{turn_of, world_after_turn}
 use Rattle.replay_gate.specs.Answers.{makes_step}
-use Rattle.replay_breaks.specs.declared.breaks.Break.{Break}
-use Rattle.replay_breaks.specs.Breaks.{NoneHits, FirstHits}
+use Rattle.replay_gate.specs.declared.breaks.Break.{Break}
+use Rattle.replay_gate.specs.Breaks.{NoneHits, FirstHits}
 use Rattle.replay_session.specs.declared.paused.Met.{Met}
 use Rattle.replay_session.specs.declared.paused.Met.TheVariants as met
 

@@ -1,9 +1,9 @@
 -- Runs to breaks that are made in parts.
 use Rattle.std.specs.Prelude.{◌≡◌, ℕ, Bool, false, nat_le, List, ◌++◌, Some, slice_get}
-use Rattle.replay_breaks.specs.declared.breaks.Break.{Break}
-use Rattle.replay_breaks.specs.declared.breaks.Break.TheVariants as break
-use Rattle.replay_breaks.specs.declared.breaks.Stopped.{Stopped}
-use Rattle.replay_breaks.specs.declared.breaks.Stopped.TheVariants as stopped
+use Rattle.replay_gate.specs.declared.breaks.Break.{Break}
+use Rattle.replay_gate.specs.declared.breaks.Break.TheVariants as break
+use Rattle.replay_gate.specs.declared.breaks.Stopped.{Stopped}
+use Rattle.replay_gate.specs.declared.breaks.Stopped.TheVariants as stopped
 
 -- a break that holds behind turns of this thread alone
 abbrev pub OfThread : ℕ → Break → Type 0

@@ -11,10 +11,10 @@ use Rattle.replay_laws.specs.Gates.{IsFinished}
 use Rattle.replay_laws.specs.Ordered.{thread_of_turn, ordered_world}
 use Rattle.replay_laws.specs.Turns.{turn_of, world_after_turn}
 use Rattle.replay_gate.specs.declared.answers.ReplayFault.TheVariants as fault
-use Rattle.replay_breaks.specs.declared.breaks.Break.{Break}
-use Rattle.replay_breaks.specs.declared.breaks.Stopped.{Stopped}
-use Rattle.replay_breaks.specs.declared.breaks.Stopped.TheVariants as stopped
-use Rattle.replay_breaks.specs.Stops.{TurnStopsAt, IsBehind, RunsOut, StopsAt}
+use Rattle.replay_gate.specs.declared.breaks.Break.{Break}
+use Rattle.replay_gate.specs.declared.breaks.Stopped.{Stopped}
+use Rattle.replay_gate.specs.declared.breaks.Stopped.TheVariants as stopped
+use Rattle.replay_gate.specs.Stops.{TurnStopsAt, IsBehind, RunsOut, StopsAt}
 use Rattle.replay_session.specs.declared.paused.Met.TheVariants as met
 use Rattle.replay_session.specs.declared.paused.Paused.{Paused}
 use Rattle.replay_session.specs.declared.paused.Paused.TheVariants as paused

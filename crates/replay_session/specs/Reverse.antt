@@ -8,7 +8,7 @@ use Rattle.replay_laws.specs.Log.{Log}
 use Rattle.replay_laws.specs.Ordered.{thread_of_turn, ordered_world}
 use Rattle.replay_laws.specs.Turns.{turn_of, world_after_turn}
 use Rattle.replay_gate.specs.Answers.{makes_step}
-use Rattle.replay_breaks.specs.declared.breaks.Break.{Break}
+use Rattle.replay_gate.specs.declared.breaks.Break.{Break}
 use Rattle.replay_session.specs.declared.legs.Leg.{Leg}
 use Rattle.replay_session.specs.declared.legs.Leg.TheVariants as leg
 use Rattle.replay_session.specs.declared.paused.Met.{Met}

@@ -11,8 +11,8 @@ use Rattle.event_core.specs.Opening.{IsOpeningWorld}
 use Rattle.event_core.specs.Run.{world_run}
 use Rattle.event_core.specs.Threads.{ThreadAt}
 use Rattle.event_core.specs.World.{WorldAt}
-use Rattle.join_laws.specs.declared.flat.Flat.{Flat}
-use Rattle.join_laws.specs.declared.flat.Flat.TheVariants.{Known, Clash}
+use Rattle.log_pieces.specs.declared.flat.Flat.{Flat}
+use Rattle.log_pieces.specs.declared.flat.Flat.TheVariants.{Known, Clash}
 use Rattle.replay_laws.specs.Gates.{IsGatedRun}
 use Rattle.replay_laws.specs.Log.{Log}
 

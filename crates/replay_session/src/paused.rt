@@ -3,8 +3,7 @@
 ghost use Rattle.std.specs.Prelude.{◌≡◌};
 ghost use Rattle.replay_session.specs.Pauses.{paused_of};
 
-use replay_breaks::Stopped;
-use replay_gate::ReplayFault;
+use replay_gate::{ReplayFault, Stopped};
 
 /// What holds behind a step.
 #[derive(Clone, Copy, Debug, PartialEq, Eq)]

@@ -2,14 +2,13 @@
 
 ghost use Rattle.std.specs.Prelude.{◌≡◌, IfOk, IfErr};
 ghost use Rattle.event_core.specs.World.{world_of};
-ghost use Rattle.replay_breaks.specs.Stops.{is_step, is_held, TurnTakes};
+ghost use Rattle.replay_gate.specs.Stops.{is_step, is_held, TurnTakes};
 ghost use Rattle.replay_session.specs.Meets.{Untested};
 ghost use Rattle.replay_session.specs.Pauses.{TurnPausesAt, PausesAt};
 
 use crate::paused::{Met, Paused, paused_of};
 use crate::test::Test;
-use replay_breaks::{Break, Taken, turn_to};
-use replay_gate::{OpenWorld, ReadLog, Replay};
+use replay_gate::{Break, OpenWorld, ReadLog, Replay, Taken, turn_to};
 use rw_objects::{Machine, ObjectSpace};
 use std::alloc::Global;
 

@@ -2,8 +2,8 @@
 
 ghost use Rattle.std.specs.Prelude.{◌≡◌, ◌+◌, ◌≤◌, ◌++◌, ℕ, List, [], IfOk, length, slice_get, true};
 ghost use Rattle.event_core.specs.World.{world_of};
-ghost use Rattle.replay_breaks.specs.declared.breaks.Break.{Break};
-ghost use Rattle.replay_breaks.specs.Stops.{StopsAt, StopsRight, StopsFree};
+ghost use Rattle.replay_gate.specs.declared.breaks.Break.{Break};
+ghost use Rattle.replay_gate.specs.Stops.{StopsAt, StopsRight, StopsFree};
 ghost use Rattle.replay_session.specs.Parts.{HasParts, is_part};
 ghost use Rattle.replay_session.specs.Ways.{WayLeads};
 
@@ -11,8 +11,7 @@ use crate::keeps::Keeps;
 use crate::legs::Leg;
 use crate::sums::steps_of_world;
 use event_core::World;
-use replay_breaks::{Break, Stopped, run_to};
-use replay_gate::{OpenWorld, ReadLog, Replay};
+use replay_gate::{Break, OpenWorld, ReadLog, Replay, Stopped, run_to};
 use rw_objects::{CopiedSpace, Machine, ObjectSpace};
 use std::alloc::Global;
 use wasm_types::NoMemory;

@@ -13,8 +13,8 @@ use Rattle.event_core.specs.Opening.{IsOpeningWorld, opening_world}
 use Rattle.event_core.specs.World.{WorldAt}
 use Rattle.event_core.proofs.Opens.{opening_is_opening}
 use Rattle.log_pieces.specs.declared.end.End.{End}
-use Rattle.join_laws.specs.declared.flat.Flat.{Flat}
-use Rattle.join_laws.specs.declared.flat.Flat.TheVariants.{Known, Clash}
+use Rattle.log_pieces.specs.declared.flat.Flat.{Flat}
+use Rattle.log_pieces.specs.declared.flat.Flat.TheVariants.{Known, Clash}
 use Rattle.replay_laws.specs.Log.{Log, HasLimits}
 use Rattle.scripted.specs.declared.op.ScriptStep.{ScriptStep}
 use Rattle.scripted.specs.Cells.{cell_values}

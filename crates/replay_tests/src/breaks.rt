@@ -2,8 +2,7 @@
 
 use crate::logs::{Accesses, ClaimedLog, SCRIPTS, Scripts};
 use event_core::World;
-use replay_breaks::{Break, Every, ObjectRange, Stopped, run_to};
-use replay_gate::{OpenWorld, Replay, ReplayFault};
+use replay_gate::{Break, Every, ObjectRange, OpenWorld, Replay, ReplayFault, Stopped, run_to};
 use rw_objects::Found;
 use scripted::{Cells, Script};
 use std::alloc::Global;

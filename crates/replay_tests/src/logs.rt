@@ -4,8 +4,7 @@ ghost use Rattle.std.specs.Prelude.{◌≡◌, ◌≤◌, ⊤, length, map};
 ghost use Rattle.replay_tests.specs.Claimed.{claimed, few, scripts_world, scripts_open};
 
 use event_core::{Ended, World};
-use join_laws::Flat;
-use log_pieces::End;
+use log_pieces::{End, Flat};
 use replay_gate::{OpenWorld, ReadLog};
 use rw_objects::{Entry, Few, Found, Kind};
 use scripted::{Cell, CellOp, Cells, Script, ScriptStep, open_scripts};

@@ -4,8 +4,7 @@
 
 use crate::breaks::{ACCESSES, SUMS};
 use crate::logs::{ClaimedLog, SCRIPTS, Scripts};
-use replay_breaks::{Stopped, run_to};
-use replay_gate::{OpenWorld, Replay, ReplayFault, Turned};
+use replay_gate::{OpenWorld, Replay, ReplayFault, Stopped, Turned, run_to};
 use scripted::{Cells, Script};
 use std::alloc::Global;
 use std::process::Abort;

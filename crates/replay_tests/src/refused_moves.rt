@@ -4,8 +4,7 @@
 use crate::breaks::{ACCESSES, SUMS};
 use crate::resting::scripts;
 use crate::sessions::{LentLog, Made, OfScripts, Seen, ThreeScripts, all_steps, log_of, look};
-use replay_breaks::{Break, Stopped};
-use replay_gate::{ReplayFault, Turned};
+use replay_gate::{Break, ReplayFault, Stopped, Turned};
 use replay_session::{Ceased, Leg, Met, Paused, Session};
 use std::alloc::Global;
 use std::process::Abort;

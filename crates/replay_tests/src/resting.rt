@@ -4,8 +4,7 @@ ghost use Rattle.std.specs.Prelude.{⊤};
 ghost use Rattle.replay_tests.specs.Resting.{resting, few_rested};
 
 use crate::logs::ClaimedLog;
-use join_laws::Flat;
-use log_pieces::End;
+use log_pieces::{End, Flat};
 use replay_gate::ReadLog;
 use rw_objects::Entry;
 use scripted::{Cell, CellOp, ScriptStep};

@@ -11,12 +11,13 @@ use crate::breaks::{ACCESSES, SUMS};
 use crate::logs::{Accesses, ClaimedLog};
 use crate::resting::{RestingLog, scripts};
 use event_core::World;
-use join_laws::Flat;
-use log_pieces::End;
+use log_pieces::{End, Flat};
 use rand_core::utils::NextWord;
 use rand_pcg::Pcg32;
-use replay_breaks::{Break, Every, ObjectRange, Stopped, Taken, run_to, turn_to};
-use replay_gate::{OpenWorld, ReadLog, Replay, ReplayFault, Turned};
+use replay_gate::{
+    Break, Every, ObjectRange, OpenWorld, ReadLog, Replay, ReplayFault, Stopped, Taken, Turned,
+    run_to, turn_to,
+};
 use replay_session::{Ceased, Gone, Leg, Met, Paused, Session, Test};
 use rw_objects::{Count, Entry, Found, Versions};
 use scripted::{Cells, Script, ScriptStep, open_scripts};

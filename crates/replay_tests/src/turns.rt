@@ -6,8 +6,9 @@ use crate::breaks::{ACCESSES, SUMS};
 use crate::logs::{Accesses, ClaimedLog, Scripts};
 use crate::resting::{RestingLog, scripts};
 use event_core::World;
-use replay_breaks::{Break, Every, ObjectRange, Stopped, run_to};
-use replay_gate::{OpenWorld, Replay, ReplayFault, Turned};
+use replay_gate::{
+    Break, Every, ObjectRange, OpenWorld, Replay, ReplayFault, Stopped, Turned, run_to,
+};
 use rw_objects::{Count, Versions};
 use scripted::{Cells, Script, ScriptStep};
 use std::alloc::Global;

@@ -6,8 +6,8 @@ use Rattle.std.proofs.lemmas.Bool.{cases_lt}
 use Rattle.std.proofs.lemmas.Option.{slice_get_past, slice_get_cases}
 use Rattle.rw_objects.specs.declared.entry.Entry.{Entry}
 use Rattle.log_pieces.specs.declared.end.End.{End}
-use Rattle.join_laws.specs.declared.flat.Flat.TheVariants.{Known}
-use Rattle.join_laws.specs.Keyed.{value_at}
+use Rattle.log_pieces.specs.declared.flat.Flat.TheVariants.{Known}
+use Rattle.log_pieces.specs.Keyed.{value_at}
 use Rattle.replica.specs.declared.thread_log.ThreadLog.{ThreadLog}
 use Rattle.replica.specs.declared.log.Log.{Log}
 use Rattle.replica.specs.Log.{entry_at, end_at}

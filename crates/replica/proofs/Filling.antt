@@ -4,9 +4,9 @@ use Rattle.std.specs.Prelude.{IsTrue, nat_eq}
 use Rattle.std.specs.Ordering.{nat_cmp}
 use Rattle.std.proofs.lemmas.Bool.{cases_lt}
 use Rattle.rw_objects.specs.declared.entry.Entry.{Entry}
-use Rattle.join_laws.specs.declared.flat.Flat.{Flat}
-use Rattle.join_laws.specs.declared.flat.Flat.TheVariants.{Known, Clash}
-use Rattle.join_laws.specs.Keyed.{value_at}
+use Rattle.log_pieces.specs.declared.flat.Flat.{Flat}
+use Rattle.log_pieces.specs.declared.flat.Flat.TheVariants.{Known, Clash}
+use Rattle.log_pieces.specs.Keyed.{value_at}
 use Rattle.replica.specs.Flats.{is_clash}
 use Rattle.replica.specs.Counts.{IsFilled}
 use Rattle.replica.proofs.Counting.{Rises, after_places, same_place, nothing_at}

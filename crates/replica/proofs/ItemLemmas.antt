@@ -4,15 +4,15 @@ use Rattle.std.specs.BTreeMap.{is_at}
 use Rattle.std.specs.Ordering.{nat_cmp}
 use Rattle.rw_objects.specs.declared.entry.Entry.{Entry}
 use Rattle.rw_objects.specs.Decides.{entry_decides}
-use Rattle.join_laws.specs.declared.flat.Flat.{Flat}
-use Rattle.join_laws.specs.declared.flat.Flat.TheVariants.{Known}
-use Rattle.join_laws.specs.Flat.{flat_joined}
-use Rattle.join_laws.specs.FlatLaws.{flat_laws}
-use Rattle.join_laws.specs.Join.{IsJoin}
-use Rattle.join_laws.specs.Keyed.{value_at, option_joined, option_same, keyed_same, keyed_joined, keyed_partly}
-use Rattle.join_laws.specs.KeyedLaws.{value_at-keyed_joined}
+use Rattle.log_pieces.specs.declared.flat.Flat.{Flat}
+use Rattle.log_pieces.specs.declared.flat.Flat.TheVariants.{Known}
+use Rattle.log_pieces.specs.Flat.{flat_joined}
+use Rattle.log_pieces.specs.FlatLaws.{flat_laws}
+use Rattle.log_pieces.specs.Join.{IsJoin}
+use Rattle.log_pieces.specs.Keyed.{value_at, option_joined, option_same, keyed_same, keyed_joined, keyed_partly}
+use Rattle.log_pieces.specs.KeyedLaws.{value_at-keyed_joined}
 use Rattle.std.proofs.lemmas.Map.Lookups.{CmpEqualImpliesEq}
-use Rattle.join_laws.proofs.Entries.{one_unchanged}
+use Rattle.log_pieces.proofs.Entries.{one_unchanged}
 use Rattle.replica.specs.Items.{entry_eq, placed, EntriesJoined}
 
 pub nat_exact : CmpEqualImpliesEq nat_cmp

@@ -10,13 +10,13 @@ use Rattle.rw_objects.specs.Decides.{entry_decides}
 use Rattle.log_pieces.specs.declared.end.End.{End}
 use Rattle.log_pieces.specs.Decides.{end_decides}
 use Rattle.log_pieces.specs.Piece.{PieceValue}
-use Rattle.join_laws.specs.declared.flat.Flat.{Flat}
-use Rattle.join_laws.specs.declared.flat.Flat.TheVariants.{Known}
-use Rattle.join_laws.specs.Flat.{flat_joined}
-use Rattle.join_laws.specs.FlatLaws.{flat_laws}
-use Rattle.join_laws.specs.Keyed.{value_at, option_joined}
-use Rattle.join_laws.specs.OptionLaws.{option_associative, option_idempotent}
-use Rattle.join_laws.proofs.AgreedLaws.{agreed_like, agreed_once}
+use Rattle.log_pieces.specs.declared.flat.Flat.{Flat}
+use Rattle.log_pieces.specs.declared.flat.Flat.TheVariants.{Known}
+use Rattle.log_pieces.specs.Flat.{flat_joined}
+use Rattle.log_pieces.specs.FlatLaws.{flat_laws}
+use Rattle.log_pieces.specs.Keyed.{value_at, option_joined}
+use Rattle.log_pieces.specs.OptionLaws.{option_associative, option_idempotent}
+use Rattle.log_pieces.proofs.AgreedLaws.{agreed_like, agreed_once}
 use Rattle.replica.specs.declared.log.Log.{Log}
 use Rattle.replica.specs.Log.{entry_at, end_at}
 use Rattle.replica.specs.Items.{entry_eq, end_eq, placed}

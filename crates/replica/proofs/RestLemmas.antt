@@ -9,7 +9,7 @@ use Rattle.wasm_types.specs.declared.key.RunKey.{RunKey}
 use Rattle.log_pieces.specs.Piece.{PieceValue, IsPiece}
 use Rattle.log_pieces.specs.Widths.{Fits}
 use Rattle.log_pieces.specs.Line.{line_of, IsLineOf}
-use Rattle.join_laws.proofs.AgreedLaws.{agreed_like}
+use Rattle.log_pieces.proofs.AgreedLaws.{agreed_like}
 use Rattle.replica.specs.declared.log.Log.{Log}
 use Rattle.replica.specs.Log.{key_of}
 use Rattle.replica.specs.LogOf.{IsLogOf, Among, ClaimsEntry, ClaimsEnd}

@@ -6,8 +6,8 @@ use Rattle.rw_objects.specs.declared.entry.Entry.{Entry}
 use Rattle.rw_objects.specs.declared.touch.Found.{Found}
 use Rattle.rw_objects.specs.declared.touch.Found.TheVariants.{Read, Write}
 use Rattle.log_pieces.specs.declared.end.End.{End}
-use Rattle.join_laws.specs.declared.flat.Flat.{Flat}
-use Rattle.join_laws.specs.declared.flat.Flat.TheVariants as flat
+use Rattle.log_pieces.specs.declared.flat.Flat.{Flat}
+use Rattle.log_pieces.specs.declared.flat.Flat.TheVariants as flat
 use Rattle.replica.specs.declared.log.Log.{Log}
 use Rattle.replica.specs.Log.{items_at, end_at}
 use Rattle.replica.specs.declared.diverging.Diverging.{Diverging}

@@ -8,8 +8,8 @@ use Rattle.rw_objects.specs.declared.entry.Entry.{Entry}
 use Rattle.rw_objects.specs.Text.{entry_text}
 use Rattle.log_pieces.specs.declared.end.End.{End}
 use Rattle.log_pieces.specs.Text.{end_text}
-use Rattle.join_laws.specs.declared.flat.Flat.{Flat}
-use Rattle.join_laws.specs.declared.flat.Flat.TheVariants.{Known, Clash}
+use Rattle.log_pieces.specs.declared.flat.Flat.{Flat}
+use Rattle.log_pieces.specs.declared.flat.Flat.TheVariants.{Known, Clash}
 use Rattle.replica.specs.declared.thread_log.ThreadLog.{ThreadLog}
 use Rattle.replica.specs.declared.log.Log.{Log}
 use Rattle.replica.specs.Counts.{ends, missing, strays, clashes}

@@ -4,8 +4,8 @@ use Rattle.std.specs.Ordering.{nat_cmp}
 use Rattle.wasm_types.specs.declared.key.RunKey.{RunKey}
 use Rattle.rw_objects.specs.declared.entry.Entry.{Entry}
 use Rattle.log_pieces.specs.declared.end.End.{End}
-use Rattle.join_laws.specs.declared.flat.Flat.{Flat}
-use Rattle.join_laws.specs.Keyed.{value_at}
+use Rattle.log_pieces.specs.declared.flat.Flat.{Flat}
+use Rattle.log_pieces.specs.Keyed.{value_at}
 use Rattle.replica.specs.declared.thread_log.ThreadLog.{ThreadLog}
 use Rattle.replica.specs.declared.log.Log.{Log}
 use Rattle.replica.specs.declared.replica.Replica.{Replica}

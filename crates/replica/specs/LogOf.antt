@@ -7,11 +7,11 @@ use Rattle.std.specs.Map.{keys_of}
 use Rattle.rw_objects.specs.declared.entry.Entry.{Entry}
 use Rattle.log_pieces.specs.declared.end.End.{End}
 use Rattle.log_pieces.specs.Piece.{PieceValue}
-use Rattle.join_laws.specs.declared.flat.Flat.{Flat}
-use Rattle.join_laws.specs.declared.flat.Flat.TheVariants.{Known}
-use Rattle.join_laws.specs.Flat.{flat_joined}
-use Rattle.join_laws.specs.Keyed.{value_at, option_joined}
-use Rattle.join_laws.specs.Agreed.{IsAgreed}
+use Rattle.log_pieces.specs.declared.flat.Flat.{Flat}
+use Rattle.log_pieces.specs.declared.flat.Flat.TheVariants.{Known}
+use Rattle.log_pieces.specs.Flat.{flat_joined}
+use Rattle.log_pieces.specs.Keyed.{value_at, option_joined}
+use Rattle.log_pieces.specs.Agreed.{IsAgreed}
 use Rattle.wasm_types.specs.declared.sizes.TheConstants.{MOST_THREADS}
 use Rattle.replica.specs.declared.thread_log.ThreadLog.{ThreadLog}
 use Rattle.replica.specs.declared.log.Log.{Log}

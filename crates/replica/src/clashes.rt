@@ -7,7 +7,7 @@ ghost use Rattle.replica.specs.Divergence.{clash_of_item, clash_of_end};
 
 use crate::diverging::Diverging;
 use crate::log::Log;
-use join_laws::Flat;
+use log_pieces::Flat;
 use wasm_types::NoMemory;
 
 /// Adds the places of a thread whose entry clashes, by rising place.

@@ -5,8 +5,7 @@ ghost use Rattle.replica.specs.Counts.{thread_missing, thread_strays, thread_cla
 ghost use Rattle.replica.specs.Flats.{is_clash};
 
 use crate::thread_log::{ThreadLog, place_of};
-use join_laws::{Flat, PackedClaim};
-use log_pieces::End;
+use log_pieces::{End, Flat, PackedClaim};
 use rw_objects::Entry;
 
 /// What is missing, stray or claimed differently, of a thread or of all.

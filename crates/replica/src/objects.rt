@@ -8,7 +8,7 @@ ghost use Rattle.replica.specs.Objects.{block_first, range_text, object_text, to
 use crate::room::Room;
 use arrayvec::ArrayString;
 use itoa::Buffer;
-use join_laws::{Flat, PackedClaim};
+use log_pieces::{Flat, PackedClaim};
 use rw_objects::Entry;
 use wasm_types::Block;
 

@@ -7,7 +7,7 @@ ghost use Rattle.replica.specs.Divergence.{write_of, writes_of_item};
 
 use crate::diverging::EventAt;
 use crate::log::Log;
-use join_laws::Flat;
+use log_pieces::Flat;
 use rw_objects::{Entry, Found};
 use wasm_types::NoMemory;
 

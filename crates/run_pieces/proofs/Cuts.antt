@@ -5,7 +5,7 @@ use Rattle.std.specs.Prelude.{option_map, option_and_then}
 use Rattle.std.proofs.lemmas.Option.{cond_some, slice_get_within}
 use Rattle.wasm_types.specs.declared.key.RunKey.{RunKey}
 use Rattle.rw_objects.specs.declared.entry.Entry.{Entry}
-use Rattle.join_laws.specs.declared.flat.Flat.TheVariants.{Known}
+use Rattle.log_pieces.specs.declared.flat.Flat.TheVariants.{Known}
 use Rattle.log_pieces.specs.declared.end.End.{End}
 use Rattle.log_pieces.specs.Piece.{PieceValue}
 use Rattle.replica.specs.LogOf.{ClaimsEntry, ClaimsEnd, Among}

@@ -2,9 +2,9 @@
 use Rattle.std.proofs.Common.{◌≡◌, ℕ, ◌+◌, ◌-◌, List, Option, Some, None, refl, sym, ap, ◌∙◌, arith, inl}
 use Rattle.wasm_types.specs.declared.key.RunKey.{RunKey}
 use Rattle.rw_objects.specs.declared.entry.Entry.{Entry}
-use Rattle.join_laws.specs.declared.flat.Flat.{Flat}
-use Rattle.join_laws.specs.declared.flat.Flat.TheVariants.{Known, Clash}
-use Rattle.join_laws.specs.Agreed.{IsAgreed}
+use Rattle.log_pieces.specs.declared.flat.Flat.{Flat}
+use Rattle.log_pieces.specs.declared.flat.Flat.TheVariants.{Known, Clash}
+use Rattle.log_pieces.specs.Agreed.{IsAgreed}
 use Rattle.log_pieces.specs.declared.end.End.{End}
 use Rattle.log_pieces.specs.Piece.{PieceValue}
 use Rattle.replica.specs.LogOf.{ClaimsEntry, ClaimsEnd, Among}

@@ -3,7 +3,7 @@ use Rattle.std.proofs.Common.{◌≡◌, ℕ, ◌+◌, ◌<◌, ◌≤◌, ◌==
 use Rattle.std.proofs.lemmas.Bool.Decides.{nat_tests}
 use Rattle.shared_parts.specs.declared.call.Call.{Call}
 use Rattle.shared_parts.specs.Calls.{Part, part_of, IsNumbered, AreParts, AreWithin, calls_of}
-use Rattle.shared_journal.proofs.Grows.{within_length, within_whole}
+use Rattle.shared_parts.proofs.Grows.{within_length, within_whole}
 
 module _ {O R : Type 0} where
   -- how many of the seats have this number

@@ -6,8 +6,8 @@ use Rattle.rw_objects.specs.Space.{Space, is_ready}
 use Rattle.rw_objects.specs.Memory.{Memory, entry_of}
 use Rattle.shared_parts.specs.declared.call.Call.{Call}
 use Rattle.shared_parts.specs.Calls.{IsLegalHistory, IsWithin, Part, call, memory_after_calls, part_of}
-use Rattle.shared_journal.specs.declared.tried.Tried.{Tried}
-use Rattle.shared_journal.specs.Tries.{IfDone, IfShut, IfNotReady, IsDone}
+use Rattle.shared_parts.specs.declared.tried.Tried.{Tried}
+use Rattle.shared_parts.specs.Tries.{IfDone, IfShut, IfNotReady, IsDone}
 
 module _ {Op Reply Value Fixed : Type 0} (space : Space Op Reply Value Fixed) (m : Memory Value Fixed) (op : Op) where
   -- the call was not ready in the space to which a legal history leads, in which the seat's calls stand

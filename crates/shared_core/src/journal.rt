@@ -9,8 +9,7 @@ ghost use Rattle.shared_core.specs.Resting.{none_goes};
 use crate::gates::{Gates, Seats, first_shut};
 use crate::resting::Resting;
 use rw_objects::{Entry, Touches};
-use shared_journal::Held;
-use shared_parts::{Opening, Striped};
+use shared_parts::{Held, Opening, Striped};
 
 /// The journal with the versions of all objects, which seats can go on, and before which gates seats wait.
 #[derive(Drop)]

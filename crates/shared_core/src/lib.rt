@@ -42,5 +42,4 @@ pub use close::History;
 pub use hold::{Hold, Unkept};
 pub use opened::Opened;
 pub use shared::Shared;
-pub use shared_journal::{Seat, Tried};
-pub use shared_parts::{Opening, Striped};
+pub use shared_parts::{Opening, Seat, Striped, Tried};

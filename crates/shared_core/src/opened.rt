@@ -19,10 +19,9 @@ use crate::waking::Conditions;
 use crossbeam_utils::CachePadded;
 use log_pieces::PackedEntries;
 use rw_objects::{ObjectSpace, Versions};
-use shared_journal::{Held, Seat};
 use shared_parts::{
-    Call, CallLedger, Eight, Lane, Opening, Pile, Reached, SecondHalf, Stripe, Striped, Unnamed,
-    UnnamedNumber, Written,
+    Call, CallLedger, Eight, Held, Lane, Opening, Pile, Reached, Seat, SecondHalf, Stripe, Striped,
+    Unnamed, UnnamedNumber, Written,
 };
 use std::alloc::Global;
 use std::boxed::Box;

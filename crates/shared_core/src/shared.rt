@@ -4,7 +4,7 @@ ghost use Rattle.std.specs.Prelude.{◌≡◌, ℕ, ◌∷◌, ◌++◌, [], IfO
 ghost use Rattle.rw_objects.specs.Space.{Fits};
 ghost use Rattle.shared_parts.specs.Cut.{decision_at};
 ghost use Rattle.shared_parts.specs.Calls.{call};
-ghost use Rattle.shared_journal.specs.Tries.{IfDone, IfShut, IfNotReady, IsDone};
+ghost use Rattle.shared_parts.specs.Tries.{IfDone, IfShut, IfNotReady, IsDone};
 ghost use Rattle.shared_core.specs.Tries.{IsTry, WasNotReady, WasNotReadyAt, WasAnother};
 
 use crate::hold::Hold;
@@ -17,8 +17,7 @@ use crate::resting::Wakes;
 use crate::waking::Conditions;
 use crossbeam_utils::CachePadded;
 use rw_objects::{Entry, ObjectSpace, Touches};
-use shared_journal::{Seat, Tried, decide_one};
-use shared_parts::{Keeps, Opening, Striped};
+use shared_parts::{Keeps, Opening, Seat, Striped, Tried, decide_one};
 use std::alloc::Global;
 use std::sync::{Mutex, Wait};
 use wasm_types::{MOST_THREADS, NoMemory};

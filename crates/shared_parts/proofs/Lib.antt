@@ -5,3 +5,5 @@ pub mod Wholes
 pub mod Ghost
 pub mod Sent
 pub mod Walks
+pub mod Grows
+pub mod Enters

@@ -7,3 +7,4 @@ pub mod Ones
 pub mod Cut
 pub mod Parts
 pub mod Owned
+pub mod Tries

@@ -6,9 +6,7 @@ use crate::walk::{Line, lines};
 use rw_objects::{Entry, Mode};
 use scripted::{Cell, CellOp, Cells};
 use shared_core::{History, Opened, Shared, Unkept};
-use shared_journal::{Seat, Tried};
-use shared_parts::Opening;
-use shared_threads::{Work, run_threads};
+use shared_parts::{Opening, Seat, Tried};
 use std::alloc::Global;
 use std::marker::Brand;
 use std::process::Abort;
@@ -16,6 +14,7 @@ use std::sync::Wait;
 use std::test::Fail;
 use std::thread::Threads;
 use wasm_types::NoMemory;
+use workers::{Work, run_threads};
 
 /// How many calls each thread makes.
 const CALLS: u32 = 10_000;

@@ -10,14 +10,13 @@ use crate::memory::run;
 use crate::walk::compare;
 use block_objects::{MemoryLimits, ObjectValue};
 use shared_core::{Shared, Unkept};
-use shared_journal::{Seat, Tried};
-use shared_parts::Opening;
-use shared_threads::Work;
+use shared_parts::{Opening, Seat, Tried};
 use std::alloc::Global;
 use std::sync::Wait;
 use std::test::Fail;
 use striped_memory::StripedMemory;
 use wasm_types::{Action, NoMemory, Reply};
+use workers::Work;
 
 /// How many calls the thread makes.
 const CALLS: u32 = 300;

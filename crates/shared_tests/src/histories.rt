@@ -8,13 +8,12 @@ use crate::memory::run;
 use crate::walk::compare;
 use block_objects::{MemoryLimits, ObjectValue};
 use shared_core::{Shared, Unkept};
-use shared_journal::{Seat, Tried};
-use shared_parts::Opening;
-use shared_threads::Work;
+use shared_parts::{Opening, Seat, Tried};
 use std::alloc::Global;
 use std::sync::Wait;
 use std::test::Fail;
 use striped_memory::StripedMemory;
+use workers::Work;
 
 /// How many calls each thread makes.
 const CALLS: u32 = 10_000;

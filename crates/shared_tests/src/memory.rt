@@ -5,7 +5,6 @@ ghost use Rattle.shared_tests.specs.Limits.{test_limits};
 
 use block_objects::MemoryLimits;
 use shared_core::{History, Opened};
-use shared_threads::{Work, run_threads};
 use std::alloc::Global;
 use std::marker::Brand;
 use std::sync::Wait;
@@ -13,6 +12,7 @@ use std::thread::Threads;
 use striped_memory::StripedMemory;
 use waiter_queues::SharedSpace;
 use wasm_types::{Block, NoMemory};
+use workers::{Work, run_threads};
 
 /// One page in blocks of 64 bytes, which does not grow.
 pub(crate) fn limits() -> MemoryLimits

@@ -8,13 +8,12 @@ use crate::meeting::Meeting;
 use crate::memory::run;
 use block_objects::{MemoryLimits, ObjectValue};
 use shared_core::Shared;
-use shared_journal::{Seat, Tried};
-use shared_parts::Opening;
-use shared_threads::Work;
+use shared_parts::{Opening, Seat, Tried};
 use std::alloc::Global;
 use std::sync::Wait;
 use std::test::Fail;
 use striped_memory::StripedMemory;
+use workers::Work;
 
 /// Each thread waits for the other, and then loads the same number; while it holds its part it waits for the other
 /// again.

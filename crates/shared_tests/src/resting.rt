@@ -8,9 +8,7 @@ use crate::calls::{action, enter};
 use crate::memory::{limits, run};
 use block_objects::{MemoryLimits, ObjectValue};
 use shared_core::{Opened, Shared, Unkept};
-use shared_journal::{Seat, Tried};
-use shared_parts::{Opening, Striped};
-use shared_threads::Work;
+use shared_parts::{Opening, Seat, Striped, Tried};
 use std::alloc::Global;
 use std::marker::Brand;
 use std::sync::Wait;
@@ -20,6 +18,7 @@ use std::thread::Threads;
 use striped_memory::StripedMemory;
 use waiter_queues::SharedSpace;
 use wasm_types::NoMemory;
+use workers::Work;
 
 /// How many calls a thread makes before it rests or leaves.
 const CALLS: u32 = 100;

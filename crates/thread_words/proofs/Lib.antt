@@ -1,3 +1,18 @@
+pub mod Frames
+mod SimpleSteps
+mod Landing
+mod Steps
+mod Jumps
+mod TypedBlocks
+mod Safety
+mod Reaching
+pub mod Beginning
+pub mod Threads
+pub mod Few
+pub mod Acts
+pub mod AsksWithin
+pub mod Machine
+pub mod Runs
 pub mod Lists
 pub mod Ranges
 pub mod Here

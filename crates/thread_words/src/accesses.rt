@@ -6,8 +6,8 @@ ghost use Rattle.wasm_types.specs.declared.instruction.Instr.TheVariants.{Memory
 ghost use Rattle.wasm_types.specs.declared.instruction.AtomicOp.TheVariants.{Notify, Wait, Load as AtomicLoad, Store as AtomicStore, Rmw, CompareExchange};
 ghost use Rattle.wasm_types.specs.Accesses.{exponent_of};
 ghost use Rattle.wasm_types.specs.Widths.{width_of};
-ghost use Rattle.thread_step.specs.Instance.{Instance as InstanceRecord};
-ghost use Rattle.thread_step.specs.Effect.{within_capacity, atomically, atomic_load};
+ghost use Rattle.thread_words.specs.Instance.{Instance as InstanceRecord};
+ghost use Rattle.thread_words.specs.Effect.{within_capacity, atomically, atomic_load};
 ghost use Rattle.thread_words.specs.Words.{instance_at};
 ghost use Rattle.thread_words.specs.Accesses.{takes_of, IsAccess, HasOperands, Tests, AsksBy, CanMove, Asks};
 

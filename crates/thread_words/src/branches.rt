@@ -4,8 +4,8 @@ ghost use Rattle.std.specs.Prelude.{◌≡◌, ℕ, ◌+◌, ◌-◌, ◌<◌, �
 ghost use Rattle.wasm_types.specs.declared.instruction.Instr.TheVariants.{Index, BranchTable};
 ghost use Rattle.wasm_types.specs.declared.instruction.IndexOp.TheVariants.{Branch, BranchIf};
 ghost use Rattle.validator.specs.Context.{labels_in};
-ghost use Rattle.thread_step.specs.Step.{chosen_label};
-ghost use Rattle.thread_step.specs.Thread.{Function, function_at};
+ghost use Rattle.thread_words.specs.Step.{chosen_label};
+ghost use Rattle.thread_words.specs.Thread.{Function, function_at};
 ghost use Rattle.thread_words.specs.Apart.{IsInner};
 ghost use Rattle.thread_words.specs.Fields.{Keeps, IsHeight};
 ghost use Rattle.thread_words.specs.FunctionCode.{CanLandWith, LandsWith, CanLandIn, LandsIn, CanLandWithin, LandsWithin};

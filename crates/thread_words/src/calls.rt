@@ -4,7 +4,7 @@ ghost use Rattle.std.specs.Prelude.{◌≡◌, ℕ, ◌+◌, ◌-◌, ◌≤◌,
 ghost use Rattle.wasm_types.specs.declared.instruction.Instr.TheVariants.{Index};
 ghost use Rattle.wasm_types.specs.declared.instruction.IndexOp.TheVariants.{Call};
 ghost use Rattle.wasm_types.specs.Locals.{locals_of};
-ghost use Rattle.thread_step.specs.Thread.{most_frames};
+ghost use Rattle.thread_words.specs.Thread.{most_frames};
 ghost use Rattle.thread_words.specs.Calling.{declared_of, CanCall, Calls};
 ghost use Rattle.thread_words.specs.Moves.{CanStepIn, StepsIn, Unchanged, HasRoom};
 

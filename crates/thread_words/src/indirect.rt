@@ -4,7 +4,7 @@ ghost use Rattle.std.specs.Prelude.{◌≡◌, ℕ, List, Some, slice_get, OnOk,
 ghost use Rattle.wasm_types.specs.declared.modules.FuncType.{FuncType};
 ghost use Rattle.wasm_types.specs.declared.instruction.Instr.TheVariants.{CallIndirect};
 ghost use Rattle.validator.specs.Table.{same_types};
-ghost use Rattle.thread_step.specs.Step.{same_kind};
+ghost use Rattle.thread_words.specs.Step.{same_kind};
 ghost use Rattle.thread_words.specs.Words.{instance_at};
 ghost use Rattle.thread_words.specs.Calling.{HasTypes, HasRoomThrough};
 ghost use Rattle.thread_words.specs.Moves.{CanStep, Steps, Unchanged};

@@ -1,8 +1,13 @@
-//! Steps of a thread on untyped words: one stack of words and one of labels for all of its functions.
+//! The step of a thread, as a definition, and on untyped words.
 //!
+//! The words of a thread are one stack, and its labels one, for all of its functions.
 //! A function for each kind of instruction: it makes the definition's step of each typed thread for which the words
 //! stand (`ok`, `steps`), or all stays (`err`, `kept`). Those named `_apart` have words and place outside of the
 //! thread, and say when they make no move (`full`, `outermost`, `taken`, `reason`, `alone`).
+//!
+//! Laws of the definition: `threads_go_on`, `threads_are_safe`: no thread of a valid module ever lacks a step, whatever
+//! the memory replies, and one that is done leaves its function's results. `threads_are_machines`: a thread is a lawful
+//! machine over the shared memory.
 #![tactic(auto)]
 
 mod accesses;
@@ -17,8 +22,10 @@ mod copying;
 mod functions;
 mod indirect;
 mod instance;
+mod laws;
 mod leaving;
 mod locals;
+mod machine_laws;
 mod numerics;
 mod operands;
 mod replies;
@@ -39,8 +46,12 @@ pub use functions::{
 };
 pub use indirect::call_indirect;
 pub use instance::Instance;
+pub use laws::{
+    operands_are_few, steps_are_safe, threads_are_safe, threads_go_on, well_typed_is_never_stuck,
+};
 pub use leaving::return_now;
 pub use locals::{global_get, global_set, local_get, local_set, local_tee};
+pub use machine_laws::threads_are_machines;
 pub use numerics::numeric;
 pub use operands::{value, word};
 pub use replies::{answer, wake};

@@ -2,7 +2,7 @@
 
 ghost use Rattle.std.specs.Prelude.{◌≡◌, ℕ, ◌+◌, ◌-◌, ◌<◌, ◌≤◌, ◌^◌, List, [], ◌∷◌, ◌++◌, length, OnOk, OnErr, IsOk, take, drop, get_or, slice_set, vec_capacity};
 ghost use Rattle.wasm_types.specs.declared.value.ValType.TheVariants.{I32};
-ghost use Rattle.thread_step.specs.Effect.{operand as operand_bits};
+ghost use Rattle.thread_words.specs.Effect.{operand as operand_bits};
 ghost use Rattle.wasm_types.specs.Values.{bits_of, value_of};
 ghost use Rattle.thread_words.specs.declared.stacks.Stacks.{Stacks};
 ghost use Rattle.thread_words.specs.Accesses.{Holds, HasOperands};

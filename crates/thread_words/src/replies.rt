@@ -3,7 +3,7 @@
 ghost use Rattle.std.specs.Prelude.{◌≡◌, ◌+◌, ◌<◌, ◌≤◌, ◌^◌, ◌∷◌, [], length, OnOk, OnErr, IsOk};
 ghost use Rattle.wasm_types.specs.declared.value.ValType.TheVariants.{I32};
 ghost use Rattle.wasm_types.specs.Values.{bits_of};
-ghost use Rattle.thread_step.specs.Thread.{value_by};
+ghost use Rattle.thread_words.specs.Thread.{value_by};
 ghost use Rattle.thread_words.specs.Fields.{Puts};
 ghost use Rattle.thread_words.specs.Accesses.{takes_of, reply_of, wait_offset, reply_words, WakesWith, IsAccess, CanAsk, Answers, CanWait, FallsAsleep, IsAsleep, Wakes};
 ghost use Rattle.thread_words.specs.Moves.{Unchanged, HasWordLeft};

@@ -7,8 +7,8 @@ use Rattle.block_objects.specs.SharedMemory.{shared_memory}
 use Rattle.block_objects.proofs.Laws.{memory_laws}
 use Rattle.event_core.specs.End.{RunEnd}
 use Rattle.wasm_world.specs.Plans.{PlanValue}
-use Rattle.thread_step.specs.ThreadCode.{thread_code}
-use Rattle.thread_step.proofs.Machine.{threads_are_machines}
+use Rattle.thread_words.specs.ThreadCode.{thread_code}
+use Rattle.thread_words.proofs.Machine.{threads_are_machines}
 use Rattle.replica.specs.declared.log.Log.{Log as GatheredLog}
 use Rattle.replica.specs.Log.{key_of}
 use Rattle.replay_laws.specs.Log.{Log}

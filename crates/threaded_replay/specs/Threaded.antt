@@ -3,7 +3,7 @@ use Rattle.wasm_types.specs.declared.modules.Module.{Module}
 use Rattle.block_objects.specs.SharedMemory.{shared_memory}
 use Rattle.event_core.specs.End.{RunEnd}
 use Rattle.wasm_world.specs.Plans.{PlanValue}
-use Rattle.thread_step.specs.ThreadCode.{thread_code}
+use Rattle.thread_words.specs.ThreadCode.{thread_code}
 use Rattle.replica.specs.declared.log.Log.{Log as GatheredLog}
 use Rattle.replay_gate.specs.Finished.{IsReplayEnd, IsReplayFault}
 use Rattle.wasm_replay.specs.Replays.{IsOfRun, IsOfNoRun, Opens, gathered_log}

@@ -6,7 +6,7 @@ ghost use Rattle.block_objects.specs.SharedMemory.{shared_memory};
 ghost use Rattle.event_core.specs.Opening.{AllFresh, opening_world};
 ghost use Rattle.wasm_world.specs.Sound.{thread_of};
 ghost use Rattle.replay_gate.specs.Finished.{IsReplayEnd, IsReplayFault};
-ghost use Rattle.thread_step.specs.ThreadCode.{thread_code};
+ghost use Rattle.thread_words.specs.ThreadCode.{thread_code};
 ghost use Rattle.wasm_world.specs.Plans.{IsPlanOf};
 ghost use Rattle.threaded_replay.specs.Threaded.{IsThreadsEnd, IsThreadsRefusal};
 ghost use Rattle.wasm_world.specs.Valid.{fits_profile};

@@ -3,12 +3,12 @@ use Rattle.std.proofs.Common.{◌≡◌, sym, ap, ◌∙◌, subst}
 use Rattle.std.proofs.lemmas.Option.{same_Some}
 use Rattle.block_objects.specs.SharedMemory.{shared_memory}
 use Rattle.event_core.specs.Run.{IsRun, run_end}
-use Rattle.thread_step.specs.ThreadCode.{thread_code}
+use Rattle.thread_words.specs.ThreadCode.{thread_code}
 use Rattle.run_pieces.specs.RunLog.{run_log}
 use Rattle.recorder.specs.Picks.{picks_taken, picks_passed}
-use Rattle.random_record.specs.Draw.{IsDrawnWhole, IsRandomRun}
-use Rattle.random_record.specs.Stretches.{picks_in}
-use Rattle.random_record.proofs.Once.{drawn_once}
+use Rattle.recorder.specs.Draw.{IsDrawnWhole, IsRandomRun}
+use Rattle.recorder.specs.Stretches.{picks_in}
+use Rattle.recorder.proofs.Once.{drawn_once}
 use Rattle.wasm_world.specs.Opening.{WasmWorld}
 use Rattle.wasm_record.specs.Recordings.{DrawnRunsAreOne, DrawnSchedulesRecord}
 

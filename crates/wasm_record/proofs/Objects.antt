@@ -22,8 +22,8 @@ use Rattle.event_core.specs.Opening.{IsOpeningWorld}
 use Rattle.workers.specs.Recording.{IsRecording}
 use Rattle.run_pieces.specs.Keeps.{KeepsRules}
 use Rattle.run_pieces.proofs.Keeping.{recorded_runs_keep_rules}
-use Rattle.thread_step.specs.ThreadCode.{ThreadAt, thread_code}
-use Rattle.thread_step.proofs.Machine.{threads_are_machines}
+use Rattle.thread_words.specs.ThreadCode.{ThreadAt, thread_code}
+use Rattle.thread_words.proofs.Machine.{threads_are_machines}
 use Rattle.wasm_world.specs.Plans.{PlanValue}
 use Rattle.wasm_types.specs.Memories.{capacity_by, first_memory}
 use Rattle.wasm_world.specs.Opening.{WasmWorld, opening_threads, opening_memory, opening_world_of, limits_in}

@@ -8,17 +8,17 @@ use Rattle.block_objects.specs.SharedMemory.{shared_memory}
 use Rattle.event_core.specs.declared.pick.Pick.{Pick}
 use Rattle.event_core.specs.Run.{IsRun, run_end}
 use Rattle.wasm_world.specs.Plans.{PlanValue}
-use Rattle.thread_step.specs.ThreadCode.{ThreadAt, thread_code}
+use Rattle.thread_words.specs.ThreadCode.{ThreadAt, thread_code}
 use Rattle.run_pieces.specs.Piece.{PieceValue}
 use Rattle.run_pieces.specs.RunLog.{run_log}
 use Rattle.recorder.specs.Picks.{picks_taken, picks_passed}
 use Rattle.recorder.specs.ThreadLogAt.{RecordedAt, log_of}
 use Rattle.run_pieces.specs.PieceOf.{ArePiecesOf}
 use Rattle.workers.specs.Recording.{IsRecording}
-use Rattle.random_record.specs.Stretch.{Stretch}
-use Rattle.random_record.specs.Stretches.{picks_in}
-use Rattle.random_record.specs.Printing.{are_of_threads}
-use Rattle.random_record.specs.Draw.{IsDrawnWhole, IsRandomRun}
+use Rattle.recorder.specs.Stretch.{Stretch}
+use Rattle.recorder.specs.Stretches.{picks_in}
+use Rattle.recorder.specs.Printing.{are_of_threads}
+use Rattle.recorder.specs.Draw.{IsDrawnWhole, IsRandomRun}
 use Rattle.wasm_world.specs.Opening.{WasmWorld, opening_world_of}
 
 -- which run, and what was recorded of it

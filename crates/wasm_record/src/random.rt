@@ -2,13 +2,12 @@
 
 ghost use Rattle.std.specs.Prelude.{◌≡◌, IfOk, IfSome, IfNone};
 ghost use Rattle.wasm_world.specs.Plans.{IsPlanOf};
-ghost use Rattle.random_record.specs.Printing.{AreOfThreads};
+ghost use Rattle.recorder.specs.Printing.{AreOfThreads};
 ghost use Rattle.wasm_types.specs.declared.key.Profile.TheVariants.{Two};
 ghost use Rattle.wasm_record.specs.Recordings.{IsDrawnSchedule, IsKeyOf, IsNoDrawnSchedule, RecordsRandom};
 
 use crate::recording::Recording;
-use random_record::{RandomRun, drawn_stretches, record_random};
-use recorder::Schedule;
+use recorder::{RandomRun, Schedule, drawn_stretches, record_random};
 use std::alloc::Global;
 use std::sync::Wait;
 use wasm_types::{Block, NoMemory, Profile, RunKey};

@@ -26,8 +26,8 @@ impl<'a> Model for StripedThread<'a> {
 
 impl<'a> Machine<StripedMemory> for StripedThread<'a> {
     ghost use Rattle.wasm_world.specs.Sound.{thread_of, HasRoomLeft};
-    ghost use Rattle.thread_step.specs.ThreadCode.{thread_code, thread_nanos};
-    ghost use Rattle.thread_step.proofs.Machine.{threads_are_machines};
+    ghost use Rattle.thread_words.specs.ThreadCode.{thread_code, thread_nanos};
+    ghost use Rattle.thread_words.proofs.Machine.{threads_are_machines};
 
     type State = ThreadSeen;
 

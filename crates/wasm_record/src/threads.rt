@@ -2,7 +2,7 @@
 
 ghost use Rattle.std.specs.Prelude.{◌≡◌, IfOk, min};
 ghost use Rattle.wasm_types.specs.declared.sizes.TheConstants.{MOST_STEPS};
-ghost use Rattle.thread_step.specs.ThreadCode.{thread_nanos};
+ghost use Rattle.thread_words.specs.ThreadCode.{thread_nanos};
 ghost use Rattle.wasm_world.specs.Plans.{IsPlanOf};
 ghost use Rattle.wasm_types.specs.declared.key.Profile.TheVariants.{Two};
 ghost use Rattle.wasm_record.specs.Recordings.{IsKeyOf, RecordsThreads};

@@ -2,8 +2,8 @@
 use Rattle.std.specs.Prelude.{◌≡◌, ℕ, List, Option, Some, None, slice_get}
 use Rattle.std.specs.Ordering.{nat_cmp}
 use Rattle.rw_objects.specs.declared.entry.Entry.{Entry}
-use Rattle.join_laws.specs.declared.flat.Flat.{Flat}
-use Rattle.join_laws.specs.Keyed.{value_at}
+use Rattle.log_pieces.specs.declared.flat.Flat.{Flat}
+use Rattle.log_pieces.specs.Keyed.{value_at}
 use Rattle.replica.specs.declared.log.Log.{Log as GatheredLog}
 use Rattle.replica.specs.Log.{entry_at}
 use Rattle.wasm_replay.specs.declared.reader.ThreadReader.{ThreadReader}

@@ -3,8 +3,7 @@
 ghost use Rattle.std.specs.Prelude.{◌≡◌};
 
 use crate::reader::{LogReader, ThreadReader};
-use join_laws::Flat;
-use log_pieces::End;
+use log_pieces::{End, Flat};
 use replay_gate::ReadLog;
 use replica::Log;
 use rw_objects::Entry;

@@ -2,10 +2,10 @@
 
 ghost use Rattle.std.specs.Prelude.{◌≡◌, None, option_copied};
 ghost use Rattle.std.specs.Ordering.{nat_cmp};
-ghost use Rattle.join_laws.specs.Keyed.{value_at};
+ghost use Rattle.log_pieces.specs.Keyed.{value_at};
 ghost use Rattle.replica.specs.Log.{entry_at};
 
-use join_laws::{Flat, RunsCursor};
+use log_pieces::{Flat, RunsCursor};
 use replica::Log;
 use rw_objects::Entry;
 use wasm_types::MOST_THREADS;

@@ -2,8 +2,7 @@
 
 use crate::replaying::WasmReplayFault;
 use event_core::World;
-use join_laws::Flat;
-use log_pieces::End;
+use log_pieces::{End, Flat};
 use replay_gate::ReplayFault;
 use replica::Log;
 use rw_objects::{Count, Entry, Found, Kind, Machine, Next, ObjectSpace, Touch, Versions};

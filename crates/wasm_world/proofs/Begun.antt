@@ -12,9 +12,9 @@ use Rattle.event_core.specs.Threads as threads
 use Rattle.thread_plan.specs.Plans.{PlanValue, IsPlanOf}
 use Rattle.thread_plan.specs.declared.planned_thread.PlannedThread.{PlannedThread}
 use Rattle.wasm_types.specs.Memories.{block_power}
-use Rattle.thread_step.specs.Opening.{instance_of, opening, opening_by, enter}
-use Rattle.thread_step.specs.Thread.{given, State, Runs, Invocation, stack_with, waiting}
-use Rattle.thread_step.specs.ThreadCode.{ThreadAt, thread_code, limits_of, sleeps_within}
+use Rattle.thread_words.specs.Opening.{instance_of, opening, opening_by, enter}
+use Rattle.thread_words.specs.Thread.{given, State, Runs, Invocation, stack_with, waiting}
+use Rattle.thread_words.specs.ThreadCode.{ThreadAt, thread_code, limits_of, sleeps_within}
 use Rattle.integer_machine.specs.First.{first_of, beginning}
 use Rattle.wasm_world.specs.Opening.{WasmWorld, with_thread, opening_threads, limits_in, opening_memory, opening_world_of}
 

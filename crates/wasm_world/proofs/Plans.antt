@@ -9,8 +9,8 @@ use Rattle.validator.specs.Valid.{WellTyped}
 use Rattle.event_core.specs.Threads.{opening_thread}
 use Rattle.thread_plan.specs.Plans.{PlanValue, IsPlanOf, IsThreadOf}
 use Rattle.thread_plan.specs.declared.planned_thread.PlannedThread.{PlannedThread}
-use Rattle.thread_step.specs.Opening.{instance_of}
-use Rattle.thread_step.specs.ThreadCode.{ThreadAt}
+use Rattle.thread_words.specs.Opening.{instance_of}
+use Rattle.thread_words.specs.ThreadCode.{ThreadAt}
 use Rattle.integer_machine.proofs.Counting.{opens}
 use Rattle.wasm_world.specs.Opening.{WasmWorld, with_thread, opening_threads, opening_memory, opening_world_of}
 

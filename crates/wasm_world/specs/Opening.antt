@@ -11,8 +11,8 @@ use Rattle.event_core.specs.Threads.{opening_thread}
 use Rattle.event_core.specs.World.{WorldAt}
 use Rattle.thread_plan.specs.Plans.{PlanValue}
 use Rattle.thread_plan.specs.declared.planned_thread.PlannedThread.{PlannedThread}
-use Rattle.thread_step.specs.Opening.{instance_of}
-use Rattle.thread_step.specs.ThreadCode.{ThreadAt, limits_of}
+use Rattle.thread_words.specs.Opening.{instance_of}
+use Rattle.thread_words.specs.ThreadCode.{ThreadAt, limits_of}
 use Rattle.integer_machine.specs.First.{beginning}
 
 -- threads of WebAssembly over a shared memory

@@ -4,7 +4,7 @@ ghost use Rattle.std.specs.Prelude.{◌≡◌, ◌≤◌, ℕ, true, Some};
 ghost use Rattle.wasm_types.specs.declared.modules.Module.{Module};
 ghost use Rattle.wasm_types.specs.declared.key.Profile.{Profile};
 ghost use Rattle.event_core.specs.Opening.{IsOpeningWorld};
-ghost use Rattle.thread_step.specs.ThreadCode.{thread_code};
+ghost use Rattle.thread_words.specs.ThreadCode.{thread_code};
 ghost use Rattle.thread_plan.specs.Plans.{PlanValue, IsPlanOf};
 ghost use Rattle.validator.specs.Valid.{WellTyped};
 ghost use Rattle.wasm_types.specs.Memories.{block_power};

@@ -5,7 +5,7 @@ ghost use Rattle.wasm_types.specs.declared.sizes.TheConstants.{MOST_THREADS};
 ghost use Rattle.event_core.specs.Opening.{AllFresh, IsOpeningWorld, opening_world};
 ghost use Rattle.event_core.specs.World.{world_of};
 ghost use Rattle.integer_machine.specs.Sound.{thread_of};
-ghost use Rattle.thread_step.specs.ThreadCode.{thread_code};
+ghost use Rattle.thread_words.specs.ThreadCode.{thread_code};
 ghost use Rattle.thread_plan.specs.Plans.{IsPlanOf};
 ghost use Rattle.validator.specs.Valid.{fits_profile};
 ghost use Rattle.waiter_queues.specs.Shared.{shared_values};

@@ -1,3 +1,4 @@
+mod Seats
 pub mod Goes
 pub mod Advancing
 pub mod Asked

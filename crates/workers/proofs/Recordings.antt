@@ -28,7 +28,7 @@ use Rattle.recorder.specs.ThreadLogAt.{RecordedAt}
 use Rattle.recorder.proofs.RecordedLog.{recorded_log}
 use Rattle.shared_parts.specs.declared.call.Call.{Call}
 use Rattle.shared_parts.specs.Calls.{IsLegalHistory, memory_after_calls, part_of, entries_in}
-use Rattle.shared_threads.specs.Ran.{entries_by, AreRun}
+use Rattle.workers.specs.Ran.{entries_by, AreRun}
 use Rattle.workers.specs.declared.worker.Worker.{Worker}
 use Rattle.workers.specs.Driving.{all_asked}
 use Rattle.workers.specs.Work.{opening_worker, CanBegin, HasWorked}

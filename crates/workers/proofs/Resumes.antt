@@ -21,7 +21,7 @@ use Rattle.replay_laws.specs.History as history
 use Rattle.replay_laws.proofs.Histories.{histories_are_runs}
 use Rattle.shared_parts.specs.declared.call.Call.{Call}
 use Rattle.shared_parts.specs.Calls.{IsLegalHistory, memory_after_calls, part_of, entries_in}
-use Rattle.shared_threads.specs.Ran.{AllLead}
+use Rattle.workers.specs.Ran.{AllLead}
 use Rattle.workers.specs.declared.worker.Worker.{Worker}
 use Rattle.workers.specs.Driving.{asked, all_asked, Went}
 use Rattle.workers.specs.Work.{HasWorked}

@@ -1,4 +1,6 @@
+pub mod Jobs
+pub mod Ran
 pub mod Driving
 pub mod Work
 pub mod Recording
-pub use Rattle.shared_threads.specs.Ran
+pub use Rattle.workers.specs.Ran

@@ -16,7 +16,7 @@ use Rattle.replay_laws.specs.RunLog.{run_log}
 use Rattle.replay_laws.specs.History.{Call, IsLegalHistory, RunTimesOut, calls_of_run}
 use Rattle.recorder.specs.Rounds.{AllGo, StepsWithin, NoneGoes}
 use Rattle.recorder.specs.ThreadLogAt.{RecordedAt, log_of}
-use Rattle.shared_threads.specs.Ran.{AreRun}
+use Rattle.workers.specs.Ran.{AreRun}
 use Rattle.workers.specs.declared.worker.Worker.{Worker}
 use Rattle.workers.specs.Driving.{all_asked}
 use Rattle.workers.specs.Work.{HasWorked, opening_worker}

@@ -1,14 +1,13 @@
 //! The work of workers that record.
 
+use crate::Work;
 use crate::own::own_thread;
 use crate::recording_thread::record_thread;
 use crate::timer::Timer;
 use crate::worker::Worker;
 use rw_objects::Machine;
 use shared_core::{Hold, Shared};
-use shared_journal::Seat;
-use shared_parts::{Opening, Striped};
-use shared_threads::Work;
+use shared_parts::{Opening, Seat, Striped};
 use std::alloc::Global;
 use std::marker::PhantomData;
 use std::sync::Wait;

@@ -10,6 +10,7 @@ ghost use Rattle.workers.specs.Work.{opening_worker};
 
 use crate::lawful::are_lawful;
 use crate::recording_work::RecordingWork;
+use crate::run_threads;
 use crate::timer::Timer;
 use crate::worker::Worker;
 use event_core::{Thread, World};
@@ -17,7 +18,6 @@ use recorder::{Recorded, record_rest};
 use rw_objects::Machine;
 use shared_core::{History, Hold, Opened};
 use shared_parts::{Opening, Striped};
-use shared_threads::run_threads;
 use std::alloc::Global;
 use std::marker::PhantomData;
 use std::sync::Wait;

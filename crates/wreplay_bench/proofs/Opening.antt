@@ -18,10 +18,10 @@ use Rattle.event_core.specs.End.{outcome_of}
 use Rattle.rw_objects.proofs.Alone.{goes_steps}
 use Rattle.thread_plan.specs.Plans.{PlanValue}
 use Rattle.thread_plan.specs.declared.planned_thread.PlannedThread.{PlannedThread}
-use Rattle.thread_step.specs.Opening.{instance_of, opening, opening_by, enter}
-use Rattle.thread_step.specs.Thread.{given, State, Runs, Invocation, stack_with, waiting}
-use Rattle.thread_step.specs.ThreadCode.{ThreadAt, thread_code, limits_of, sleeps_within}
-use Rattle.thread_step.proofs.Machine.{threads_are_machines}
+use Rattle.thread_words.specs.Opening.{instance_of, opening, opening_by, enter}
+use Rattle.thread_words.specs.Thread.{given, State, Runs, Invocation, stack_with, waiting}
+use Rattle.thread_words.specs.ThreadCode.{ThreadAt, thread_code, limits_of, sleeps_within}
+use Rattle.thread_words.proofs.Machine.{threads_are_machines}
 use Rattle.integer_machine.specs.First.{first_of, beginning}
 use Rattle.wreplay_bench.specs.declared.ended.Ended.{Ended}
 use Rattle.wreplay_bench.specs.Alone.{AloneAt, alone_with, no_entry, Goes, GoesTo, IsOpening, IsOver, RunsTo}

@@ -12,7 +12,7 @@ use Rattle.block_objects.specs.SharedMemory.{shared_memory}
 use Rattle.striped_memory.specs.Shared.{opening_values}
 use Rattle.event_core.specs.End.{outcome_of}
 use Rattle.thread_plan.specs.Plans.{PlanValue}
-use Rattle.thread_step.specs.ThreadCode.{ThreadAt, thread_code, limits_of}
+use Rattle.thread_words.specs.ThreadCode.{ThreadAt, thread_code, limits_of}
 use Rattle.integer_machine.specs.First.{first_of}
 use Rattle.wreplay_bench.specs.declared.alone.Alone.{Alone}
 use Rattle.wreplay_bench.specs.declared.ended.Ended.{Ended}

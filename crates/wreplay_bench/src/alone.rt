@@ -10,7 +10,7 @@ ghost use Rattle.thread_plan.specs.Plans.{IsPlanOf};
 ghost use Rattle.wasm_types.specs.Segments.{segments_fit};
 ghost use Rattle.wasm_types.specs.Memories.{first_memory};
 ghost use Rattle.wasm_types.specs.Memories.{initial_by};
-ghost use Rattle.thread_step.specs.ThreadCode.{thread_code};
+ghost use Rattle.thread_words.specs.ThreadCode.{thread_code};
 ghost use Rattle.wreplay_bench.specs.Alone.{GoesTo, IsOpening, IsOver, alone_of};
 
 use crate::ended::Ended;

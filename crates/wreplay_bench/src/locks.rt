@@ -6,7 +6,6 @@ ghost use Rattle.wreplay_bench.specs.OnePage.{one_page};
 
 use block_objects::{MemoryLimits, ObjectValue, operations_within_fit};
 use shared_core::{Opened, Opening, Seat, Shared, Tried, Unkept};
-use shared_threads::{Work, run_threads};
 use std::alloc::Global;
 use std::marker::Brand;
 use std::sync::{Mutex, RwLock, Wait};
@@ -14,6 +13,7 @@ use std::thread;
 use std::thread::Threads;
 use striped_memory::{SharedSpace, StripedMemory};
 use wasm_types::{Action, Block, Extent, Load, NoMemory, Op, ValType};
+use workers::{Work, run_threads};
 
 /// One page in blocks of 64 bytes, which does not grow.
 fn limits() -> MemoryLimits

@@ -1,7 +1,7 @@
 use Rattle.std.proofs.Common.{[], ◌∷◌, arith}
 use Rattle.event_core.specs.World.{world_of}
-use Rattle.replay_breaks.specs.OneStop.{HadMemory}
-use Rattle.replay_breaks.specs.declared.breaks.Break.TheVariants as break
+use Rattle.replay_gate.specs.OneStop.{HadMemory}
+use Rattle.replay_gate.specs.declared.breaks.Break.TheVariants as break
 use Rattle.debug_views.proofs.AtStep.{at_some}
 use Rattle.debug_views.proofs.Stopping.{stops_of}
 use Rattle.debug_views.proofs.replays.replay_to_step.Goals as goal

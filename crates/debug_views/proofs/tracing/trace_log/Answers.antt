@@ -2,7 +2,7 @@ use Rattle.std.proofs.Common.{ap, subst, ◌++◌, ◌∙◌}
 use Rattle.std.specs.Prelude.{string_bytes}
 use Rattle.block_objects.specs.SharedMemory.{shared_memory}
 use Rattle.event_core.specs.World.{world_of}
-use Rattle.replay_breaks.specs.Notes.{notes}
+use Rattle.replay_gate.specs.Notes.{notes}
 use Rattle.wasm_replay.specs.Replays.{gathered_log}
 use Rattle.wasm_types.specs.Memories.{block_power}
 use Rattle.wasm_world.specs.ThreadCode.{thread_code}

@@ -1,6 +1,6 @@
 use Rattle.std.proofs.Common.{◌∙◌, ap, subst, rules, Ok, Err}
 use Rattle.rw_objects.specs.declared.next.Next.TheVariants as next
-use Rattle.thread_step.specs.Thread.{Local, Ask, Ends}
+use Rattle.thread_words.specs.Thread.{Local, Ask, Ends}
 use Rattle.wasm_types.specs.declared.outcome.Outcome.TheVariants.{Trapped}
 use Rattle.thread_words.specs.Accesses.{IsAsked}
 use Rattle.thread_words.specs.Words.{instance_at}

@@ -2,7 +2,7 @@ use Rattle.std.proofs.Common.{◌++◌, ◌-◌, length, take, drop, ap, ◌∙�
 use Rattle.wasm_types.specs.declared.modules.FuncType.{FuncType}
 use Rattle.wasm_types.specs.declared.modules.Body.{Body}
 use Rattle.wasm_types.specs.Locals.{locals_of}
-use Rattle.thread_step.specs.Thread.{function_at}
+use Rattle.thread_words.specs.Thread.{function_at}
 use Rattle.integer_machine.specs.Meaning.{typed}
 use Rattle.integer_machine.proofs.Frames.{params_have, groups_have, locals_are}
 use Rattle.integer_machine.proofs.values.read_locals.Goals as goal

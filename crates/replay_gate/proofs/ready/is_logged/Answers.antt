@@ -1,7 +1,7 @@
 use Rattle.std.proofs.Common.{◌≡◌, Some, slice_get, sym, ap, ◌∙◌}
 use Rattle.std.specs.Prelude.{option_copied}
 use Rattle.event_core.specs.World.{world_of}
-use Rattle.join_laws.specs.declared.flat.Flat.TheVariants.{Known}
+use Rattle.log_pieces.specs.declared.flat.Flat.TheVariants.{Known}
 use Rattle.replay_gate.proofs.Going.{made_of}
 use Rattle.replay_gate.proofs.Readying.{logged_entry}
 use Rattle.replay_gate.proofs.ready.is_logged.Goals as goal

@@ -1,7 +1,7 @@
 use Rattle.std.proofs.Common.{◌<◌, ◌≤◌, length, refl, ap, ◌∙◌, subst, arith}
 use Rattle.std.specs.Prelude.{◌||◌}
 use Rattle.event_core.specs.World.{world_of}
-use Rattle.replay_breaks.specs.Stops.{TurnTakes}
+use Rattle.replay_gate.specs.Stops.{TurnTakes}
 use Rattle.replay_session.specs.Meets.{Untested}
 use Rattle.replay_session.specs.Pauses.{TurnPausesAt}
 use Rattle.replay_session.proofs.PausedRounds.{less_left, begins, begins_again, goes_on, in_turn, finishes, sticks}

@@ -4,7 +4,7 @@ use Rattle.rw_objects.specs.Counts.{count_at}
 use Rattle.shared_parts.proofs.Wholes.{one_whole}
 use Rattle.shared_parts.specs.Calls.{memory_after_calls}
 use Rattle.shared_parts.proofs.Writes.{fixed_after}
-use Rattle.shared_journal.proofs.Enters.{memory_is}
+use Rattle.shared_parts.proofs.Enters.{memory_is}
 use Rattle.shared_core.proofs.close.end.Goals as goal
 
 pub unite-requires : goal.unite-requires

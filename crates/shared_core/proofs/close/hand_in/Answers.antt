@@ -1,6 +1,6 @@
 use Rattle.std.proofs.Common.{subst}
 use Rattle.shared_parts.specs.Calls.{part_of, IsWithin}
-use Rattle.shared_journal.proofs.Grows.{within_later}
+use Rattle.shared_parts.proofs.Grows.{within_later}
 use Rattle.shared_core.proofs.close.hand_in.Goals as goal
 
 pub returns-clause-within : goal.returns-clause-within

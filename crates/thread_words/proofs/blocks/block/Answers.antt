@@ -1,6 +1,6 @@
 use Rattle.std.proofs.Common.{sym, subst, OnOk}
 use Rattle.wasm_types.specs.declared.instruction.Instr.TheVariants as instr
-use Rattle.thread_step.specs.Thread.{Local}
+use Rattle.thread_words.specs.Thread.{Local}
 use Rattle.thread_words.specs.Moves.{Opens}
 use Rattle.thread_words.proofs.Here.{next_fits}
 use Rattle.thread_words.proofs.blocks.block.Goals as goal

@@ -2,7 +2,7 @@ use Rattle.std.proofs.Common.{◌≡◌, ◌∙◌, sym, subst, rules, length}
 use Rattle.std.proofs.Math.Facts.{Fits-of_lt}
 use Rattle.wasm_types.specs.declared.instruction.Instr.TheVariants as instr
 use Rattle.wasm_types.specs.declared.instruction.Plain.TheVariants.{End}
-use Rattle.thread_step.specs.Thread.{Local}
+use Rattle.thread_words.specs.Thread.{Local}
 use Rattle.thread_words.specs.Words.{Stands}
 use Rattle.thread_words.proofs.Here.{acts_here, next_fits}
 use Rattle.thread_words.proofs.Apart.{end_closes}

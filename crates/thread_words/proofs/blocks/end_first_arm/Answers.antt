@@ -1,7 +1,7 @@
 use Rattle.std.proofs.Common.{◌≡◌, ◌∙◌, sym, subst, rules, length}
 use Rattle.wasm_types.specs.declared.instruction.Instr.TheVariants as instr
 use Rattle.wasm_types.specs.declared.instruction.Plain.TheVariants.{Else}
-use Rattle.thread_step.specs.Thread.{Local}
+use Rattle.thread_words.specs.Thread.{Local}
 use Rattle.thread_words.specs.Words.{Stands}
 use Rattle.thread_words.proofs.Here.{acts_here}
 use Rattle.thread_words.proofs.Apart.{else_closes}

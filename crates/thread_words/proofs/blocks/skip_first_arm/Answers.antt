@@ -1,6 +1,6 @@
 use Rattle.std.proofs.Common.{◌∙◌, sym, ap}
 use Rattle.std.proofs.lemmas.Result.{on_ok_weaker}
-use Rattle.thread_step.specs.Thread.{Local, function_at}
+use Rattle.thread_words.specs.Thread.{Local, function_at}
 use Rattle.thread_words.specs.declared.stacks.Level.{Level}
 use Rattle.thread_words.proofs.Bodies.{some_target, if_target}
 use Rattle.thread_words.proofs.Opening.{if_turns, if_skips}

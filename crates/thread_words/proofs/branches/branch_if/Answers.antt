@@ -1,7 +1,7 @@
 use Rattle.wasm_types.specs.declared.value.Value.TheVariants as value
 use Rattle.wasm_types.specs.declared.instruction.Instr.TheVariants as instr
 use Rattle.wasm_types.specs.declared.instruction.IndexOp.TheVariants.{BranchIf}
-use Rattle.thread_step.specs.Thread.{Local}
+use Rattle.thread_words.specs.Thread.{Local}
 use Rattle.thread_words.proofs.Here.{next_fits}
 use Rattle.thread_words.proofs.Landings.{branching_if, if_branches, if_stays}
 use Rattle.thread_words.proofs.branches.branch_if.Goals as goal

@@ -1,7 +1,7 @@
 use Rattle.std.proofs.Common.{◌∙◌, ap}
 use Rattle.wasm_types.specs.declared.value.Value.TheVariants as value
 use Rattle.wasm_types.specs.declared.instruction.Instr.TheVariants as instr
-use Rattle.thread_step.specs.Thread.{Local, function_at}
+use Rattle.thread_words.specs.Thread.{Local, function_at}
 use Rattle.thread_words.specs.declared.stacks.Level.{Level}
 use Rattle.thread_words.proofs.Here.{next_fits}
 use Rattle.thread_words.proofs.Landings.{branching_by, table_branches}

@@ -1,5 +1,5 @@
 use Rattle.std.proofs.Common.{◌≡◌, ◌-◌, ◌∙◌, refl, ap, subst, arith, rules, length}
-use Rattle.thread_step.specs.Thread.{function_at}
+use Rattle.thread_words.specs.Thread.{function_at}
 use Rattle.thread_words.specs.declared.stacks.Level.{Level}
 use Rattle.thread_words.specs.Words.{Stands}
 use Rattle.thread_words.specs.FunctionCode.{IsBody}

@@ -1,5 +1,5 @@
 use Rattle.std.proofs.Common.{rules, arith, ◌≡◌, ◌<◌, ◌+◌, length, refl}
-use Rattle.thread_step.specs.Thread.{most_frames}
+use Rattle.thread_words.specs.Thread.{most_frames}
 use Rattle.thread_words.proofs.Entering.{overflows}
 use Rattle.thread_words.proofs.calls.call_function.Goals as goal
 

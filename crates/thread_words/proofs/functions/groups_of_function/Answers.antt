@@ -1,4 +1,4 @@
-use Rattle.thread_step.proofs.Threads.{at_has_parts}
+use Rattle.thread_words.proofs.Threads.{at_has_parts}
 use Rattle.thread_words.proofs.functions.groups_of_function.Goals as goal
 
 pub returns : goal.returns

@@ -3,7 +3,7 @@ use Rattle.std.proofs.lemmas.Result.{on_ok_weaker}
 use Rattle.wasm_types.specs.declared.value.Value.TheVariants as value
 use Rattle.wasm_types.specs.declared.trap.Trap.TheVariants.{UndefinedElement, UninitializedElement}
 use Rattle.wasm_types.specs.declared.instruction.Instr.TheVariants as instr
-use Rattle.thread_step.specs.Thread.{Local}
+use Rattle.thread_words.specs.Thread.{Local}
 use Rattle.thread_words.specs.Words.{instance_at}
 use Rattle.thread_words.proofs.Here.{acts_here}
 use Rattle.thread_words.proofs.Straight.{stops}

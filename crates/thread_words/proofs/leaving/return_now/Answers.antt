@@ -1,7 +1,7 @@
 use Rattle.std.proofs.Common.{subst}
 use Rattle.wasm_types.specs.declared.instruction.Instr.TheVariants.{Plain}
 use Rattle.wasm_types.specs.declared.instruction.Plain.TheVariants.{Return}
-use Rattle.thread_step.specs.Thread.{Local}
+use Rattle.thread_words.specs.Thread.{Local}
 use Rattle.thread_words.specs.Words.{Stands}
 use Rattle.thread_words.proofs.Here.{acts_here, few_results}
 use Rattle.thread_words.proofs.Returns.{leaving}

@@ -1,7 +1,7 @@
 use Rattle.std.proofs.Common.{refl, ◌∙◌, ap, sym, ◌<◌, subst, length, slice_set}
 use Rattle.wasm_types.specs.declared.instruction.Instr.TheVariants.{Index}
 use Rattle.wasm_types.specs.declared.instruction.IndexOp.TheVariants.{GlobalSet}
-use Rattle.thread_step.specs.Thread.{Local}
+use Rattle.thread_words.specs.Thread.{Local}
 use Rattle.thread_words.proofs.Here.{next_fits}
 use Rattle.thread_words.proofs.Variables.{can_set_global, sets_global, top_word}
 use Rattle.thread_words.proofs.locals.global_set.Goals as goal

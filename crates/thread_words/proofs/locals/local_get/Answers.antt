@@ -2,7 +2,7 @@ use Rattle.std.proofs.lemmas.Result.{on_ok_weaker}
 use Rattle.std.proofs.Common.{arith}
 use Rattle.wasm_types.specs.declared.instruction.Instr.TheVariants.{Index}
 use Rattle.wasm_types.specs.declared.instruction.IndexOp.TheVariants.{LocalGet}
-use Rattle.thread_step.specs.Thread.{Local}
+use Rattle.thread_words.specs.Thread.{Local}
 use Rattle.thread_words.proofs.Here.{next_fits}
 use Rattle.thread_words.proofs.Variables.{can_get_local, gets_local}
 use Rattle.thread_words.proofs.locals.local_get.Goals as goal

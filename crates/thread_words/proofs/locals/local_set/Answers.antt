@@ -1,7 +1,7 @@
 use Rattle.std.proofs.Common.{refl}
 use Rattle.wasm_types.specs.declared.instruction.Instr.TheVariants.{Index}
 use Rattle.wasm_types.specs.declared.instruction.IndexOp.TheVariants.{LocalSet}
-use Rattle.thread_step.specs.Thread.{Local}
+use Rattle.thread_words.specs.Thread.{Local}
 use Rattle.thread_words.proofs.Here.{next_fits}
 use Rattle.thread_words.proofs.Variables.{can_set_local, sets_local}
 use Rattle.thread_words.proofs.locals.local_set.Goals as goal

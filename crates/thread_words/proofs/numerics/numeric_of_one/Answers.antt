@@ -1,7 +1,7 @@
 use Rattle.std.proofs.Common.{[], ◌∷◌, sym, subst}
 use Rattle.wasm_types.specs.declared.instruction.Instr.TheVariants.{Numeric as NumericInstr}
 use Rattle.wasm_types.specs.declared.value.Value.TheVariants as value
-use Rattle.thread_step.specs.Thread.{Local}
+use Rattle.thread_words.specs.Thread.{Local}
 use Rattle.wasm_types.specs.Values.{bits_of}
 use Rattle.integer_ops.specs.Numeric.{computed, operand_types, Takes}
 use Rattle.thread_words.specs.Fields.{Finishes}

@@ -1,7 +1,7 @@
 use Rattle.std.proofs.Common.{◌∙◌, refl, sym, ap, subst}
 use Rattle.std.proofs.lemmas.Result.{on_ok_weaker}
 use Rattle.wasm_types.specs.declared.operation.Reply.TheVariants as reply
-use Rattle.thread_step.specs.Thread.{goes_on}
+use Rattle.thread_words.specs.Thread.{goes_on}
 use Rattle.thread_words.specs.Accesses.{Answers}
 use Rattle.thread_words.proofs.Replying.{GoesOn, can_resume, answers_by, stops_by}
 use Rattle.thread_words.proofs.replies.answer.Goals as goal

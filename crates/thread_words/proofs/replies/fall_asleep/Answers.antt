@@ -5,7 +5,7 @@ use Rattle.std.proofs.lemmas.Int.{to_z-of_z}
 use Rattle.wasm_types.specs.declared.operation.Reply.TheVariants.{Sleeps}
 use Rattle.thread_words.specs.declared.stacks.Stage.TheVariants.{Sleeping}
 use Rattle.thread_words.specs.Words.{Stands}
-use Rattle.thread_step.specs.Thread.{Ask}
+use Rattle.thread_words.specs.Thread.{Ask}
 use Rattle.thread_words.proofs.Replying.{wait_holds, wait_fits, falls_asleep}
 use Rattle.thread_words.proofs.Held.{enough}
 use Rattle.thread_words.proofs.Here.{next_fits}

@@ -1,5 +1,5 @@
 use Rattle.wasm_types.specs.declared.instruction.Instr.TheVariants.{Const}
-use Rattle.thread_step.specs.Thread.{Local}
+use Rattle.thread_words.specs.Thread.{Local}
 use Rattle.thread_words.proofs.Here.{next_fits}
 use Rattle.thread_words.proofs.simple.constant.Goals as goal
 

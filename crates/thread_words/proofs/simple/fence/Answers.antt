@@ -1,5 +1,5 @@
 use Rattle.wasm_types.specs.declared.instruction.Instr.TheVariants.{Fence}
-use Rattle.thread_step.specs.Thread.{Local}
+use Rattle.thread_words.specs.Thread.{Local}
 use Rattle.thread_words.proofs.Here.{next_fits}
 use Rattle.thread_words.proofs.simple.fence.Goals as goal
 

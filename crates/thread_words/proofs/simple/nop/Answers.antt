@@ -1,6 +1,6 @@
 use Rattle.wasm_types.specs.declared.instruction.Instr.TheVariants.{Plain}
 use Rattle.wasm_types.specs.declared.instruction.Plain.TheVariants.{Nop}
-use Rattle.thread_step.specs.Thread.{Local}
+use Rattle.thread_words.specs.Thread.{Local}
 use Rattle.thread_words.proofs.Here.{next_fits}
 use Rattle.thread_words.proofs.simple.nop.Goals as goal
 

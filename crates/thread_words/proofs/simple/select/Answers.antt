@@ -1,7 +1,7 @@
 use Rattle.std.proofs.Common.{◌≡◌, ◌-◌, ◌<◌, ◌≤◌, ◌∙◌, ap, sym, subst, get_or, length, arith}
 use Rattle.wasm_types.specs.declared.instruction.Instr.TheVariants.{Plain}
 use Rattle.wasm_types.specs.declared.instruction.Plain.TheVariants.{Select}
-use Rattle.thread_step.specs.Thread.{Local}
+use Rattle.thread_words.specs.Thread.{Local}
 use Rattle.thread_words.proofs.Here.{next_fits}
 use Rattle.thread_words.proofs.Straight.{select_bits, select_enough, selects}
 use Rattle.thread_words.proofs.simple.select.Goals as goal

@@ -2,7 +2,7 @@ use Rattle.std.proofs.Common.{◌≡◌, List, sym, subst, length, ◌≤◌}
 use Rattle.std.specs.Prelude.{Some}
 use Rattle.event_core.specs.Opening.{AllFresh, opening_world}
 use Rattle.wasm_world.specs.Sound.{ThreadWithRoom, thread_of}
-use Rattle.thread_step.specs.ThreadCode.{thread_code}
+use Rattle.thread_words.specs.ThreadCode.{thread_code}
 use Rattle.wasm_world.specs.Shared.{shared_values}
 use Rattle.wasm_world.specs.Opening.{opening_world_of}
 use Rattle.wasm_types.specs.declared.sizes.TheConstants.{MOST_THREADS}

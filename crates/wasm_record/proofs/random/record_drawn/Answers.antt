@@ -1,6 +1,6 @@
 -- What is recorded keeps the rules of pieces.
 use Rattle.event_core.specs.World.{world_of}
-use Rattle.random_record.specs.Stretches.{picks_in}
+use Rattle.recorder.specs.Stretches.{picks_in}
 use Rattle.wasm_record.proofs.Objects.{recording_keeps}
 use Rattle.wasm_record.proofs.random.record_drawn.Goals as goal
 

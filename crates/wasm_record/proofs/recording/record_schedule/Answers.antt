@@ -2,7 +2,7 @@
 use Rattle.block_objects.specs.SharedMemory.{shared_memory}
 use Rattle.event_core.specs.World.{world_of}
 use Rattle.recorder.specs.Picks.{picks_taken}
-use Rattle.thread_step.specs.ThreadCode.{thread_code}
+use Rattle.thread_words.specs.ThreadCode.{thread_code}
 use Rattle.wasm_record.proofs.Objects.{recording_keeps}
 use Rattle.wasm_record.proofs.recording.record_schedule.Goals as goal
 

@@ -5,7 +5,7 @@ use Rattle.block_objects.specs.SharedMemory.{shared_memory}
 use Rattle.event_core.specs.Opening.{AllFresh, opening_world}
 use Rattle.event_core.proofs.Opens.{opening_is_opening}
 use Rattle.wasm_world.specs.Sound.{ThreadWithRoom, thread_of}
-use Rattle.thread_step.specs.ThreadCode.{thread_code, thread_nanos}
+use Rattle.thread_words.specs.ThreadCode.{thread_code, thread_nanos}
 use Rattle.wasm_world.specs.Shared.{shared_values}
 use Rattle.wasm_types.specs.declared.key.Profile.TheVariants.{Two}
 use Rattle.wasm_world.specs.Opening.{opening_world_of}

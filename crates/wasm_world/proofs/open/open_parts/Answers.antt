@@ -6,7 +6,7 @@ use Rattle.wasm_types.specs.declared.modules.Module.{Module}
 use Rattle.block_objects.specs.declared.limits.MemoryLimits.{MemoryLimits}
 use Rattle.event_core.specs.Opening.{IsFresh}
 use Rattle.integer_machine.specs.Sound.{thread_of}
-use Rattle.thread_step.specs.ThreadCode.{thread_code}
+use Rattle.thread_words.specs.ThreadCode.{thread_code}
 use Rattle.wasm_types.specs.Memories.{block_power}
 use Rattle.wasm_world.specs.Opening.{limits_in}
 use Rattle.wasm_world.proofs.Begun.{all_fresh, as_many}

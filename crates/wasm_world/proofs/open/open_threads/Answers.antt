@@ -2,7 +2,7 @@ use Rattle.std.proofs.Common.{◌≡◌, ◌++◌, ◌∷◌, [], sym, ap, ◌�
 use Rattle.std.specs.Prelude.{Some}
 use Rattle.std.proofs.lemmas.List.{map-append}
 use Rattle.integer_machine.specs.Sound.{thread_of}
-use Rattle.thread_step.specs.ThreadCode.{ThreadAt}
+use Rattle.thread_words.specs.ThreadCode.{ThreadAt}
 use Rattle.wasm_world.proofs.Begun.{one_more}
 use Rattle.wasm_world.proofs.open.open_threads.Goals as goal
 

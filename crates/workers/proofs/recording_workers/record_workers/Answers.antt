@@ -4,7 +4,7 @@ use Rattle.std.specs.Prelude.{Result, Ok, Err, IfOk}
 use Rattle.std.specs.List.{All}
 use Rattle.rw_objects.specs.Counts.{no_counts}
 use Rattle.rw_objects.specs.Memory.{memory_of, memory_with}
-use Rattle.shared_threads.specs.Ran.{AreRun}
+use Rattle.workers.specs.Ran.{AreRun}
 use Rattle.workers.specs.Work.{CanBegin, HasWorked}
 use Rattle.workers.specs.Recording.{HaveRun}
 use Rattle.workers.proofs.Recordings.{all_begin}

@@ -6,7 +6,7 @@ use Rattle.std.proofs.lemmas.Int.{to_z-of_z}
 use Rattle.event_core.specs.World.{world_of}
 use Rattle.wasm_world.specs.SharedMemory.{image_of, shared_memory}
 use Rattle.debug_views.specs.Values.{memory_bytes}
-use Rattle.adapter_exchange.specs.declared.reply.Reply.{Reply}
+use Rattle.adapter_messages.specs.declared.reply.Reply.{Reply}
 use Rattle.adapter.specs.Memory.{found_reply}
 use Rattle.adapter.specs.State.{state_of}
 use Rattle.adapter.proofs.Addresses.{of_same, read_at}

@@ -3,7 +3,7 @@ use Rattle.wasm_world.specs.SharedMemory.{shared_memory}
 use Rattle.wasm_world.specs.CodePlace.{CodePlace}
 use Rattle.wasm_replay.specs.Replays.{gathered_log}
 use Rattle.wasm_world.specs.ThreadCode.{thread_code}
-use Rattle.replay_breaks.specs.declared.breaks.Break.{Break}
+use Rattle.replay_gate.specs.declared.breaks.Break.{Break}
 use Rattle.replay_session.specs.Reverse.{GoesBackUntil}
 use Rattle.debugger.specs.At.{at_of}
 use Rattle.debugger.specs.CodeTests.{stands_at}

@@ -1,6 +1,6 @@
 use Rattle.std.proofs.Common.{[], ◌∷◌}
 use Rattle.event_core.specs.World.{world_of}
-use Rattle.replay_breaks.specs.declared.breaks.Break.TheVariants.{Place}
+use Rattle.replay_gate.specs.declared.breaks.Break.TheVariants.{Place}
 use Rattle.wasm_replay.specs.Replays.{gathered_log}
 use Rattle.debugger.specs.At.{at_of}
 use Rattle.debugger.proofs.Reached.{stop_reached}

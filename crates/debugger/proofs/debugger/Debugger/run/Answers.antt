@@ -4,8 +4,8 @@ use Rattle.wasm_world.specs.CodePlace.{CodePlace}
 use Rattle.event_core.specs.World.{world_of}
 use Rattle.wasm_replay.specs.Replays.{gathered_log}
 use Rattle.wasm_world.specs.ThreadCode.{thread_code}
-use Rattle.replay_breaks.specs.declared.breaks.Break.{Break}
-use Rattle.replay_breaks.specs.Stops.{StopsAt}
+use Rattle.replay_gate.specs.declared.breaks.Break.{Break}
+use Rattle.replay_gate.specs.Stops.{StopsAt}
 use Rattle.replay_session.specs.declared.paused.Paused.{Paused}
 use Rattle.replay_session.specs.Pauses.{PausesAt}
 use Rattle.debugger.specs.At.{at_of}

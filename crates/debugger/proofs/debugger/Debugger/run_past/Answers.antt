@@ -1,5 +1,5 @@
 use Rattle.std.proofs.Common.{ap, ◌∙◌, List}
-use Rattle.replay_breaks.specs.declared.breaks.Break.{Break}
+use Rattle.replay_gate.specs.declared.breaks.Break.{Break}
 use Rattle.debugger.specs.Answers.{answer_text}
 use Rattle.debugger.specs.At.{at_of}
 use Rattle.debugger.specs.Replies.{DebugAt, paused_line}

@@ -1,8 +1,8 @@
 use Rattle.std.proofs.Common.{◌≡◌, ◌∙◌, ap, subst, slice_get, Some, rules}
 use Rattle.wasm_types.specs.declared.modules.Module.{Module}
 use Rattle.thread_plan.specs.Plans.{IsThreadOf}
-use Rattle.thread_step.specs.Opening.{instance_of, opening}
-use Rattle.thread_step.specs.Thread.{State}
+use Rattle.thread_words.specs.Opening.{instance_of, opening}
+use Rattle.thread_words.specs.Thread.{State}
 use Rattle.thread_words.specs.Words.{instance_at, Stands}
 use Rattle.integer_machine.specs.Sound.{HasMostOf}
 use Rattle.integer_machine.proofs.Counting.{Begun, most_of, all_at, begun, first_is}

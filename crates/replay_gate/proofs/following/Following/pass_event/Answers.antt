@@ -1,7 +1,7 @@
 use Rattle.std.proofs.Common.{◌≡◌, Some, slice_get, sym, ap, ◌∙◌, arith}
 use Rattle.std.proofs.lemmas.Option.{same_Some, slice_get_within}
 use Rattle.event_core.specs.World.{world_of}
-use Rattle.join_laws.specs.declared.flat.Flat.TheVariants.{Known}
+use Rattle.log_pieces.specs.declared.flat.Flat.TheVariants.{Known}
 use Rattle.replay_gate.specs.Following.{LogPlace}
 use Rattle.replay_gate.proofs.Going.{made_of, nowhere, event_leads}
 use Rattle.replay_gate.proofs.following.Following.pass_event.Goals.{in-None, in-Some-event_of+in-Ok, in-Some-event_of+in-Err}

@@ -1,8 +1,8 @@
 use Rattle.std.proofs.Common.{◌≡◌, Option, Some, None, sym, ap, ◌∙◌}
 use Rattle.std.specs.Prelude.{option_copied}
 use Rattle.rw_objects.specs.declared.entry.Entry.{Entry}
-use Rattle.join_laws.specs.declared.flat.Flat.{Flat}
-use Rattle.join_laws.specs.declared.flat.Flat.TheVariants.{Known, Clash}
+use Rattle.log_pieces.specs.declared.flat.Flat.{Flat}
+use Rattle.log_pieces.specs.declared.flat.Flat.TheVariants.{Known, Clash}
 use Rattle.rw_objects.specs.Memory.{memory_of, entry_of}
 use Rattle.replay_gate.specs.Following.{LogPlace}
 use Rattle.replay_gate.proofs.Taking.{known_takes, none_takes}

@@ -4,10 +4,10 @@ use Rattle.std.specs.Option.{option_map}
 use Rattle.std.proofs.lemmas.Option.{slice_get-get_or}
 use Rattle.std.proofs.lemmas.Result.{err_from_is_err_and}
 use Rattle.log_pieces.specs.declared.end.End.{End}
-use Rattle.join_laws.specs.declared.flat.Flat.{Flat}
-use Rattle.join_laws.specs.declared.flat.Flat.TheVariants.{Known}
-use Rattle.join_laws.specs.Flat.{flat_joined}
-use Rattle.join_laws.specs.Keyed.{option_joined}
+use Rattle.log_pieces.specs.declared.flat.Flat.{Flat}
+use Rattle.log_pieces.specs.declared.flat.Flat.TheVariants.{Known}
+use Rattle.log_pieces.specs.Flat.{flat_joined}
+use Rattle.log_pieces.specs.Keyed.{option_joined}
 use Rattle.replica.specs.Items.{end_eq}
 use Rattle.replica.specs.LogOf.{IsJoinedWith, first_items}
 use Rattle.replica.proofs.LogLemmas.{thread_joined, thread_left, with_thread, nothing_joined}

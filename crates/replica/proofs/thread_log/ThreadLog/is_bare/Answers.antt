@@ -1,8 +1,8 @@
 use Rattle.std.proofs.Common.{◌≡◌, ℕ, List, None, rules, subst, sym, refl}
 use Rattle.std.specs.Ordering.{nat_cmp}
-use Rattle.join_laws.specs.Keyed.{value_at}
+use Rattle.log_pieces.specs.Keyed.{value_at}
 use Rattle.rw_objects.specs.declared.entry.Entry.{Entry}
-use Rattle.join_laws.specs.declared.flat.Flat.{Flat}
+use Rattle.log_pieces.specs.declared.flat.Flat.{Flat}
 use Rattle.replica.proofs.Filling.{bare}
 use Rattle.replica.proofs.thread_log.ThreadLog.is_bare.Goals as goal
 

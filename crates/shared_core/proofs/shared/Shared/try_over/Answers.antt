@@ -6,9 +6,9 @@ use Rattle.rw_objects.specs.Space.{Space, is_ready}
 use Rattle.rw_objects.specs.Memory.{Memory, entry_of}
 use Rattle.shared_parts.specs.declared.call.Call.{Call}
 use Rattle.shared_parts.specs.Calls.{IsLegalHistory, IsWithin, Part, memory_after_calls, part_of}
-use Rattle.shared_journal.specs.declared.tried.Tried.{Tried}
-use Rattle.shared_journal.specs.declared.tried.Tried.TheVariants.{Done, Shut, NotReady}
-use Rattle.shared_journal.specs.Tries.{IfShut, IfNotReady}
+use Rattle.shared_parts.specs.declared.tried.Tried.{Tried}
+use Rattle.shared_parts.specs.declared.tried.Tried.TheVariants.{Done, Shut, NotReady}
+use Rattle.shared_parts.specs.Tries.{IfShut, IfNotReady}
 use Rattle.shared_core.specs.Tries.{WasAnother, WasNotReadyFor}
 use Rattle.shared_core.proofs.shared.Shared.try_over.Goals as goal
 

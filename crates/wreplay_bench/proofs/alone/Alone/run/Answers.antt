@@ -3,8 +3,8 @@ use Rattle.rw_objects.specs.Alone.{alone_with}
 use Rattle.rw_objects.specs.Memory.{memory_of}
 use Rattle.rw_objects.proofs.Alone.{goes_sound}
 use Rattle.block_objects.specs.SharedMemory.{shared_memory}
-use Rattle.thread_step.specs.ThreadCode.{thread_code}
-use Rattle.thread_step.proofs.Machine.{threads_are_machines}
+use Rattle.thread_words.specs.ThreadCode.{thread_code}
+use Rattle.thread_words.proofs.Machine.{threads_are_machines}
 use Rattle.wreplay_bench.specs.Alone as bench
 use Rattle.wreplay_bench.specs.Alone.{no_entry, alone_of}
 use Rattle.wreplay_bench.proofs.Opening.{over_behind, of_ok}

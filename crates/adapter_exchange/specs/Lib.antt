@@ -1,4 +1,0 @@
-pub mod Exchanges
-pub mod Failures
-pub mod Sent
-pub mod Turns

@@ -1,3 +1,0 @@
-pub mod First
-pub mod Numbers
-pub mod Hinted

@@ -1,3 +1,0 @@
-pub mod Globals
-pub mod Hints
-pub mod Starts

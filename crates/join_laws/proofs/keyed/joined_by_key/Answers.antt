@@ -1,6 +1,0 @@
-use Rattle.join_laws.specs.Decides.{cmp_exact}
-use Rattle.join_laws.specs.KeyedLaws.{value_at-keyed_joined}
-use Rattle.join_laws.proofs.keyed.joined_by_key.Goals as goal
-
-pub returns : goal.returns
-returns g c = value_at-keyed_joined g.K.Ord.cmp (cmp_exact g.K.PartialEq.eq g.K.Ord.cmp g.met.K.Same.decides g.met.K.Ord.matches_eq) g.V.Join.joined

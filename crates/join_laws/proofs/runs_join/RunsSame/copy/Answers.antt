@@ -1,9 +1,0 @@
-use Rattle.std.proofs.Common.{subst}
-use Rattle.join_laws.specs.Pages.{AreJoined}
-use Rattle.join_laws.proofs.SameClaims.{joined_to_none}
-use Rattle.join_laws.proofs.runs_join.RunsSame.copy.Goals as goal
-
-pub returns : goal.returns
-returns g c =
-    joined_to_none g.T.PartialEq.eq c.args.self.now c.join_runs.new.self c.is_ordered.ensures c.is_ordered-2.ensures
-    (subst (λ old. AreJoined g.T.PartialEq.eq old c.args.self.now c.join_runs.new.self) c.new-copied.ensures c.in_ok-join_runs.ensures.joined)

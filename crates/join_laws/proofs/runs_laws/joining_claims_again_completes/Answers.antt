@@ -1,5 +1,0 @@
-use Rattle.join_laws.specs.ClaimLaws.{claims_again}
-use Rattle.join_laws.proofs.runs_laws.joining_claims_again_completes.Goals as goal
-
-pub returns : goal.returns
-returns g c = claims_again g.T.PartialEq.eq g.met.T.Same.decides

@@ -1,8 +1,0 @@
--- The touches so far found their objects so.
-use Rattle.std.proofs.Common.{◌≡◌, drop}
-use Rattle.object_listing.specs.Counted.{is_open}
-use Rattle.object_listing.specs.Kept.{counts_in}
-use Rattle.object_listing.proofs.counts.ObjectCounts.lets_pass.Given as goal
-
-abbrev pub invariant-loop-found : goal.invariant-loop-found
-invariant-loop-found l = is_open (drop l.found-index l.found-items) (counts_in l.self) ≡ is_open l.found-items (counts_in l.self)

@@ -1,8 +1,0 @@
--- The touches so far and those that are left are all.
-use Rattle.std.proofs.Common.{◌≡◌, ◌++◌, true, drop}
-use Rattle.std.specs.String.{string_bytes}
-use Rattle.object_listing.specs.Drawing.{marks_text}
-use Rattle.object_listing.proofs.drawing.put_marks.Given as goal
-
-abbrev pub invariant-loop-mark : goal.invariant-loop-mark
-invariant-loop-mark l = string_bytes l.text ++ marks_text l.is_first (drop l.mark-index l.marks) ≡ string_bytes l.initial.text ++ marks_text true l.marks

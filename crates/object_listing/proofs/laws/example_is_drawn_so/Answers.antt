@@ -1,8 +1,0 @@
--- The definitions computed.
-use Rattle.std.proofs.Common.{refl}
-use Rattle.std.specs.Fmt.{digits}
-use Rattle.object_listing.proofs.laws.example_is_drawn_so.Goals as goal
-
-pub returns : goal.returns
-unfolding digits
-returns c = refl

@@ -1,8 +1,0 @@
-use Rattle.std.proofs.Common.{rules, tests}
-use Rattle.std.proofs.lemmas.Iterator.{YieldsList-from_slice}
-use Rattle.std.proofs.lemmas.Iterator.Search.{any_from_yields_List}
-use Rattle.object_listing.specs.Versions.{is_write}
-use Rattle.object_listing.proofs.touch.has_write.Goals as goal
-
-pub returns : goal.returns
-returns c = any_from_yields_List is_write _ _ _ c.any.ensures.ran (YieldsList-from_slice c.args.touches.now cc) (λ x b q k. search (rules, tests))

@@ -1,5 +1,0 @@
-use Rattle.std.proofs.Common.{◌≤◌}
-use Rattle.random_record.proofs.survey.survey_part.Given as goal
-
-abbrev pub invariant-loop-done : goal.invariant-loop-done
-invariant-loop-done g l = g.V.Survey.finds l.survey l.from l.done l.found × (l.done ≤ l.count)

@@ -1,0 +1,11 @@
+use Rattle.std.proofs.Common.{ℕ}
+use Rattle.std.specs.List.{flat_map}
+use Rattle.replica.specs.Log.{items_at}
+use Rattle.replica.proofs.Steps.{thread_more}
+use Rattle.replica.specs.Chart.{known_of_item, known_events}
+use Rattle.replica.proofs.charting.known_events.Goals as goal
+
+pub loop-number-preserved : goal.loop-number-preserved
+loop-number-preserved c =
+    let log = c.args.log.now in
+    rw (c.in_ok-add_known.ensures, c.new.ensures) (thread_more (λ (t : ℕ). flat_map (known_of_item t) (items_at log t)) c.loop-number.events.items (known_events log) c.loop-number.number c.loop-number-test.true c.loop-number.invariant)

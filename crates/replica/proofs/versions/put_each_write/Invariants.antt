@@ -1,0 +1,12 @@
+-- The writes so far and those of the touches that are left are all.
+use Rattle.std.proofs.Common.{◌≡◌, ◌++◌, drop}
+use Rattle.std.specs.List.{filter, flat_map}
+use Rattle.replica.specs.Members.{has_thread}
+use Rattle.std.specs.String.{string_bytes}
+use Rattle.replica.specs.Versions.{is_write, write_text}
+use Rattle.replica.proofs.versions.put_each_write.Given as goal
+
+abbrev pub invariant-loop-touch : goal.invariant-loop-touch
+invariant-loop-touch l =
+    string_bytes l.text ++ flat_map (write_text l.version (has_thread l.threads)) (filter is_write (drop l.touch-index l.touches))
+    ≡ string_bytes l.initial.text ++ flat_map (write_text l.version (has_thread l.threads)) (filter is_write l.touches)

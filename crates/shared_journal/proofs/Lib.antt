@@ -1,2 +1,0 @@
-pub mod Grows
-pub mod Enters

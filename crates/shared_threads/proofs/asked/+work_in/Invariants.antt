@@ -1,6 +1,0 @@
--- Each call has one task fewer.
-use Rattle.std.proofs.Common.{length}
-use Rattle.shared_threads.proofs.asked.+work_in.Given as goal
-
-abbrev pub decreases-work_in : goal.decreases-work_in
-decreases-work_in g l = length l.tasks.items

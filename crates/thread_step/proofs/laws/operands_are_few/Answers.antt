@@ -1,5 +1,0 @@
-use Rattle.thread_step.proofs.Few.{operands_are_few}
-use Rattle.thread_step.proofs.laws.operands_are_few.Goals as goal
-
-pub returns : goal.returns
-returns c = operands_are_few

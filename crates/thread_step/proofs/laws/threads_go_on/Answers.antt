@@ -1,5 +1,0 @@
-use Rattle.thread_step.proofs.Threads.{threads_go_on}
-use Rattle.thread_step.proofs.laws.threads_go_on.Goals as goal
-
-pub returns : goal.returns
-returns c = threads_go_on

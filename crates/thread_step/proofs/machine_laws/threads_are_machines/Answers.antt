@@ -1,5 +1,0 @@
-use Rattle.thread_step.proofs.Machine.{threads_are_machines}
-use Rattle.thread_step.proofs.machine_laws.threads_are_machines.Goals as goal
-
-pub returns : goal.returns
-returns c = threads_are_machines

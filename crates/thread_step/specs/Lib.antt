@@ -1,9 +1,0 @@
-pub mod Instance
-pub mod Activation
-pub mod Effect
-pub mod Step
-pub mod Fits
-pub mod Thread
-pub mod Opening
-pub mod ThreadFits
-pub mod ThreadCode
