@@ -111,7 +111,7 @@ class Adapter:
         return self.verified(found, 'error: no such bytes, try write FROM LEN')
     def reason(self, stopped):
         """Why threads stand at a break: the last step was made by the thread that stands elsewhere than before."""
-        if stopped == 'stopped write': return 'data breakpoint'
+        if stopped in ('stopped write', 'stopped watch'): return 'data breakpoint'
         if stopped != 'stopped instruction': return 'breakpoint'
         before, after = self.debugger.passed[-2:]
         n, = (t.n for t in after.threads if t.steps != before.threads[t.n].steps)
@@ -205,5 +205,5 @@ def drawn_requests(words, threads, count):
         if kind == 13: return 'threads'
         if kind < 16: return all_of('scopes', some(40))[0]
         if kind < 18: return all_of('variables', some(80))[0]
-        return evaluate(('threads', 'way', 'back %d' % some(9), 'event %d' % id, 'goto %d %d' % (id, some(4)), 'break 0 %d' % some(6), 'delete', bytes_named(), 'writer 0', 'reverse')[words(10)])
+        return evaluate(('threads', 'way', 'back %d' % some(9), 'event %d' % id, 'goto %d %d' % (id, some(4)), 'break 0 %d' % some(6), 'delete', bytes_named(), 'writer 0', 'reverse', 'watch 0 4', 'continue')[words(12)])
     return [row() for _ in range(count)] + [evaluate('threads')]

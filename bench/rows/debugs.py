@@ -93,6 +93,8 @@ writer! FROM    go to behind the event that wrote the block of this byte last
 break F [N]     break where a thread comes to instruction N (0) of function F
 place T P       break behind the event of thread T after which it has made P
 write FROM LEN  break behind a write of a block that holds one of these bytes
+watch FROM LEN  break where the number in these 1, 2, 4 or 8 bytes changes;
+      [N]       with N, where it comes to be N or is N no more
 delete          forget all breaks
 threads         how each thread stands, and where
 where T         how thread T stands, and where
@@ -109,12 +111,12 @@ help            these commands
 quit            end
 '''
 
-def number(word):
-    return int(word) if re.fullmatch(b'0|[1-9][0-9]*', word) and int(word) < 2**32 else None
+def number(word, past=2**32):
+    return int(word) if re.fullmatch(b'0|[1-9][0-9]*', word) and int(word) < past else None
 
 class Debugger:
     def __init__(self, module, plan, log):
-        self.log, self.passed, self.legs, self.breaks, self.instructions = log, [World(module, plan, log.block)], [], [], []
+        self.log, self.passed, self.legs, self.breaks, self.instructions, self.watches = log, [World(module, plan, log.block)], [], [], [], []
         self.forms = {(b'step', 1): lambda n: self.step(n, 1), (b'step', 2): self.step, (b'continue', 0): self.run_on,
                       (b'event', 1): lambda n: self.event(n, 1), (b'event', 2): self.event, (b'reverse', 0): self.reverse, (b'goto', 2): self.goto,
                       (b'back', 0): lambda: self.back(1), (b'back', 1): self.back, (b'place', 2): self.place, (b'write', 2): self.write,
@@ -129,6 +131,7 @@ class Debugger:
         if not line: return ''
         word, *numbers = line.split(b' ')
         if word == b'break' and len(line) <= 1024 and len(numbers) in (1, 2) and len(numbers[0]) <= 64: return self.break_in(numbers[0], *map(number, numbers[1:]))
+        if word == b'watch' and len(line) <= 1024 and len(numbers) in (2, 3): return self.watch(*map(number, numbers[:2]), *(number(n, 2**64) for n in numbers[2:]))
         numbers = [number(n) for n in numbers]
         form = self.forms.get((word, len(numbers)))
         return UNKNOWN if len(line) > 1024 or form is None or None in numbers else form(*numbers)
@@ -211,6 +214,12 @@ class Debugger:
             if any(block in blocks for block in changed): return kind
         t = after.threads[n]
         if t.out is None and t.standing()[0] in self.instructions: return 'instruction'
+        if any(self.seen(after, watch) != self.seen(self.begun, watch) for watch in self.watches): return 'watch'
+    def seen(self, world, watch):
+        """What is watched: the number that stands there, or whether it is the one that is asked for."""
+        at, size, *one = watch
+        there = int.from_bytes(world.mem[at:at + size], 'little') if at + size <= world.length else 0
+        return there in one if one else there
     def rounds(self):
         """Turns of all threads, again and again; answers where that ends."""
         while True:
@@ -225,7 +234,7 @@ class Debugger:
                 if kind: return 'stopped ' + kind
             if self.world is begun: return 'finished' if all(stands(begun, t) == self.log.ends.get(t.n) for t in begun.threads) else 'stuck'
     def run(self):
-        before = len(self.passed)
+        before, self.begun = len(self.passed), self.world
         stopped = self.rounds()
         if len(self.passed) > before: self.legs.append(['rounds', len(self.passed) - before])
         return stopped
@@ -243,6 +252,7 @@ class Debugger:
             if not self.legs[-1][1]: self.legs.pop()
         return 'back\n' + self.threads()
     def reverse(self):
+        self.begun = self.world
         for behind in range(len(self.passed) - 2, 0, -1):
             before, after = self.passed[behind - 1:behind + 1]
             n, = (t.n for t in after.threads if t.steps != before.threads[t.n].steps)
@@ -251,17 +261,21 @@ class Debugger:
             if kind: return self.back(len(self.passed) - 1 - behind).replace('back', 'stopped ' + kind, 1)
         return self.back(len(self.passed)).replace('back', 'no break before', 1)
     def goto(self, n, place):
-        kept = self.passed, self.legs, self.breaks, self.instructions
-        self.passed, self.breaks, self.instructions = self.passed[:1], [('place', n, place)], []
+        kept = self.passed, self.legs, self.breaks, self.instructions, self.watches
+        self.passed, self.breaks, self.instructions, self.watches = self.passed[:1], [('place', n, place)], [], []
         stopped = self.rounds()
         if stopped != 'stopped place':
-            self.passed, self.legs, self.breaks, self.instructions = kept
+            self.passed, self.legs, self.breaks, self.instructions, self.watches = kept
             return 'error: no such place: %s\n' % stopped
-        self.legs, self.breaks, self.instructions = [['rounds', len(self.passed) - 1]], *kept[2:]
+        self.legs, self.breaks, self.instructions, self.watches = [['rounds', len(self.passed) - 1]], *kept[2:]
         return stopped + '\n' + self.threads()
     def put_break(self, *one, at=None):
         (self.breaks if at is None else self.instructions).append(at or one)
         return 'break %d\n' % (len(self.breaks) + len(self.instructions) - 1)
+    def watch(self, at, size, *one):
+        if None in (at, *one) or size not in (1, 2, 4, 8): return UNKNOWN
+        self.watches.append((at, size, *one))
+        return 'watch %d\n' % (len(self.watches) - 1)
     def break_in(self, name, n=0):
         if n is None: return UNKNOWN
         funcs = self.world.m.funcs
@@ -272,7 +286,7 @@ class Debugger:
     def place(self, n, place): return self.put_break('place', n, place)
     def write(self, start, length): return self.put_break('write', start, length)
     def delete(self):
-        self.breaks, self.instructions = [], []
+        self.breaks, self.instructions, self.watches = [], [], []
         return 'no breaks\n'
     def bytes(self, start, length):
         return bytes_shown(self.world, start, length) if start + length <= self.world.length else 'error: the memory ends before\n'
@@ -320,6 +334,11 @@ TALKS = {
                     'way', 'continue', 'way', 'back 9', 'continue', 'delete', 'place 1 1', 'continue', 'way'),
     'writes': lines('write 3 1', 'write 0 0', 'continue', 'bytes 0 4', 'continue', 'bytes 0 4', 'back', 'bytes 0 4', 'continue', 'bytes 3 1', 'way',
                     'continue', 'continue', 'continue', 'way'),
+    'watches': lines('watch 0 4', 'continue', 'bytes 0 4', 'way', 'continue', 'bytes 0 4', 'continue', 'reverse', 'bytes 0 4', 'way', 'reverse', 'reverse', 'way', 'delete',
+                     'watch 0 4 1', 'continue', 'bytes 0 4', 'continue', 'bytes 0 4', 'continue', 'reverse', 'reverse', 'way', 'delete', 'back 99', 'watch 0 8 18446744073709551615',
+                     'watch 3 1', 'watch 65534 2', 'watch 65535 2', 'watch 4294967295 8 0', 'continue', 'way', 'reverse', 'watch 2 2', 'write 0 4', 'continue', 'way', 'delete',
+                     'back 99', 'break 0 2', 'watch 0 1', 'write 0 1', 'again 2', 'again 1', 'reverse', 'goto 1 1', 'way', 'again 9', 'delete', 'reverse', 'watch 0 1 0', 'back 99',
+                     'continue', 'step 0', 'step 1', 'continue', 'again 1'),
     'elsewhere': lines('write 64 64', 'write 4294967295 4294967295', 'write 4294967295 0', 'place 0 9', 'continue', 'way'),
     'first': lines('place 0 1', 'write 0 1', 'continue', 'back 1', 'delete', 'write 0 1', 'place 0 1', 'continue', 'delete', 'write 0 4294967295',
                    'continue', 'way'),
@@ -372,7 +391,7 @@ TALKS = {
         'place 0 4294967296', 'write', 'write 0', 'write 0+4', 'write 0 4 1', 'write 4294967296 0', 'delete 0', 'threads 0', 'threads\r', '\r', 'bytes', 'bytes 0',
         'bytes 0 4 4', 'bytes 0x0 4', 'bytes 0 04', 'way 1', 'help me', 'help\r', 'event', 'event x', 'event 0 1 2', 'event 0 01', 'reverse 1', 'goto', 'goto 0', 'goto 0.1', 'goto 0 1 2', 'where', 'where 0 1', 'where x', 'locals', 'locals x', 'locals 0 01', 'locals 0 1 2', 'stack', 'stack -1', 'stack 0 x', 'stack 0 1 2', 'waits', 'waits x', 'waits 0 1', 'around', 'around x', 'around 0 1 2',
         'writer', 'writer 0 4', 'writer 0x0', 'readers', 'readers 4294967296', 'finish', 'finish x', 'finish 0 1', 'again', 'again -1', 'again 1 2', 'object', 'object 01', 'object 1 2', 'writer!', 'writer! 0 1', 'writer ! 0', 'break', 'break 0 x', 'break 0 1 2',
-        'break  0', 'break 0 01', 'break 0 4294967296', 'break ' + 64 * 'x', 'break ' + 65 * 'x', 'break ' + 65 * 'x' + ' 1', 'quit 0', 'quit\r', ' quit', 'quit ', 'Quit', '0', '# way', 'way;way')
+        'watch', 'watch 0', 'watch 0 0', 'watch 0 3', 'watch 0 16', 'watch 0 4 -1', 'watch 0 4 18446744073709551616', 'watch 0 4 1 1', 'watch x 4', 'watch 4294967296 4', 'watch 0 04', 'break  0', 'break 0 01', 'break 0 4294967296', 'break ' + 64 * 'x', 'break ' + 65 * 'x', 'break ' + 65 * 'x' + ' 1', 'quit 0', 'quit\r', ' quit', 'quit ', 'Quit', '0', '# way', 'way;way')
            + b'\xff\xfe\nstep 0\0\nthr\xc3\xa9ads\nthreads\nway\nwrite 0 4',
     'long': b'x' * 1024 + b'\n' + b'x' * 1025 + b'\nway' + b' ' * 1021 + b'\n' + b'x' * 1024 + b'threads\nthreads',
     'blank': b'\n\nthreads\n\n\nstep 1\n\n',
@@ -403,6 +422,7 @@ def drawn_talk(words, threads, count):
         if kind < 8: return 'continue'
         if kind < 11: return 'back' + (' %d' % some(12) if words(3) else '')
         if kind == 11: return 'place %d %d' % (n, some(4))
+        if kind == 12 and words(2): return 'watch %d %d' % ((0, 0, 3, 64)[words(4)], (1, 2, 4, 8)[words(4)]) + (' %d' % some(3) if words(3) == 0 else '')
         if kind == 12: return 'write %d %d' % ((0, 4, 60, 64)[words(4)], (0, 1, 4, 8)[words(4)])
         if kind == 13: return ('delete', 'threads', 'steps', 'bytes 0 4')[words(4)]
         return ('way', 'bytes %d %d' % (some(70), some(8)))[kind - 14]

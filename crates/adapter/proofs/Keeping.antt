@@ -11,7 +11,7 @@ use Rattle.replay_gate.specs.declared.breaks.Stopped.TheVariants as stopped
 use Rattle.debugger.specs.At.{at_of, CanOpen, IsOpenedAs}
 use Rattle.debugger.specs.Replies.{DebugAt, IsLed, IsToldOf, Reaches, Replies, moved}
 use Rattle.debugger.specs.declared.command.Command.{Command as DebugCommand}
-use Rattle.debugger.specs.declared.command.Command.TheVariants.{Step, Event, Finish, Continue, Again, Back, Reverse, Goto, GotoWriter, Place, Function, Write, Delete, Threads, Where, Locals, Stack, Waits, Around, Object, Writer, Readers, Bytes, Way, Help, Quit}
+use Rattle.debugger.specs.declared.command.Command.TheVariants.{Step, Event, Finish, Continue, Again, Back, Reverse, Goto, GotoWriter, Place, Function, Write, Watch, Delete, Threads, Where, Locals, Stack, Waits, Around, Object, Writer, Readers, Bytes, Way, Help, Quit}
 use Rattle.debugger.specs.declared.debugger.Debugger.{Debugger}
 use Rattle.adapter_messages.specs.declared.request.Motion.{Motion}
 use Rattle.adapter_messages.specs.declared.request.Command.{Command}
@@ -61,6 +61,7 @@ replies_code (Function name n) s text u h = elim h [
   | inr o ↦ elim o [ inl x ↦ unchanged_code s u x.1 | inr w ↦ unchanged_code s u w.1 ]
 ]
 replies_code (Place thread place) s text u h = elim h [ inl r ↦ ap (λ (z : DebugAt). z.code) r.more | inr w ↦ unchanged_code s u w.1 ]
+replies_code (Watch k) s text u h = elim h [ inl r ↦ ap (λ (z : DebugAt). z.code) r.more | inr w ↦ unchanged_code s u w.1 ]
 replies_code (Write range) s text u h = elim h [ inl r ↦ ap (λ (z : DebugAt). z.code) (r.2).more | inr w ↦ unchanged_code s u w.1 ]
 replies_code Delete s text u h = ap (λ (z : DebugAt). z.code) h.1
 replies_code Threads s text u h = unchanged_code s u h.1

@@ -5,7 +5,7 @@ use Rattle.adapter_messages.specs.declared.event.EventKind.{EventKind}
 use Rattle.adapter_messages.specs.declared.event.StopReason.TheVariants.{Pause}
 use Rattle.adapter_messages.specs.declared.reply.Reply.{Reply}
 use Rattle.debugger.specs.declared.command.Command.{Command}
-use Rattle.debugger.specs.declared.command.Command.TheVariants.{Step, Event, Finish, Continue, Again, Back, Reverse, Goto, GotoWriter, Place, Function, Write, Delete, Threads, Where, Locals, Stack, Waits, Around, Object, Writer, Readers, Bytes, Way, Help, Quit}
+use Rattle.debugger.specs.declared.command.Command.TheVariants.{Step, Event, Finish, Continue, Again, Back, Reverse, Goto, GotoWriter, Place, Function, Write, Watch, Delete, Threads, Where, Locals, Stack, Waits, Around, Object, Writer, Readers, Bytes, Way, Help, Quit}
 use Rattle.debugger.specs.declared.command.Line.{Line}
 use Rattle.debugger.specs.declared.command.Line.TheVariants as line
 use Rattle.debugger.specs.Lines.{ends}
@@ -27,6 +27,7 @@ moves (GotoWriter address) = true
 moves (Place thread place) = false
 moves (Function name n) = false
 moves (Write range) = false
+moves (Watch k) = false
 moves Delete = false
 moves Threads = false
 moves (Where thread) = false

@@ -1,5 +1,5 @@
 -- Motions of threads, and what is answered to them.
-use Rattle.std.specs.Prelude.{◌≡◌, ◌⊎◌, ℕ, ◌==◌, true, List, [], ◌∷◌, Option, Some, None, codes, nat_lt, slice_get, if◌then◌else◌}
+use Rattle.std.specs.Prelude.{◌≡◌, ◌⊎◌, ℕ, ◌==◌, true, List, [], ◌∷◌, Option, Some, None, codes, length, nat_lt, slice_get, if◌then◌else◌}
 use Rattle.adapter_messages.specs.declared.body.Body.TheVariants.{Continued}
 use Rattle.adapter_messages.specs.declared.event.StopReason.{StopReason}
 use Rattle.adapter_messages.specs.declared.event.StopReason.TheVariants as reason
@@ -47,7 +47,7 @@ break_reason (Some (break.Write objects)) = reason.DataBreakpoint
 -- at a break
 abbrev pub met_reason : AdapterAt → Met → StopReason
 met_reason s (met.Break index) = break_reason (slice_get s.debugger.breaks index)
-met_reason s (met.Test index) = if nat_lt index s.functions then reason.FunctionBreakpoint else reason.InstructionBreakpoint
+met_reason s (met.Test index) = if nat_lt index s.functions then reason.FunctionBreakpoint else (if nat_lt index (length s.debugger.instructions) then reason.InstructionBreakpoint else reason.DataBreakpoint)
 
 -- behind a step back, which may lead to the beginning
 abbrev pub back_reason : List Leg → StopReason
@@ -75,9 +75,9 @@ steps_reply id gone (ceased.Fault f) = if gone.steps == 0 then failure (gone_lin
 
 abbrev pub turns_reply : AdapterAt → (id : ℕ) → Paused → Reply
 turns_reply s id (paused.Met m) = stopped_reply (met_reason s m) id
-turns_reply s id paused.Finished = ceased_reply (paused_line paused.Finished s.debugger.breaks) id
-turns_reply s id paused.Stuck = ceased_reply (paused_line paused.Stuck s.debugger.breaks) id
-turns_reply s id (paused.Fault f) = ceased_reply (paused_line (paused.Fault f) s.debugger.breaks) id
+turns_reply s id paused.Finished = ceased_reply (paused_line paused.Finished s.debugger.breaks (length s.debugger.instructions)) id
+turns_reply s id paused.Stuck = ceased_reply (paused_line paused.Stuck s.debugger.breaks (length s.debugger.instructions)) id
+turns_reply s id (paused.Fault f) = ceased_reply (paused_line (paused.Fault f) s.debugger.breaks (length s.debugger.instructions)) id
 
 abbrev pub no_memory : List ℕ
 no_memory = codes "error: memory"

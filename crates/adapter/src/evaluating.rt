@@ -28,7 +28,8 @@ fn moves(command: Command) -> bool
         Command::Step { .. } | Command::Event { .. } | Command::Finish { .. } => true,
         Command::Continue | Command::Again { .. } | Command::Back { .. } => true,
         Command::Reverse | Command::Goto { .. } | Command::GotoWriter { .. } => true,
-        Command::Place { .. } | Command::Function { .. } | Command::Write(_) => false,
+        Command::Place { .. } | Command::Function { .. } | Command::Write(_) | Command::Watch(_) =>
+            false,
         Command::Delete => false,
         Command::Threads | Command::Where { .. } | Command::Bytes(_) => false,
         Command::Locals { .. } | Command::Stack { .. } | Command::Waits { .. } => false,

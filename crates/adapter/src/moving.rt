@@ -96,7 +96,10 @@ impl<'a> Adapter<'a> {
         match met {
             Met::Break(index) => break_reason(self.debugger.breaks().get(index)),
             Met::Test(index) if index < self.functions => StopReason::FunctionBreakpoint,
-            Met::Test(_) => StopReason::InstructionBreakpoint,
+            Met::Test(index) if index < self.debugger.instructions().len() => {
+                StopReason::InstructionBreakpoint
+            }
+            Met::Test(_) => StopReason::DataBreakpoint,
         }
     }
 
@@ -115,18 +118,19 @@ impl<'a> Adapter<'a> {
         ensures { IfOk result (λ reply. reply ≡ turns_reply (state_of self.now) id how) }
     {
         let breaks = self.debugger.breaks();
+        let count = self.debugger.instructions().len();
         match how {
             Paused::Met(met) => Ok(stopped_reply(self.met_reason(met), id)),
             Paused::Finished => {
-                let line = paused_line(Paused::Finished, breaks);
+                let line = paused_line(Paused::Finished, breaks, count);
                 ceased_reply(alloc, line.as_str(), id)
             }
             Paused::Stuck => {
-                let line = paused_line(Paused::Stuck, breaks);
+                let line = paused_line(Paused::Stuck, breaks, count);
                 ceased_reply(alloc, line.as_str(), id)
             }
             Paused::Fault(fault) => {
-                let line = paused_line(Paused::Fault(fault), breaks);
+                let line = paused_line(Paused::Fault(fault), breaks, count);
                 ceased_reply(alloc, line.as_str(), id)
             }
         }

@@ -495,6 +495,8 @@ standard input, one in each line, and answers each on standard output:
   break F [N]     break where a thread comes to instruction N (0) of function F
   place T P       break behind the event of thread T after which it has made P
   write FROM LEN  break behind a write of a block that holds one of these bytes
+  watch FROM LEN  break where the number in these 1, 2, 4 or 8 bytes changes;
+        [N]       with N, where it comes to be N or is N no more
   delete          forget all breaks
   threads         how each thread stands, and where
   where T         how thread T stands, and where
@@ -514,7 +516,9 @@ A step is one instruction. A thread waits at each access until the objects have
 the versions that the log names, so where it cannot go on other threads have to
 go on before: `waits` says up to which events. The same steps lead to the same
 state, however often they are made. T.P is event P of thread T, counted from 0,
-as `wreplay gather` lists it.";
+as `wreplay gather` lists it. What is watched changes where it is other than it
+was where `continue`, `again` or `reverse` began, so `reverse` stops before the
+write that made it what it is.";
 
 /// How `debug` refuses.
 pub(crate) const DEBUG_REFUSALS: &str = "\

@@ -16,6 +16,7 @@ at_of d = record {
   world = world_of d.session.replay.world;
   breaks = d.breaks.items;
   instructions = d.instructions.items;
+  watches = d.watches.items;
 }
 
 -- its opening world is that of the other

@@ -3,6 +3,7 @@ pub mod Kept
 pub mod Answers
 pub mod Talks
 pub mod Around
+pub mod Watches
 pub mod CodeTests
 pub mod Functions
 pub mod Touched

@@ -1,13 +1,15 @@
 -- What lines ask a debugger for.
-use Rattle.std.specs.Prelude.{◌≢◌, ℕ, ◌-◌, Bool, false, true, List, [], ◌∷◌, ◌++◌, All, Option, Some, None, codes, length, nat_le, replicate, if◌then◌else◌}
+use Rattle.std.specs.Prelude.{◌≢◌, ℕ, ◌-◌, ◌==◌, Bool, false, true, List, [], ◌∷◌, ◌++◌, All, Option, Some, None, codes, length, nat_le, replicate, if◌then◌else◌}
 use Rattle.std.specs.List.{flat_map}
 use Rattle.std.specs.Str.{bytes_eq}
 use Rattle.std.specs.Str.Parse.{signed_digits_value, starts_with_minus}
 use Rattle.text_lines.specs.Integers.{is_decimal, bits_of}
 use Rattle.text_lines.specs.Parts.{words}
 use Rattle.wasm_types.specs.declared.range.ByteRange.{ByteRange}
+use Rattle.wasm_types.specs.declared.width.Width.{Width}
+use Rattle.wasm_types.specs.declared.width.Width.TheVariants.{One, Two, Four, Eight}
 use Rattle.debugger.specs.declared.command.Command.{Command}
-use Rattle.debugger.specs.declared.command.Command.TheVariants.{Step, Event, Finish, Continue, Again, Back, Reverse, Goto, GotoWriter, Place, Function, Write, Delete, Threads, Where, Locals, Stack, Waits, Around, Object, Writer, Readers, Bytes, Way, Help, Quit}
+use Rattle.debugger.specs.declared.command.Command.TheVariants.{Step, Event, Finish, Continue, Again, Back, Reverse, Goto, GotoWriter, Place, Function, Write, Watch, Delete, Threads, Where, Locals, Stack, Waits, Around, Object, Writer, Readers, Bytes, Way, Help, Quit}
 use Rattle.debugger.specs.declared.word.Word.{Word}
 use Rattle.debugger.specs.declared.command.Line.{Line}
 use Rattle.debugger.specs.declared.command.Line.TheVariants as line
@@ -15,6 +17,10 @@ use Rattle.debugger.specs.declared.command.Line.TheVariants as line
 -- the number from 0 to 2 ^ 32 - 1 that a word is in decimal
 abbrev pub number_of : List ℕ → Option ℕ
 number_of word = if starts_with_minus word then None else (if is_decimal word then bits_of 32 (signed_digits_value 10 word) else None)
+
+-- the same up to 2 ^ 64 - 1
+abbrev pub number_64_of : List ℕ → Option ℕ
+number_64_of word = if starts_with_minus word then None else (if is_decimal word then bits_of 64 (signed_digits_value 10 word) else None)
 
 -- the command of one word
 abbrev pub alone : List ℕ → Option Command
@@ -84,11 +90,24 @@ of_thread_with word thread n =
     if bytes_eq word (codes "stack") then Some (Stack thread n) else (
     if bytes_eq word (codes "around") then Some (Around thread n) else None))))))
 
+-- the width of so many bytes
+abbrev pub width_of_length : ℕ → Option Width
+width_of_length len = if len == 1 then Some One else (if len == 2 then Some Two else (if len == 4 then Some Four else (if len == 8 then Some Eight else None)))
+
+-- a break at the changes of a number that stands there, or of whether it is this one
+abbrev pub watch_at : ℕ → Option Width → Option ℕ → Option Command
+watch_at address None value = None
+watch_at address (Some width) value = Some (Watch (record { address = address; width = width; value = value }))
+
+abbrev pub watch_of : ByteRange → Option ℕ → Option Command
+watch_of range value = watch_at range.from (width_of_length range.len) value
+
 -- of a range of bytes
 abbrev pub of_range : List ℕ → ByteRange → Option Command
 of_range word range =
     if bytes_eq word (codes "write") then Some (Write range) else (
-    if bytes_eq word (codes "bytes") then Some (Bytes range) else None)
+    if bytes_eq word (codes "bytes") then Some (Bytes range) else (
+    if bytes_eq word (codes "watch") then watch_of range None else None))
 
 abbrev pub or_of_range : Option Command → List ℕ → ByteRange → Option Command
 or_of_range (Some command) word range = Some command
@@ -105,13 +124,24 @@ abbrev pub with_two : List ℕ → List ℕ → List ℕ → Option Command
 with_two word first second =
     if bytes_eq word (codes "break") then function_break (word_of first) (number_of second) else with_numbers word (number_of first) (number_of second)
 
+-- the command of four words
+abbrev pub watch_with : (from len value : Option ℕ) → Option Command
+watch_with None len value = None
+watch_with (Some from) None value = None
+watch_with (Some from) (Some len) None = None
+watch_with (Some from) (Some len) (Some n) = watch_of (record { from = from; len = len }) (Some n)
+
+abbrev pub with_three : (word first second third : List ℕ) → Option Command
+with_three word first second third = if bytes_eq word (codes "watch") then watch_with (number_of first) (number_of second) (number_64_of third) else None
+
 -- the command of these words
 abbrev pub command_of : List (List ℕ) → Option Command
 command_of [] = None
 command_of (word ∷ []) = alone word
 command_of (word ∷ first ∷ []) = with_one word first
 command_of (word ∷ first ∷ second ∷ []) = with_two word first second
-command_of (word ∷ first ∷ second ∷ more ∷ others) = None
+command_of (word ∷ first ∷ second ∷ third ∷ []) = with_three word first second third
+command_of (word ∷ first ∷ second ∷ third ∷ more ∷ others) = None
 
 abbrev pub line_by : Option Command → Line
 line_by None = line.Unknown
@@ -136,6 +166,7 @@ ends (GotoWriter address) = false
 ends (Place thread place) = false
 ends (Function name instruction) = false
 ends (Write range) = false
+ends (Watch k) = false
 ends Delete = false
 ends Threads = false
 ends (Where thread) = false

@@ -1,5 +1,5 @@
 -- What a debugger of a replay answers to its commands.
-use Rattle.std.specs.Prelude.{◌≡◌, ◌⊎◌, ℕ, zero, suc, ◌+◌, ◌-◌, ◌/◌, ◌<◌, ◌≤◌, Bool, true, false, List, [], ◌∷◌, ◌++◌, Option, Some, None, codes, length, slice_get}
+use Rattle.std.specs.Prelude.{◌≡◌, ◌⊎◌, ℕ, zero, suc, ◌+◌, ◌-◌, ◌/◌, ◌<◌, ◌≤◌, Bool, true, false, List, [], ◌∷◌, ◌++◌, Option, Some, None, codes, length, map, nat_lt, slice_get, if◌then◌else◌}
 use Rattle.std.specs.List.{flat_map}
 use Rattle.std.specs.Fmt.{decimal}
 use Rattle.wasm_types.specs.declared.range.ByteRange.{ByteRange}
@@ -54,14 +54,16 @@ use Rattle.debug_views.specs.Values.{memory_bytes, bytes_of_range, count_of_obje
 use Rattle.debug_views.specs.Writes.{IsWriteOfRange}
 use Rattle.debugger.specs.Answers.{memory_line}
 use Rattle.debugger.specs.Around.{around_text}
-use Rattle.debugger.specs.CodeTests.{depth_in, is_out, stands_at}
+use Rattle.debugger.specs.CodeTests.{depth_in, is_behind, is_out}
 use Rattle.debugger.specs.Functions.{IsMeant, IsShort, NoneCalled}
 use Rattle.debugger.specs.Locals.{locals_text, operands_text}
 use Rattle.debugger.specs.Touched.{events_of, object_text, sought_line, IsFirstEvent, NoEvent}
 use Rattle.debugger.specs.Waits.{waits_text}
+use Rattle.debugger.specs.Watches.{seen_now}
+use Rattle.debugger.specs.declared.watching.WatchedNumber.{WatchedNumber}
 use Rattle.debugger.specs.declared.word.Word.{Word}
 use Rattle.debugger.specs.declared.command.Command.{Command}
-use Rattle.debugger.specs.declared.command.Command.TheVariants.{Step, Event, Finish, Continue, Again, Back, Reverse, Goto, GotoWriter, Place, Function, Write, Delete, Threads, Where, Locals, Stack, Waits, Around, Object, Writer, Readers, Bytes, Way, Help, Quit}
+use Rattle.debugger.specs.declared.command.Command.TheVariants.{Step, Event, Finish, Continue, Again, Back, Reverse, Goto, GotoWriter, Place, Function, Write, Watch, Delete, Threads, Where, Locals, Stack, Waits, Around, Object, Writer, Readers, Bytes, Way, Help, Quit}
 use Rattle.debugger.specs.declared.touched.Events.TheVariants.{Made}
 use Rattle.debugger.specs.declared.touched.Role.{Role}
 use Rattle.debugger.specs.declared.touched.Role.TheVariants as role
@@ -69,7 +71,7 @@ use Rattle.debugger.specs.declared.touched.Sought.{Sought}
 
 -- where a debugger stands: the module, the log, how places in code are written, blocks of 2 ^ power bytes and the
 -- opening world, which stay; the way that it has gone, the world to which that leads, and its breaks, those at
--- instructions apart
+-- instructions and numbers that are watched apart
 pub record DebugAt : Type 0 where
   pub code : Module
   pub log : GatheredLog
@@ -80,6 +82,7 @@ pub record DebugAt : Type 0 where
   pub world : WasmWorld
   pub breaks : List Break
   pub instructions : List CodePlace
+  pub watches : List WatchedNumber
 
 -- before the first command
 pub record IsOpening (m : Module) (plan : PlanValue) (log : GatheredLog) (s : DebugAt) : Type 0 where
@@ -93,6 +96,7 @@ pub record IsOpening (m : Module) (plan : PlanValue) (log : GatheredLog) (s : De
   pub legs : s.legs ≡ []
   pub breaks : s.breaks ≡ []
   pub instructions : s.instructions ≡ []
+  pub watches : s.watches ≡ []
 
 -- elsewhere on the way; with other breaks
 abbrev pub moved : DebugAt → List Leg → WasmWorld → DebugAt
@@ -104,12 +108,20 @@ with_breaks s breaks = record s { breaks = breaks }
 abbrev pub with_instructions : DebugAt → List CodePlace → DebugAt
 with_instructions s places = record s { instructions = places }
 
-abbrev pub without_breaks : DebugAt → DebugAt
-without_breaks s = record s { breaks = []; instructions = [] }
+abbrev pub with_watches : DebugAt → List WatchedNumber → DebugAt
+with_watches s watches = record s { watches = watches }
 
--- how many breaks there are
+abbrev pub without_breaks : DebugAt → DebugAt
+without_breaks s = record s { breaks = []; instructions = []; watches = [] }
+
+-- how many breaks there are, but for numbers that are watched
 abbrev pub break_count : DebugAt → ℕ
 break_count s = length s.breaks + length s.instructions
+
+-- what holds behind steps from here on: a thread stands at one of the instructions, or a number that is watched is other
+-- than here
+abbrev pub is_behind_from : DebugAt → WasmWorld → ℕ → Option ℕ
+is_behind_from s w t = is_behind s.instructions (map (seen_now s.world) s.watches) w t
 
 -- threads that are numbered from `thread` on: how each stands, and in which functions
 abbrev pub thread_line : PlaceForm → ℕ → ThreadAt CodeThread → List ℕ
@@ -158,13 +170,16 @@ stopped_line stopped.Finished breaks = codes "finished\n"
 stopped_line stopped.Stuck breaks = codes "stuck\n"
 stopped_line (stopped.Fault f) breaks = codes "stopped" ++ fault_words f
 
--- the same where they may have stopped at a break at an instruction
-abbrev pub paused_line : Paused → List Break → List ℕ
-paused_line (paused.Met (met.Break index)) breaks = stopped_line (stopped.Break index) breaks
-paused_line (paused.Met (met.Test index)) breaks = codes "stopped instruction\n"
-paused_line paused.Finished breaks = stopped_line stopped.Finished breaks
-paused_line paused.Stuck breaks = stopped_line stopped.Stuck breaks
-paused_line (paused.Fault f) breaks = stopped_line (stopped.Fault f) breaks
+abbrev pub test_words : (index n : ℕ) → List ℕ
+test_words index n = if nat_lt index n then codes "stopped instruction\n" else codes "stopped watch\n"
+
+-- the same where they may have stopped at a break at one of so many instructions, or at a number that is watched
+abbrev pub paused_line : Paused → List Break → ℕ → List ℕ
+paused_line (paused.Met (met.Break index)) breaks n = stopped_line (stopped.Break index) breaks
+paused_line (paused.Met (met.Test index)) breaks n = test_words index n
+paused_line paused.Finished breaks n = stopped_line stopped.Finished breaks
+paused_line paused.Stuck breaks n = stopped_line stopped.Stuck breaks
+paused_line (paused.Fault f) breaks n = stopped_line (stopped.Fault f) breaks
 
 -- at a break of the list, or at none
 abbrev pub IsPauseOf : Paused → List Break → Type 0
@@ -192,13 +207,17 @@ abbrev pub back_line : List ℕ
 back_line = codes "back\n"
 
 -- at which break a move back ends
-abbrev pub reverse_line : Option Met → List Break → List ℕ
-reverse_line (Some m) breaks = paused_line (paused.Met m) breaks
-reverse_line None breaks = codes "no break before\n"
+abbrev pub reverse_line : Option Met → List Break → ℕ → List ℕ
+reverse_line (Some m) breaks n = paused_line (paused.Met m) breaks n
+reverse_line None breaks n = codes "no break before\n"
 
 -- a break by its number, from 0
 abbrev pub break_line : ℕ → List ℕ
 break_line number = codes "break " ++ (decimal number ++ 10 ∷ [])
+
+-- a number that is watched, by its number, from 0
+abbrev pub watch_line : ℕ → List ℕ
+watch_line number = codes "watch " ++ (decimal number ++ 10 ∷ [])
 
 abbrev pub no_breaks : List ℕ
 no_breaks = codes "no breaks\n"
@@ -294,7 +313,7 @@ pub record Finishes (s : DebugAt) (thread : ℕ) (text : List ℕ) (u : DebugAt)
 -- turns of all threads in rounds from state s to state u, up to a break: on a log below that of a run no thread
 -- diverges, and on the whole log of a run they are never stuck
 pub record RunsOn (s u : DebugAt) (how : Paused) : Type 0 where
-  pub pauses : PausesAt shared_memory thread_code (gathered_log s.log) s.breaks (stands_at s.instructions) s.world u.world how
+  pub pauses : PausesAt shared_memory thread_code (gathered_log s.log) s.breaks (is_behind_from s) s.world u.world how
   pub right : PausesRight shared_memory thread_code (gathered_log s.log) s.opening how
   pub free : PausesFree shared_memory thread_code (gathered_log s.log) s.opening how
   pub legs : u.legs ≡ with_rounds s.legs (all_steps thread_code u.world.threads - all_steps thread_code s.world.threads)
@@ -303,7 +322,7 @@ pub record RunsOn (s u : DebugAt) (how : Paused) : Type 0 where
 pub record Continues (s : DebugAt) (text : List ℕ) (u : DebugAt) : Type 0 where
   pub how : Paused
   pub runs : RunsOn s u how
-  pub moves : Moves s (paused_line how s.breaks) text u
+  pub moves : Moves s (paused_line how s.breaks (length s.instructions)) text u
 
 -- n breaks stopped the threads on the way from state s to state x
 abbrev pub Passed : ℕ → DebugAt → DebugAt → Type 0
@@ -323,7 +342,7 @@ pub record RunsPast (s : DebugAt) (n : ℕ) (u : DebugAt) (how : Paused) : Type 
 pub record Passes (s : DebugAt) (n : ℕ) (text : List ℕ) (u : DebugAt) : Type 0 where
   pub how : Paused
   pub runs : RunsPast s n u how
-  pub moves : Moves s (paused_line how s.breaks) text u
+  pub moves : Moves s (paused_line how s.breaks (length s.instructions)) text u
 
 -- the way without its last steps
 pub record GoesBackBy (s : DebugAt) (steps : ℕ) (u : DebugAt) : Type 0 where
@@ -337,14 +356,14 @@ pub record GoesBack (s : DebugAt) (steps : ℕ) (text : List ℕ) (u : DebugAt) 
 
 -- back to behind the last step, before the one that led here, behind which a break holds
 pub record ReversesTo (s u : DebugAt) (found : Option Met) : Type 0 where
-  pub back : GoesBackUntil shared_memory thread_code (gathered_log s.log) s.breaks (stands_at s.instructions) s.opening s.legs u.legs found
+  pub back : GoesBackUntil shared_memory thread_code (gathered_log s.log) s.breaks (is_behind_from s) s.opening s.legs u.legs found
   pub same : u ≡ moved s u.legs u.world
   pub led : IsLed u
 
 pub record Reverses (s : DebugAt) (text : List ℕ) (u : DebugAt) : Type 0 where
   pub found : Option Met
   pub goes : ReversesTo s u found
-  pub moves : Moves s (reverse_line found s.breaks) text u
+  pub moves : Moves s (reverse_line found s.breaks (length s.instructions)) text u
 
 -- the move to a place, by the break there; or that the replay does not come there, and nothing changed
 abbrev pub IsToldOf : Stopped → List Break → DebugAt → List ℕ → DebugAt → Type 0
@@ -371,6 +390,11 @@ pub record Breaks (s : DebugAt) (b : Break) (text : List ℕ) (u : DebugAt) : Ty
 pub record BreaksAt (s : DebugAt) (place : CodePlace) (text : List ℕ) (u : DebugAt) : Type 0 where
   pub is : text ≡ break_line (break_count s)
   pub more : u ≡ with_instructions s (s.instructions ++ place ∷ [])
+
+-- one more number that is watched
+pub record Watches (s : DebugAt) (k : WatchedNumber) (text : List ℕ) (u : DebugAt) : Type 0 where
+  pub is : text ≡ watch_line (length s.watches)
+  pub more : u ≡ with_watches s (s.watches ++ k ∷ [])
 
 -- that of the first function that is called so
 abbrev pub BreaksIn : DebugAt → Word → ℕ → List ℕ → DebugAt → Type 0
@@ -470,6 +494,7 @@ Replies (GotoWriter address) s text u = GoesToWriter s address text u ⊎ (ArePa
 Replies (Function name n) s text u = BreaksIn s name n text u ⊎ (IsNoInstruction s name n text u ⊎ Wants s text u)
 Replies (Place thread place) s text u = Breaks s (break.Place thread place) text u ⊎ Wants s text u
 Replies (Write range) s text u = ((b : Break) × IsWriteOfRange s.power range.from range.len b × Breaks s b text u) ⊎ Wants s text u
+Replies (Watch k) s text u = Watches s k text u ⊎ Wants s text u
 Replies Delete s text u = (text ≡ no_breaks) × (u ≡ without_breaks s)
 Replies Threads s text u = IsBody (standing_text s.form s.world) text × (u ≡ s)
 Replies (Where thread) s text u = IsWhere s.form thread (slice_get s.world.threads thread) text × (u ≡ s)

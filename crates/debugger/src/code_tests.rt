@@ -1,9 +1,10 @@
-//! Tests of where threads stand in the code.
+//! Tests of worlds behind steps: of where threads stand in the code, and of numbers that are watched.
 
 ghost use Rattle.std.specs.Prelude.{◌≡◌, position};
 ghost use Rattle.event_core.specs.World.{world_of};
-ghost use Rattle.debugger.specs.CodeTests.{depth_in, is_out, is_same, place_among, place_in, stands_at};
+ghost use Rattle.debugger.specs.CodeTests.{depth_in, is_behind, is_out, is_same, place_among, place_in, stands_at};
 
+use crate::watching::{Seen, is_any_changed};
 use event_core::World;
 use replay_session::Test;
 use wasm_world::{CodePlace, SharedSpace, ThreadState};
@@ -70,16 +71,21 @@ impl<'b> Test<ThreadState<'b>, SharedSpace> for Out {
     }
 }
 
-/// Whether a thread stands at an instruction of a list.
+/// Whether a thread stands at an instruction of a list, or a number that is watched is other than it was.
 #[derive(Clone, Copy, Debug)]
-pub(crate) struct AtInstruction<'a> {
+pub(crate) struct Behind<'a> {
     pub(crate) places: &'a [CodePlace],
+    pub(crate) seen: &'a [Seen],
 }
 
-impl<'a, 'b> Test<ThreadState<'b>, SharedSpace> for AtInstruction<'a> {
-    ghost holds = { λ at w thread. stands_at at.places.now w thread };
+impl<'a, 'b> Test<ThreadState<'b>, SharedSpace> for Behind<'a> {
+    ghost holds = { λ b w thread. is_behind b.places.now b.seen.now w thread };
 
     fn test(&self, world: &World<ThreadState<'b>, SharedSpace>, thread: u32) -> Option<usize> {
-        place_among(self.places, place_in(world, thread))
+        match place_among(self.places, place_in(world, thread)) {
+            Some(index) => Some(index),
+            None if is_any_changed(world, self.seen) => Some(self.places.len()),
+            None => None,
+        }
     }
 }

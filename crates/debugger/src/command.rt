@@ -1,5 +1,6 @@
 //! What lines ask a debugger for.
 
+use crate::watching::WatchedNumber;
 use crate::word::Word;
 use wasm_types::ByteRange;
 
@@ -30,6 +31,8 @@ pub enum Command {
     Function { name: Word, instruction: u32 },
     /// A break behind the writes of a range of bytes.
     Write(ByteRange),
+    /// A break behind a step that changes a number in memory.
+    Watch(WatchedNumber),
     /// No more breaks.
     Delete,
     /// How threads stand.

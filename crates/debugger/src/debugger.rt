@@ -1,6 +1,7 @@
 //! A debugger of the replay of a gathered log.
 
 use crate::opening::WasmSession;
+use crate::watching::WatchedNumber;
 use debug_views::PlaceWriter;
 use replay_gate::Break;
 use wasm_types::Block;
@@ -16,4 +17,6 @@ pub struct Debugger<'a> {
     pub(crate) breaks: Vec<Break>,
     /// The instructions at which there are breaks.
     pub(crate) instructions: Vec<CodePlace>,
+    /// The numbers in memory whose changes are breaks.
+    pub(crate) watches: Vec<WatchedNumber>,
 }

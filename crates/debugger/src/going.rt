@@ -1,11 +1,13 @@
 //! Moves, and where they lead.
 
-ghost use Rattle.std.specs.Prelude.{◌≡◌, IfOk, OnErr, OnOk};
+ghost use Rattle.std.specs.Prelude.{◌≡◌, [], map, IfOk, OnErr, OnOk};
 ghost use Rattle.debugger.specs.At.{at_of, CanOpen, IsOpenedAs};
 ghost use Rattle.debugger.specs.Replies.{GoesBackBy, GoesOut, GoesSteps, IsLed, ReversesTo, RunsOn};
+ghost use Rattle.debugger.specs.Watches.{seen_now};
 
-use crate::code_tests::{AtInstruction, Out, depth_in};
+use crate::code_tests::{Behind, Out, depth_in};
 use crate::debugger::Debugger;
+use crate::watching::{Seen, seen_now};
 use replay_session::{Gone, Met, Paused, paused_of};
 use std::alloc::Global;
 use wasm_types::NoMemory;
@@ -35,24 +37,54 @@ impl<'a> Debugger<'a> {
         self.session.thread_until(alloc, thread, &Out { depth })
     }
 
+    /// The numbers that are watched, as they are here.
+    fn seen(&self, alloc: Global) -> Result<Vec<Seen>, NoMemory>
+        ensures { IfOk result (λ seen. seen.items ≡ map (seen_now (at_of self.now).world) (at_of self.now).watches) }
+    {
+        seen_now(alloc, self.session.world(), self.watches.as_slice())
+    }
+
+    /// Turns of all threads, up to a break, where there are none at instructions and nothing is watched.
+    fn run_freely(&mut self, alloc: Global) -> Result<Paused, NoMemory>
+        requires instructions { (at_of self.old).instructions ≡ [] }
+        requires watches { (at_of self.old).watches ≡ [] }
+        ensures opens { IsOpenedAs self.old self.new }
+        ensures runs { IfOk result (RunsOn (at_of self.old) (at_of self.new)) }
+        ensures unchanged { OnErr result (at_of self.new ≡ at_of self.old) }
+    {
+        match self.session.run_on(alloc, &self.breaks) {
+            Ok(stopped) => Ok(paused_of(stopped)),
+            Err(error) => Err(error),
+        }
+    }
+
+    /// The same, where each step is to be tested.
+    fn run_tested(&mut self, alloc: Global) -> Result<Paused, NoMemory>
+        ensures opens { IsOpenedAs self.old self.new }
+        ensures runs { IfOk result (RunsOn (at_of self.old) (at_of self.new)) }
+        ensures unchanged { OnErr result (at_of self.new ≡ at_of self.old) }
+    {
+        let seen = self.seen(alloc)?;
+        let test = Behind {
+            places: self.instructions.as_slice(),
+            seen: seen.as_slice(),
+        };
+        match self.session.run_until(alloc, &self.breaks, &test) {
+            Ok(how) => Ok(how),
+            Err(error) => Err(error),
+        }
+    }
+
     /// Turns of all threads, up to a break.
     pub fn run(&mut self, alloc: Global) -> Result<Paused, NoMemory>
         ensures opens { IsOpenedAs self.old self.new }
         ensures runs { IfOk result (RunsOn (at_of self.old) (at_of self.new)) }
         ensures unchanged { OnErr result (at_of self.new ≡ at_of self.old) }
     {
-        if self.instructions.is_empty() {
-            return match self.session.run_on(alloc, &self.breaks) {
-                Ok(stopped) => Ok(paused_of(stopped)),
-                Err(error) => Err(error),
-            };
-        }
-        let test = AtInstruction {
-            places: self.instructions.as_slice(),
-        };
-        match self.session.run_until(alloc, &self.breaks, &test) {
-            Ok(how) => Ok(how),
-            Err(error) => Err(error),
+        if self.instructions.is_empty() && self.watches.is_empty() {
+            self.run_freely(alloc)
+        } else {
+            self.run_tested(alloc)
         }
     }
 
@@ -79,8 +111,10 @@ impl<'a> Debugger<'a> {
         ensures goes { IfOk result (ReversesTo (at_of self.old) (at_of self.new)) }
         ensures unchanged { OnErr result (at_of self.new ≡ at_of self.old) }
     {
-        let test = AtInstruction {
+        let seen = self.seen(alloc)?;
+        let test = Behind {
             places: self.instructions.as_slice(),
+            seen: seen.as_slice(),
         };
         match self.session.reverse_until(alloc, &self.breaks, &test) {
             Ok(found) => {

@@ -1,7 +1,7 @@
 //! The lines of answers that take no memory.
 
 ghost use Rattle.std.specs.Prelude.{◌≡◌, ◌≤◌, IfSome, length};
-ghost use Rattle.debugger.specs.Replies.{back_line, fault_words, ceased_words, gone_line, stopped_line, unreached_line, reverse_line, break_line, paused_line, IsPauseOf, IsStopOf};
+ghost use Rattle.debugger.specs.Replies.{back_line, fault_words, ceased_words, gone_line, stopped_line, unreached_line, reverse_line, break_line, paused_line, test_words, watch_line, IsPauseOf, IsStopOf};
 ghost use Rattle.replay_session.specs.declared.paused.Paused.TheVariants as paused;
 
 use arrayvec::ArrayString;
@@ -69,16 +69,28 @@ pub(crate) fn stopped_line(stopped: Stopped, breaks: &[Break]) -> ArrayString<64
     line
 }
 
-/// Where all threads stopped, perhaps at a break at an instruction.
-pub fn paused_line(how: Paused, breaks: &[Break]) -> ArrayString<64>
+/// What stopped them that is none of the breaks.
+fn test_words(index: usize, instructions: usize) -> &'static str
+    ensures words { result.now ≡ test_words index instructions }
+    ensures short { length result.now ≤ 20 }
+{
+    if index < instructions {
+        "stopped instruction\n"
+    } else {
+        "stopped watch\n"
+    }
+}
+
+/// Where all threads stopped, perhaps at a break at one of so many instructions, or at a number that is watched.
+pub fn paused_line(how: Paused, breaks: &[Break], instructions: usize) -> ArrayString<64>
     requires { IsPauseOf how breaks.now }
-    ensures { result.bytes ≡ paused_line how breaks.now }
+    ensures { result.bytes ≡ paused_line how breaks.now instructions }
 {
     match how {
         Paused::Met(Met::Break(index)) => stopped_line(Stopped::Break(index), breaks),
-        Paused::Met(Met::Test(_)) => {
+        Paused::Met(Met::Test(index)) => {
             let mut line = ArrayString::<64>::new();
-            line.push_str("stopped instruction\n");
+            line.push_str(test_words(index, instructions));
             line
         }
         Paused::Finished => stopped_line(Stopped::Finished, breaks),
@@ -99,12 +111,16 @@ pub(crate) fn unreached_line(stopped: Stopped, breaks: &[Break]) -> ArrayString<
 }
 
 /// At which break a move back ends.
-pub(crate) fn reverse_line(found: Option<Met>, breaks: &[Break]) -> ArrayString<64>
+pub(crate) fn reverse_line(
+    found: Option<Met>,
+    breaks: &[Break],
+    instructions: usize,
+) -> ArrayString<64>
     requires { IfSome found (λ m. IsPauseOf (paused.Met m) breaks.now) }
-    ensures { result.bytes ≡ reverse_line found breaks.now }
+    ensures { result.bytes ≡ reverse_line found breaks.now instructions }
 {
     match found {
-        Some(met) => paused_line(Paused::Met(met), breaks),
+        Some(met) => paused_line(Paused::Met(met), breaks, instructions),
         None => {
             let mut line = ArrayString::<64>::new();
             line.push_str("no break before\n");
@@ -120,6 +136,18 @@ pub(crate) fn break_line(number: usize) -> ArrayString<64>
     let mut digits = Buffer::new();
     let mut line = ArrayString::<64>::new();
     line.push_str("break ");
+    line.push_str(digits.format(number));
+    line.push_str("\n");
+    line
+}
+
+/// A number that is watched, by its number from 0.
+pub(crate) fn watch_line(number: usize) -> ArrayString<64>
+    ensures { result.bytes ≡ watch_line number }
+{
+    let mut digits = Buffer::new();
+    let mut line = ArrayString::<64>::new();
+    line.push_str("watch ");
     line.push_str(digits.format(number));
     line.push_str("\n");
     line

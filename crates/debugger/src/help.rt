@@ -17,6 +17,8 @@ writer! FROM    go to behind the event that wrote the block of this byte last
 break F [N]     break where a thread comes to instruction N (0) of function F
 place T P       break behind the event of thread T after which it has made P
 write FROM LEN  break behind a write of a block that holds one of these bytes
+watch FROM LEN  break where the number in these 1, 2, 4 or 8 bytes changes;
+      [N]       with N, where it comes to be N or is N no more
 delete          forget all breaks
 threads         how each thread stands, and where
 where T         how thread T stands, and where

@@ -6,17 +6,18 @@ ghost use Rattle.wasm_replay.specs.Replays.{IsNotOpened, IsOfRun};
 ghost use Rattle.debugger.specs.Answers.{answer_text};
 ghost use Rattle.debugger.specs.At.{at_of, CanOpen};
 ghost use Rattle.debugger.specs.Replies.{break_count, IsLed, IsMove, IsOpening, Replies, Steps, MakesEvents, Breaks, Wants};
-ghost use Rattle.debugger.specs.declared.command.Command.TheVariants.{Back, Goto, Delete};
+ghost use Rattle.debugger.specs.declared.command.Command.TheVariants.{Back, Goto, Delete, Watch};
 
 use crate::answer::{Answer, line, lines, wanting};
 use crate::command::Command;
 use crate::debugger::Debugger;
-use crate::heads::{back_line, break_line, gone_line, stopped_line, unreached_line};
+use crate::heads::{back_line, break_line, gone_line, stopped_line, unreached_line, watch_line};
 use crate::help::help_text;
 use crate::opening::open_session;
 use crate::standing::standing_text;
 use crate::talking::Respond;
 use crate::touched::Role;
+use crate::watching::WatchedNumber;
 use crate::way::way_text;
 use arrayvec::ArrayString;
 use debug_views::{PlaceWriter, write_break};
@@ -72,6 +73,7 @@ impl<'a> Debugger<'a> {
             block: memory_limits(valid.module(), log.key().profile).block,
             breaks: Vec::new(alloc),
             instructions: Vec::new(alloc),
+            watches: Vec::new(alloc),
         })
     }
 
@@ -134,7 +136,7 @@ impl<'a> Debugger<'a> {
         }
     }
 
-    /// How many breaks there are.
+    /// How many breaks there are, but for numbers that are watched.
     pub(crate) fn break_count(&self) -> usize
         ensures { result ≡ break_count (at_of self.now) }
     {
@@ -153,6 +155,18 @@ impl<'a> Debugger<'a> {
         }
     }
 
+    /// Watches one more number.
+    fn watch(&mut self, alloc: Global, one: WatchedNumber) -> Answer
+        ensures opens { self.new.session.replay.opens ≡ self.old.session.replay.opens }
+        ensures replies { Replies (Watch one) (at_of self.old) (answer_text result) (at_of self.new) }
+    {
+        let number = self.watches.len();
+        match self.watches.push(one) {
+            Ok(()) => Answer::of_line(alloc, watch_line(number)),
+            Err(_) => wanting(),
+        }
+    }
+
     /// Takes all breaks away.
     fn delete(&mut self, alloc: Global) -> Answer
         ensures opens { self.new.session.replay.opens ≡ self.old.session.replay.opens }
@@ -160,6 +174,7 @@ impl<'a> Debugger<'a> {
     {
         self.breaks.clear();
         self.instructions.clear();
+        self.watches.clear();
         line(alloc, NO_BREAKS)
     }
 }
@@ -196,6 +211,7 @@ impl<'a> Respond for Debugger<'a> {
                 let one = write_break(self.block, range.from, range.len);
                 self.put_break(alloc, one)
             }
+            Command::Watch(one) => self.watch(alloc, one),
             Command::Delete => self.delete(alloc),
             Command::Threads => lines(standing_text(alloc, &self.places, self.session.world())),
             Command::Where { thread } => self.show_thread(alloc, thread),

@@ -2,12 +2,13 @@
 
 ghost use Rattle.std.specs.Prelude.{◌≡◌, ◌≤◌, ◌∷◌, [], Some, length};
 ghost use Rattle.text_lines.specs.Parts.{words};
-ghost use Rattle.debugger.specs.Lines.{number_of, alone, function_break, of_thread, of_thread_with, of_number, of_range, with_number, with_numbers, with_one, with_two, word_of, command_of, line_of};
+ghost use Rattle.debugger.specs.Lines.{number_of, number_64_of, alone, function_break, of_thread, of_thread_with, of_number, of_range, watch_of, width_of_length, with_number, with_numbers, with_one, with_three, with_two, word_of, command_of, line_of};
 
 use crate::command::{Command, Line};
+use crate::watching::WatchedNumber;
 use crate::word::word_of;
-use text_lines::{Parts, bits_32, is_integer};
-use wasm_types::ByteRange;
+use text_lines::{Parts, bits_32, bits_64, is_integer};
+use wasm_types::{ByteRange, Width};
 
 /// The most bytes of a line that is a command.
 pub(crate) const LONGEST: usize = 1024;
@@ -34,6 +35,8 @@ const PLACE: &[u8] = b"place";
 const BREAK: &[u8] = b"break";
 
 const WRITE: &[u8] = b"write";
+
+const WATCH: &[u8] = b"watch";
 
 const DELETE: &[u8] = b"delete";
 
@@ -72,6 +75,17 @@ fn number(word: &[u8]) -> Option<u32>
     match word {
         [b'-', ..] => None,
         _ if is_integer(word) => bits_32(word),
+        _ => None,
+    }
+}
+
+/// The number from 0 to 18446744073709551615 that a word is in decimal.
+fn number_64(word: &[u8]) -> Option<u64>
+    ensures { result ≡ number_64_of word.now }
+{
+    match word {
+        [b'-', ..] => None,
+        _ if is_integer(word) => bits_64(word),
         _ => None,
     }
 }
@@ -206,6 +220,30 @@ fn of_thread_with(word: &[u8], thread: u32, number: u32) -> Option<Command>
     }
 }
 
+/// The width of so many bytes.
+fn width_of_length(len: u32) -> Option<Width>
+    ensures { result ≡ width_of_length len }
+{
+    match len {
+        1 => Some(Width::One),
+        2 => Some(Width::Two),
+        4 => Some(Width::Four),
+        8 => Some(Width::Eight),
+        _ => None,
+    }
+}
+
+/// A break at the changes of a number that stands there, or of whether it is this one.
+fn watch_of(range: ByteRange, value: Option<u64>) -> Option<Command>
+    ensures { result ≡ watch_of range value }
+{
+    Some(Command::Watch(WatchedNumber {
+        address: range.from,
+        width: width_of_length(range.len)?,
+        value,
+    }))
+}
+
 /// The command of a word and a range of bytes.
 fn of_range(word: &[u8], range: ByteRange) -> Option<Command>
     ensures { result ≡ of_range word.now range }
@@ -214,6 +252,8 @@ fn of_range(word: &[u8], range: ByteRange) -> Option<Command>
         Some(Command::Write(range))
     } else if word == BYTES {
         Some(Command::Bytes(range))
+    } else if word == WATCH {
+        watch_of(range, None)
     } else {
         None
     }
@@ -246,6 +286,21 @@ fn with_two(word: &[u8], first: &[u8], second: &[u8]) -> Option<Command>
     }
 }
 
+/// The command of four words.
+fn with_three(word: &[u8], first: &[u8], second: &[u8], third: &[u8]) -> Option<Command>
+    ensures { result ≡ with_three word.now first.now second.now third.now }
+{
+    if word != WATCH {
+        return None;
+    }
+    let range = ByteRange {
+        from: number(first)?,
+        len: number(second)?,
+    };
+    let value = number_64(third)?;
+    watch_of(range, Some(value))
+}
+
 /// The command of the words of a line.
 fn command_of(line: &[u8]) -> Option<Command>
     ensures { result ≡ command_of (words line.now) }
@@ -258,8 +313,11 @@ fn command_of(line: &[u8]) -> Option<Command>
     let Some(second) = parts.take_part() else {
         return with_one(word, first);
     };
+    let Some(third) = parts.take_part() else {
+        return with_two(word, first, second);
+    };
     match parts.take_part() {
-        None => with_two(word, first, second),
+        None => with_three(word, first, second, third),
         Some(_) => None,
     }
 }

@@ -32,7 +32,10 @@ impl<'a> Debugger<'a> {
         ensures replies { Replies Continue (at_of self.old) (answer_text result) (at_of self.new) }
     {
         match self.run(alloc) {
-            Ok(how) => self.moved(alloc, paused_line(how, &self.breaks)),
+            Ok(how) => self.moved(
+                alloc,
+                paused_line(how, &self.breaks, self.instructions.len()),
+            ),
             Err(NoMemory) => wanting(),
         }
     }
@@ -68,7 +71,10 @@ impl<'a> Debugger<'a> {
         ensures passes { Passes (at_of self.old) passes (answer_text result) (at_of self.new) }
     {
         let how = self.pass(alloc, passes);
-        self.moved(alloc, paused_line(how, &self.breaks))
+        self.moved(
+            alloc,
+            paused_line(how, &self.breaks, self.instructions.len()),
+        )
     }
 
     /// Goes back to the break before.
@@ -78,7 +84,10 @@ impl<'a> Debugger<'a> {
         ensures replies { Replies Reverse (at_of self.old) (answer_text result) (at_of self.new) }
     {
         match self.go_reverse(alloc) {
-            Ok(found) => self.moved(alloc, reverse_line(found, &self.breaks)),
+            Ok(found) => self.moved(
+                alloc,
+                reverse_line(found, &self.breaks, self.instructions.len()),
+            ),
             Err(NoMemory) => wanting(),
         }
     }

@@ -57,7 +57,8 @@ pub fn ends(command: Command) -> bool
         Command::Step { .. } | Command::Event { .. } | Command::Finish { .. } => false,
         Command::Continue | Command::Again { .. } | Command::Back { .. } => false,
         Command::Reverse | Command::Goto { .. } | Command::GotoWriter { .. } => false,
-        Command::Place { .. } | Command::Function { .. } | Command::Write(_) => false,
+        Command::Place { .. } | Command::Function { .. } | Command::Write(_) | Command::Watch(_) =>
+            false,
         Command::Delete => false,
         Command::Threads | Command::Where { .. } | Command::Bytes(_) => false,
         Command::Locals { .. } | Command::Stack { .. } | Command::Waits { .. } => false,
