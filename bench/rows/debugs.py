@@ -1,6 +1,6 @@
 """Dialogues with a debugger of a replay, by the model. The world behind each step of the way is kept, so going back takes worlds off."""
 import re
-from model import World, s32, s64
+from model import World, s32, s64, schedule_text
 from views import bytes_shown, thread_line
 
 # ---- gathered logs
@@ -107,6 +107,7 @@ object O        which bytes object O is, its version, who wrote and read that
 writer FROM     which event wrote the block of this byte last, as T.P
 readers FROM    which events have read what was written there last
 way             the steps made so far, from the beginning on
+order           a schedule by which a run comes here, as `record --schedule` takes it
 help            these commands
 quit            end
 '''
@@ -115,7 +116,7 @@ def number(word, past=2**32):
     return int(word) if re.fullmatch(b'0|[1-9][0-9]*', word) and int(word) < past else None
 
 class Debugger:
-    def __init__(self, module, plan, log):
+    def __init__(self, module, plan, log, order=()):
         self.log, self.passed, self.legs, self.breaks, self.instructions, self.watches = log, [World(module, plan, log.block)], [], [], [], []
         self.forms = {(b'step', 1): lambda n: self.step(n, 1), (b'step', 2): self.step, (b'continue', 0): self.run_on,
                       (b'event', 1): lambda n: self.event(n, 1), (b'event', 2): self.event, (b'reverse', 0): self.reverse, (b'goto', 2): self.goto,
@@ -124,7 +125,8 @@ class Debugger:
                       (b'writer', 1): lambda at: self.who(at, 'written', 'w%d@%d/', 1), (b'readers', 1): lambda at: self.who(at, 'read', 'r%d@%d', 0),
                       (b'locals', 1): lambda n: self.locals(n, 0), (b'locals', 2): self.locals, (b'stack', 1): lambda n: self.stack(n, 0), (b'stack', 2): self.stack,
                       (b'waits', 1): self.waits, (b'finish', 1): self.finish, (b'again', 1): self.again, (b'object', 1): self.object, (b'writer!', 1): self.to_writer,
-                      (b'way', 0): self.way, (b'help', 0): lambda: HELP}
+                      (b'way', 0): self.way, (b'order', 0): self.order, (b'help', 0): lambda: HELP}
+        for n in order: self.go(n, 1, lambda did: True)
     world = property(lambda self: self.passed[-1])
     def answer(self, line):
         """What is answered to a line that is not `quit`."""
@@ -311,11 +313,21 @@ class Debugger:
         which = '%s %d..%d' % (('waiters', 'bytes')[o % 2], first, first + size - 1) if o else 'length'
         return ('object %d %s version %d reads %d\n' % (o, which, self.world.version.get(o, 0), self.world.reads.get(o, 0))
                 + self.told(o, 'written', 'w%d@%d/', 1) + self.told(o, 'read', 'r%d@%d', 0))
+    def order(self):
+        """The picks by which the steps were made, as a schedule."""
+        picks = []
+        for before, after in zip(self.passed, self.passed[1:]):
+            n, = (t.n for t in after.threads if t.steps != before.threads[t.n].steps)
+            there = len(before.threads[n].entries)
+            goes = after.threads[n].entries[there:] == [] or after.threads[n].entries[there][0] != 'timedout'
+            if picks and picks[-1][:2] == (n, goes): picks[-1] = (n, goes, picks[-1][2] + 1)
+            else: picks.append((n, goes, 1))
+        return schedule_text(picks) if len(self.passed) <= 1000001 else 'error: more than 1000000 steps\n'
     def way(self): return ''.join('%s steps %d\n' % (name if name == 'rounds' else 'thread %d' % name, steps) for name, steps in self.legs)
 
-def talk(module, plan, lines, text):
-    """The answers to what comes, where these pieces were gathered."""
-    return Debugger(module, plan, Gathered(lines)).talk(text)
+def talk(module, plan, lines, text, order=()):
+    """The answers to what comes, where these pieces were gathered, behind turns of the threads of an order."""
+    return Debugger(module, plan, Gathered(lines), order).talk(text)
 
 # ---- lines that come
 
@@ -325,6 +337,8 @@ TALKS = {
     'opening': lines('threads', 'way', 'back', 'back 7', 'back 0', 'way', 'bytes 0 16'),
     'through': lines('continue', 'way', 'continue', 'way', 'bytes 0 4', 'back', 'way', 'back 4', 'way', 'step 1 2', 'way', 'continue', 'way',
                      'back 4294967295', 'way', 'back', 'continue'),
+    'orders': lines('order', 'way', 'step 0 2', 'order', 'step 1 99', 'order', 'step 0', 'order', 'back', 'order', 'continue', 'order', 'way', 'back 3', 'order', 'continue', 'order',
+                    'back 99', 'order', 'goto 1 1', 'order', 'order 1'),
     'alone': lines('step 0', 'step 0 2', 'step 1 3', 'step 0 4294967295', 'step 1 4294967295', 'step 0 99', 'way', 'bytes 0 4'),
     'nobody': lines('step 2', 'step 7 0', 'step 4294967295 4294967295', 'step 0 0', 'way'),
     'pair': lines('step 0 99', 'step 1 99', 'step 0 99', 'step 1 99', 'way', 'bytes 0 8', 'back 3', 'way', 'continue', 'back 99', 'step 1 3'),
@@ -426,4 +440,4 @@ def drawn_talk(words, threads, count):
         if kind == 12: return 'write %d %d' % ((0, 4, 60, 64)[words(4)], (0, 1, 4, 8)[words(4)])
         if kind == 13: return ('delete', 'threads', 'steps', 'bytes 0 4')[words(4)]
         return ('way', 'bytes %d %d' % (some(70), some(8)))[kind - 14]
-    return lines(*[line() for _ in range(count)], 'way')
+    return lines(*[line() for _ in range(count)], 'way', 'order')

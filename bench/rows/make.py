@@ -359,6 +359,7 @@ refused('view bad.wasm bad.plan absent.pieces', '1 Refused 33')
 
 # ---- traces
 
+def numbers(text): return [int(n) for n in text.split(',')] if text else []
 def traced(pieces, entries, ends, order='', only='', held=(), since=None, to=None, offsets=False):
     line = 'trace counter.wasm counter.plan %s.pieces' % pieces
     if order: line += ' --order ' + order
@@ -367,7 +368,6 @@ def traced(pieces, entries, ends, order='', only='', held=(), since=None, to=Non
     if since: line += ' --from %d.%d' % since
     if to: line += ' --to %d.%d' % to
     if offsets: line += ' --offsets'
-    numbers = lambda list: [int(n) for n in list.split(',')] if list else []
     command(line, trace(World(COUNTER, TWO), entries, ends, numbers(order), numbers(only), held, since, to, offsets))
 traced('hole', HOLE, ENDS)
 for order in ORDERS + ('1,1,1,1,7,0,0',):
@@ -686,19 +686,23 @@ for notes in NOTES:
 
 # ---- dialogues with a debugger
 
-def debugged(name, *talks, more=''):
+def debugged(name, *talks, more='', order=''):
     """What is answered to lines that come, over the replay of a log."""
     module_file, module, plan_file, plan, pieces = logs[name]
     for it in talks:
         keep(it + '.lines', TALKS[it])
-        command('debug %s %s %s.pieces%s < %s.lines' % (module_file, plan_file, name, more, it), talk(module, plan, pieces, TALKS[it]))
+        words = module_file, plan_file, name, more + (' --order ' + order if order else ''), it
+        command('debug %s %s %s.pieces%s < %s.lines' % words, talk(module, plan, pieces, TALKS[it], numbers(order)))
 for name in ('missing', 'hole', 'clash', 'version', 'object', 'kind', 'longer', 'shorter', 'noend', 'twoends', 'stray', 'pastend', 'old', 'otherorder'):
     logs[name] = 'counter.wasm', COUNTER, 'counter.plan', TWO, kept[name + '.pieces'].decode()
 logs['whole'] = 'counter.wasm', COUNTER, 'counter.plan', TWO, FIRST.lines(D, 0, 4096)
 EVERY = ('opening', 'through', 'alone', 'nobody', 'places', 'writes', 'watches', 'elsewhere', 'first', 'legs', 'rounds', 'events', 'gotos', 'reverse', 'who', 'asked', 'around', 'finish', 'again', 'objects', 'writers', 'functions', 'ranges', 'help', 'bad', 'long', 'blank', 'unended', 'last', 'behind', 'only')
 debugged('whole', *EVERY)
 debugged('whole', 'unended', more=' --why')
-for name in ('whole', 'second', 'hole', 'missing', 'clash', 'version', 'kind', 'longer', 'shorter', 'noend', 'twoends', 'readers', 'five', 'traps'): debugged(name, 'waits')
+for order in ORDERS + ('1,1,1,1,7,0,0', '4294967295'): debugged('whole', 'orders', 'through', order=order)
+for name in ('whole', 'second', 'hole', 'missing', 'clash', 'version', 'kind', 'longer', 'shorter', 'noend', 'twoends', 'readers', 'five', 'traps', 'limited1', 'limited2'): debugged(name, 'waits', 'orders')
+for name in ('hole', 'clash', 'kind'): debugged(name, 'orders', order='1,0,1,1,0,0,0')
+for order in ('1,1,1,1', '0,1,0,1'): debugged('limited1', 'orders', order=order)
 command('debug counter.wasm counter.plan whole.pieces')
 command('debug counter.wasm counter.plan whole.pieces < empty')
 for name in ('second', 'third', 'fourth'): debugged(name, 'alone', 'legs', 'rounds', 'places', 'events', 'gotos', 'reverse', 'who', 'again', 'functions')
@@ -739,6 +743,7 @@ for files, text in (
         ('bad.wasm bad.plan absent.pieces', '1 Refused 33')):
     refused('debug ' + files, text)
     command('debug %s < alone.lines' % files, '', 'refused %s\n' % text, 1)
+for order in ('=', ' 1,'): usage('debug counter.wasm counter.plan first.pieces --order' + order, "'--order <LIST>' takes 1 to 1000000 thread numbers, joined by commas")
 for more in (' --threads', ' --names'): unexpected('debug counter.wasm counter.plan first.pieces' + more, more[1:], 'debug <MODULE> <PLAN> <PIECES>', True)
 
 # ---- exchanges with a debug adapter

@@ -11,7 +11,7 @@ use Rattle.replay_gate.specs.declared.breaks.Stopped.TheVariants as stopped
 use Rattle.debugger.specs.At.{at_of, CanOpen, IsOpenedAs}
 use Rattle.debugger.specs.Replies.{DebugAt, IsLed, IsToldOf, Reaches, Replies, moved}
 use Rattle.debugger.specs.declared.command.Command.{Command as DebugCommand}
-use Rattle.debugger.specs.declared.command.Command.TheVariants.{Step, Event, Finish, Continue, Again, Back, Reverse, Goto, GotoWriter, Place, Function, Write, Watch, Delete, Threads, Where, Locals, Stack, Waits, Around, Object, Writer, Readers, Bytes, Way, Help, Quit}
+use Rattle.debugger.specs.declared.command.Command.TheVariants.{Step, Event, Finish, Continue, Again, Back, Reverse, Goto, GotoWriter, Place, Function, Write, Watch, Delete, Threads, Where, Locals, Stack, Waits, Around, Object, Writer, Readers, Bytes, Way, Order, Help, Quit}
 use Rattle.debugger.specs.declared.debugger.Debugger.{Debugger}
 use Rattle.adapter_messages.specs.declared.request.Motion.{Motion}
 use Rattle.adapter_messages.specs.declared.request.Command.{Command}
@@ -75,6 +75,7 @@ replies_code (Writer address) s text u h = unchanged_code s u h.1
 replies_code (Readers address) s text u h = unchanged_code s u h.1
 replies_code (Bytes range) s text u h = unchanged_code s u h.1
 replies_code Way s text u h = unchanged_code s u h.1
+replies_code Order s text u h = unchanged_code s u h.1
 replies_code Help s text u h = unchanged_code s u h
 replies_code Quit s text u h = absurd h
 

@@ -5,7 +5,7 @@ use Rattle.adapter_messages.specs.declared.event.EventKind.{EventKind}
 use Rattle.adapter_messages.specs.declared.event.StopReason.TheVariants.{Pause}
 use Rattle.adapter_messages.specs.declared.reply.Reply.{Reply}
 use Rattle.debugger.specs.declared.command.Command.{Command}
-use Rattle.debugger.specs.declared.command.Command.TheVariants.{Step, Event, Finish, Continue, Again, Back, Reverse, Goto, GotoWriter, Place, Function, Write, Watch, Delete, Threads, Where, Locals, Stack, Waits, Around, Object, Writer, Readers, Bytes, Way, Help, Quit}
+use Rattle.debugger.specs.declared.command.Command.TheVariants.{Step, Event, Finish, Continue, Again, Back, Reverse, Goto, GotoWriter, Place, Function, Write, Watch, Delete, Threads, Where, Locals, Stack, Waits, Around, Object, Writer, Readers, Bytes, Way, Order, Help, Quit}
 use Rattle.debugger.specs.declared.command.Line.{Line}
 use Rattle.debugger.specs.declared.command.Line.TheVariants as line
 use Rattle.debugger.specs.Lines.{ends}
@@ -40,6 +40,7 @@ moves (Writer address) = false
 moves (Readers address) = false
 moves (Bytes range) = false
 moves Way = false
+moves Order = false
 moves Help = false
 moves Quit = false
 

@@ -211,7 +211,7 @@ IsAsked name rows (Replay r by_threads names offsets) =
     (name ≡ codes "replay") × IsReplayAsked rows r × IsTurnsAsked rows by_threads × (names ≡ has_flag (codes "names") rows) × (offsets ≡ has_flag (codes "offsets") rows)
 IsAsked name rows (View v) = (name ≡ codes "view") × IsViewAsked rows v
 IsAsked name rows (Trace t) = (name ≡ codes "trace") × IsTraceAsked rows t
-IsAsked name rows (Debug r) = (name ≡ codes "debug") × AreFilesAsked rows r × (r.order.items ≡ [])
+IsAsked name rows (Debug r) = (name ≡ codes "debug") × IsReplayAsked rows r
 IsAsked name rows Adapter = name ≡ codes "dap"
 
 -- the same of a command and its values that a parser found

@@ -89,13 +89,9 @@ with_quiet_forms a = with_rule (with_forms a) (flag_rule (codes "quiet"))
 abbrev pub hunting : App
 hunting = with_why (with_quiet_forms (with_sizes (with_range_of_runs (with_signs (on_program (new_app (codes "hunt")))))))
 
--- a replay's files
-abbrev pub on_log : App → App
-on_log a = with_rule (on_program a) (file_rule (codes "PIECES"))
-
--- and its order
+-- a replay's files and its order
 abbrev pub on_pieces : App → App
-on_pieces a = with_rule (on_log a) (option_rule (codes "order"))
+on_pieces a = with_rule (with_rule (on_program a) (file_rule (codes "PIECES"))) (option_rule (codes "order"))
 
 abbrev pub replaying : App
 replaying = with_why (with_names (with_rule (on_pieces (new_app (codes "replay"))) (flag_rule (codes "threads"))))
@@ -118,7 +114,7 @@ abbrev pub tracing : App
 tracing = with_why (with_offsets (with_events (on_pieces (new_app (codes "trace")))))
 
 abbrev pub debugging : App
-debugging = with_why (on_log (new_app (codes "debug")))
+debugging = with_why (on_pieces (new_app (codes "debug")))
 
 abbrev pub adapting : App
 adapting = with_why (new_app (codes "dap"))

@@ -509,8 +509,12 @@ standard input, one in each line, and answers each on standard output:
   writer FROM     which event wrote the block of this byte last, as T.P
   readers FROM    which events have read what was written there last
   way             the steps made so far, from the beginning on
+  order           the same as a schedule, by which `wreplay record` comes here
   help            these commands
   quit            end; so does the end of the input
+
+--order says which threads take turns before the first command, one turn for
+each number, as for `wreplay replay`.
 
 A step is one instruction. A thread waits at each access until the objects have
 the versions that the log names, so where it cannot go on other threads have to

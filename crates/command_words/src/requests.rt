@@ -195,7 +195,7 @@ pub enum Request<'a> {
     View(ViewRequest<'a>),
     /// A trace of a replay, a line for each event.
     Trace(TraceRequest<'a>),
-    /// A replay that goes forward and back as commands say; it has no order.
+    /// A replay that goes forward and back as commands say, behind the turns of its order.
     Debug(ReplayRequest<'a>),
     /// The exchange of a debug adapter, whose client names the files.
     Adapter,

@@ -335,7 +335,7 @@ static OF_TRACE: &[ArgumentRow] = &[
 ];
 
 /// The arguments of `debug`.
-static OF_DEBUG: &[ArgumentRow] = &[MODULE, PLAN, PIECES, WHY];
+static OF_DEBUG: &[ArgumentRow] = &[MODULE, PLAN, PIECES, ORDER, WHY];
 
 /// The arguments of `dap`.
 static OF_ADAPTER: &[ArgumentRow] = &[WHY];

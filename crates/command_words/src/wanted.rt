@@ -434,7 +434,7 @@ fn replay_in<'a>(matches: &ArgMatches<'a>, order: Vec<u32>) -> Wanted<ReplayRequ
     })
 }
 
-/// The replay that the values of `replay`, `view` or `trace` ask for.
+/// The replay that the values of `replay`, `view`, `trace` or `debug` ask for.
 fn replay_of<'a>(
     alloc: Global,
     matches: &ArgMatches<'a>,
@@ -716,7 +716,7 @@ pub(crate) fn request_of<'a>(
             Ok(trace) => Ok(Ok(Request::Trace(trace))),
             Err(wrong) => Ok(Err(wrong)),
         },
-        "debug" => match replay_in(matches, Vec::new(alloc)) {
+        "debug" => match replay_of(alloc, matches)? {
             Ok(replay) => Ok(Ok(Request::Debug(replay))),
             Err(wrong) => Ok(Err(wrong)),
         },

@@ -23,14 +23,14 @@ fault_of debugging.SinkFailed = SinkFailed
 module _ (brought : List ℕ → Type 0) (ended : Type 0) (took : List ℕ → Type 0) where
   -- the dialogue about the log stops with this fault; `unused` says that nothing was read from the source or written,
   -- `broke` that the source failed, and `unwritable` that the output did
-  abbrev pub IsBroken : Type 0 → Type 0 → Type 0 → Module → PlanValue → Log → Fault → Type 0
-  IsBroken unused broke unwritable m plan log fault = (stop : DebugFault) × (fault ≡ fault_of stop) × IsDialogueStopped m plan log brought ended took unused broke unwritable stop
+  abbrev pub IsBroken : Type 0 → Type 0 → Type 0 → Module → PlanValue → Log → List ℕ → Fault → Type 0
+  IsBroken unused broke unwritable m plan log order fault = (stop : DebugFault) × (fault ≡ fault_of stop) × IsDialogueStopped m plan log order brought ended took unused broke unwritable stop
 
   module _ (holds : List ℕ → List ℕ → Type 0) where
     -- the dialogue about the log in the files stops before its end
     abbrev pub IsDebugBroken : Type 0 → Type 0 → Type 0 → ReplayRequest → Fault → Type 0
     IsDebugBroken unused broke unwritable request fault =
-        (m : Module) × (plan : PlanValue) × (log : Log) × IsReplayInput holds request m plan log × IsBroken unused broke unwritable m plan log fault
+        (m : Module) × (plan : PlanValue) × (log : Log) × IsReplayInput holds request m plan log × IsBroken unused broke unwritable m plan log request.order.items fault
 
     -- the first refusal: of the module, else of the plan, else of the piece lines, else of their dialogue, of which alone
     -- a beginning may have been written
@@ -46,7 +46,7 @@ module _ (brought : List ℕ → Type 0) (ended : Type 0) (holds : List ℕ → 
     pub log : Log
     pub input : IsReplayInput holds request m plan log
     pub of_run : IsOfRun m plan log
-    pub dialogue : IsDialogue m plan log brought ended text
+    pub dialogue : IsDialogue m plan log request.order.items brought ended text
 
   -- which the output took
   abbrev pub IsShownDebug : (List ℕ → Type 0) → ReplayRequest → Type 0

@@ -32,6 +32,7 @@ fn fault_of(fault: DebugFault) -> Fault
 fn debug_input<R: Source, W: Sink>(
     alloc: Global,
     input: &ReplayInput,
+    order: &[u32],
     source: &mut R,
     output: &mut W,
 ) -> Result<(), Fault>
@@ -39,8 +40,8 @@ fn debug_input<R: Source, W: Sink>(
     requires source { R.failed source.old < 2 ^ 64 - 1 }
     requires output { W.failed output.old < 2 ^ 64 - 1 }
     ensures of_run { OnOk result (IsOfRun input.now.program.valid input.now.program.plan (log_of input.now.replica)) }
-    ensures done { OnOk result (IsShownDialogue input.now.program.valid input.now.program.plan (log_of input.now.replica) (λ text. R.brings source.old text source.new) (R.ended source.new) (λ text. W.takes output.old text output.new)) }
-    ensures stopped { IfErr result (IsBroken (λ text. R.brings source.old text source.new) (R.ended source.new) (λ text. W.takes output.old text output.new) ((source.new ≡ source.old) × (output.new ≡ output.old)) (R.failed source.new ≡ R.failed source.old + 1) (W.failed output.new ≡ W.failed output.old + 1) input.now.program.valid input.now.program.plan (log_of input.now.replica)) }
+    ensures done { OnOk result (IsShownDialogue input.now.program.valid input.now.program.plan (log_of input.now.replica) order.now (λ text. R.brings source.old text source.new) (R.ended source.new) (λ text. W.takes output.old text output.new)) }
+    ensures stopped { IfErr result (IsBroken (λ text. R.brings source.old text source.new) (R.ended source.new) (λ text. W.takes output.old text output.new) ((source.new ≡ source.old) × (output.new ≡ output.old)) (R.failed source.new ≡ R.failed source.old + 1) (W.failed output.new ≡ W.failed output.old + 1) input.now.program.valid input.now.program.plan (log_of input.now.replica) order.now) }
     ensures source_worked { OnOk result (R.failed source.new ≡ R.failed source.old) }
     ensures output_worked { OnOk result (W.failed output.new ≡ W.failed output.old) }
 {
@@ -50,6 +51,7 @@ fn debug_input<R: Source, W: Sink>(
         &program.valid,
         &program.plan,
         input.replica.log(),
+        order,
         source,
         output,
     ) {
@@ -79,5 +81,5 @@ pub fn debug<L: Log, F: Files, R: Source, W: Sink>(
         Ok(input) => input,
         Err(fault) => return Err(fault),
     };
-    debug_input(alloc, &input, source, output)
+    debug_input(alloc, &input, request.order.as_slice(), source, output)
 }

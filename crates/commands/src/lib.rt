@@ -35,6 +35,7 @@ mod trace_command;
 mod view_command;
 
 pub use adapter_command::adapt;
+pub use adapter_messages::FrameFault;
 pub use check_command::check;
 pub use debug_command::debug;
 pub use fault::Fault;

@@ -13,3 +13,4 @@ pub mod Awaited
 pub mod ToldEvents
 pub mod Reached
 pub mod ShownBytes
+pub mod Shown

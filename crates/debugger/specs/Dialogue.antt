@@ -5,29 +5,30 @@ use Rattle.wasm_world.specs.Plans.{PlanValue}
 use Rattle.replica.specs.declared.log.Log.{Log as GatheredLog}
 use Rattle.wasm_replay.specs.Replays.{IsNotOpened, IsOfRun}
 use Rattle.debugger.specs.Talks.{IsWhole, IsUnended, IsUntaken}
+use Rattle.debugger.specs.Orders.{after_turns}
 use Rattle.debugger.specs.Replies.{DebugAt, IsOpening, Replies}
 use Rattle.debugger.specs.declared.debugging.DebugFault.{DebugFault}
 use Rattle.debugger.specs.declared.debugging.DebugFault.TheVariants.{Replay, SourceFailed, SinkFailed}
 
--- What came, and whether nothing more comes.
-module _ (m : Module) (plan : PlanValue) (log : GatheredLog) (brought : List ℕ → Type 0) (ended : Type 0) where
-  -- the answers to the lines that came, from the opening world of the log's run on
+-- Which threads take turns before the first line, what came, and whether nothing more comes.
+module _ (m : Module) (plan : PlanValue) (log : GatheredLog) (order : List ℕ) (brought : List ℕ → Type 0) (ended : Type 0) where
+  -- the answers to the lines that came, from where the turns lead from the opening world of the log's run
   pub record IsDialogue (text : List ℕ) : Type 0 where
     pub start : DebugAt
     pub opening : IsOpening m plan log start
-    pub talk : IsWhole Replies brought start ended text
+    pub talk : IsWhole Replies brought (after_turns start order) ended text
 
   -- the same up to where no more lines could be had
   pub record IsCutOff (text : List ℕ) : Type 0 where
     pub start : DebugAt
     pub opening : IsOpening m plan log start
-    pub talk : IsUnended Replies brought start text
+    pub talk : IsUnended Replies brought (after_turns start order) text
 
   -- the same up to a part of the last answer
   pub record IsCutShort (text : List ℕ) : Type 0 where
     pub start : DebugAt
     pub opening : IsOpening m plan log start
-    pub talk : IsUntaken Replies brought start ended text
+    pub talk : IsUntaken Replies brought (after_turns start order) ended text
 
   -- Which text was taken.
   module _ (took : List ℕ → Type 0) where

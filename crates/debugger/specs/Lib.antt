@@ -10,5 +10,6 @@ pub mod Touched
 pub mod Locals
 pub mod Waits
 pub mod Replies
+pub mod Orders
 pub mod At
 pub mod Dialogue

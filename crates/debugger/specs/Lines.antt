@@ -9,7 +9,7 @@ use Rattle.wasm_types.specs.declared.range.ByteRange.{ByteRange}
 use Rattle.wasm_types.specs.declared.width.Width.{Width}
 use Rattle.wasm_types.specs.declared.width.Width.TheVariants.{One, Two, Four, Eight}
 use Rattle.debugger.specs.declared.command.Command.{Command}
-use Rattle.debugger.specs.declared.command.Command.TheVariants.{Step, Event, Finish, Continue, Again, Back, Reverse, Goto, GotoWriter, Place, Function, Write, Watch, Delete, Threads, Where, Locals, Stack, Waits, Around, Object, Writer, Readers, Bytes, Way, Help, Quit}
+use Rattle.debugger.specs.declared.command.Command.TheVariants.{Step, Event, Finish, Continue, Again, Back, Reverse, Goto, GotoWriter, Place, Function, Write, Watch, Delete, Threads, Where, Locals, Stack, Waits, Around, Object, Writer, Readers, Bytes, Way, Order, Help, Quit}
 use Rattle.debugger.specs.declared.word.Word.{Word}
 use Rattle.debugger.specs.declared.command.Line.{Line}
 use Rattle.debugger.specs.declared.command.Line.TheVariants as line
@@ -31,8 +31,9 @@ alone word =
     if bytes_eq word (codes "delete") then Some Delete else (
     if bytes_eq word (codes "threads") then Some Threads else (
     if bytes_eq word (codes "way") then Some Way else (
+    if bytes_eq word (codes "order") then Some Order else (
     if bytes_eq word (codes "help") then Some Help else (
-    if bytes_eq word (codes "quit") then Some Quit else None)))))))
+    if bytes_eq word (codes "quit") then Some Quit else None))))))))
 
 -- a word of at most 64 bytes, with zeros behind it
 abbrev pub word_of : List ℕ → Option Word
@@ -179,6 +180,7 @@ ends (Writer address) = false
 ends (Readers address) = false
 ends (Bytes range) = false
 ends Way = false
+ends Order = false
 ends Help = false
 ends Quit = true
 

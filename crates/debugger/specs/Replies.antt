@@ -1,5 +1,5 @@
 -- What a debugger of a replay answers to its commands.
-use Rattle.std.specs.Prelude.{◌≡◌, ◌⊎◌, ℕ, zero, suc, ◌+◌, ◌-◌, ◌/◌, ◌<◌, ◌≤◌, Bool, true, false, List, [], ◌∷◌, ◌++◌, Option, Some, None, codes, length, map, nat_lt, slice_get, if◌then◌else◌}
+use Rattle.std.specs.Prelude.{◌≡◌, ◌⊎◌, ℕ, zero, suc, ◌+◌, ◌-◌, ◌/◌, ◌<◌, ◌≤◌, Bool, true, false, List, [], ◌∷◌, ◌++◌, Option, Some, None, Ok, codes, length, map, nat_lt, slice_get, if◌then◌else◌}
 use Rattle.std.specs.List.{flat_map}
 use Rattle.std.specs.Fmt.{decimal}
 use Rattle.wasm_types.specs.declared.range.ByteRange.{ByteRange}
@@ -9,7 +9,9 @@ use Rattle.wasm_types.specs.Memories.{block_power}
 use Rattle.rw_objects.specs.declared.count.Count.{Count}
 use Rattle.wasm_world.specs.Objects.{block_of, block_object}
 use Rattle.wasm_world.specs.SharedMemory.{shared_memory}
+use Rattle.event_core.specs.declared.pick.Pick.{Pick}
 use Rattle.event_core.specs.Threads.{ThreadAt, all_steps}
+use Rattle.pick_schedule.specs.Schedule.{schedule_of}
 use Rattle.wasm_world.specs.CodePlace.{CodePlace}
 use Rattle.wasm_world.specs.Standing.{locals_at, operands_at}
 use Rattle.wasm_world.specs.Opening.{WasmWorld}
@@ -38,8 +40,9 @@ use Rattle.replay_session.specs.declared.paused.Paused.{Paused}
 use Rattle.replay_session.specs.declared.paused.Paused.TheVariants as paused
 use Rattle.replay_session.specs.Events.{EventsCease, events_on}
 use Rattle.replay_session.specs.Gone.{CeasesSo, IfFault}
-use Rattle.replay_session.specs.Legs.{with_thread, with_rounds, without_last}
+use Rattle.replay_session.specs.Legs.{steps_of_way, with_thread, with_rounds, without_last}
 use Rattle.replay_session.specs.Pauses.{PausesAt, PausesRight, PausesFree}
+use Rattle.replay_session.specs.Picks.{PicksLead}
 use Rattle.replay_session.specs.Reaching.{GoesTo}
 use Rattle.replay_session.specs.Reverse.{GoesBackUntil}
 use Rattle.replay_session.specs.Until.{UntilCeases}
@@ -63,7 +66,7 @@ use Rattle.debugger.specs.Watches.{seen_now}
 use Rattle.debugger.specs.declared.watching.WatchedNumber.{WatchedNumber}
 use Rattle.debugger.specs.declared.word.Word.{Word}
 use Rattle.debugger.specs.declared.command.Command.{Command}
-use Rattle.debugger.specs.declared.command.Command.TheVariants.{Step, Event, Finish, Continue, Again, Back, Reverse, Goto, GotoWriter, Place, Function, Write, Watch, Delete, Threads, Where, Locals, Stack, Waits, Around, Object, Writer, Readers, Bytes, Way, Help, Quit}
+use Rattle.debugger.specs.declared.command.Command.TheVariants.{Step, Event, Finish, Continue, Again, Back, Reverse, Goto, GotoWriter, Place, Function, Write, Watch, Delete, Threads, Where, Locals, Stack, Waits, Around, Object, Writer, Readers, Bytes, Way, Order, Help, Quit}
 use Rattle.debugger.specs.declared.touched.Events.TheVariants.{Made}
 use Rattle.debugger.specs.declared.touched.Role.{Role}
 use Rattle.debugger.specs.declared.touched.Role.TheVariants as role
@@ -481,6 +484,16 @@ pub record GoesToWriter (s : DebugAt) (address : ℕ) (text : List ℕ) (u : Deb
   pub goes : ((e : EventAt) × IsFirstEvent (gathered_log s.log) (sought_at s role.Writer address) s.world.threads e × (Reaches s e.thread (e.place + 1) text u ⊎ Wants s text u))
       ⊎ (NoEvent (gathered_log s.log) (sought_at s role.Writer address) s.world.threads × (text ≡ nobody_line) × (u ≡ s))
 
+-- the lines of a schedule by which a run comes here; a schedule has no more picks
+pub record IsOrder (s : DebugAt) (text : List ℕ) : Type 0 where
+  pub picks : List Pick
+  pub lines : schedule_of text ≡ Ok picks
+  pub comes : ∥ PicksLead shared_memory thread_code (steps_of_way s.legs) picks s.opening s.world ∥₁
+
+pub record IsTooLong (s : DebugAt) (text : List ℕ) : Type 0 where
+  pub many : 1000000 < steps_of_way s.legs
+  pub is : text ≡ codes "error: more than 1000000 steps\n"
+
 abbrev pub Replies : Command → DebugAt → List ℕ → DebugAt → Type 0
 Replies (Step thread steps) s text u = Steps s thread steps text u
 Replies (Event thread events) s text u = MakesEvents s thread events text u
@@ -507,5 +520,6 @@ Replies (Writer address) s text u = (AreTold s role.Writer address text ⊎ AreP
 Replies (Readers address) s text u = (AreTold s role.Reader address text ⊎ ArePast s (byte_at address) text) × (u ≡ s)
 Replies (Bytes range) s text u = (AreShown s range text ⊎ ArePast s range text) × (u ≡ s)
 Replies Way s text u = IsBody (way_text s.legs) text × (u ≡ s)
+Replies Order s text u = (IsOrder s text ⊎ (IsTooLong s text ⊎ (text ≡ memory_line))) × (u ≡ s)
 Replies Help s text u = u ≡ s
 Replies Quit s text u = ⊥

@@ -57,6 +57,8 @@ pub enum Command {
     Bytes(ByteRange),
     /// The way from the opening world to here.
     Way,
+    /// A schedule by which a run comes here.
+    Order,
     /// Which commands there are.
     Help,
     /// The end.

@@ -31,6 +31,7 @@ object O        which bytes object O is, its version, who wrote and read that
 writer FROM     which event wrote the block of this byte last, as T.P
 readers FROM    which events have read what was written there last
 way             the steps made so far, from the beginning on
+order           a schedule by which a run comes here, as `record --schedule` takes it
 help            these commands
 quit            end
 ";

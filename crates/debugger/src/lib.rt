@@ -2,8 +2,8 @@
 //!
 //! `talk`: each line that comes is answered, up to one that asks for the end, or to the end of what comes (`done`); where
 //! lines can't be had, or answers not written, what was read and taken is said (`broken`). `Debugger` answers by
-//! `Replies`: each command leads to a state, of which the answer tells. `debug_log` is both, from the opening world of a
-//! gathered log on.
+//! `Replies`: each command leads to a state, of which the answer tells. `debug_log` is both, from where the turns of an
+//! order lead from the opening world of a gathered log.
 #![tactic(auto)]
 
 mod answer;
@@ -23,6 +23,7 @@ mod made_by;
 mod moves;
 mod objects;
 mod opening;
+mod order;
 mod questions;
 mod reading;
 mod running;

@@ -32,7 +32,7 @@ use wasm_world::{Plan, Valid, memory_limits};
 const NO_BREAKS: &str = "no breaks\n";
 
 /// The refusal of a log that is not opened.
-fn unopened(valid: &Valid, plan: &Plan, log: &Log, fault: WasmReplayFault) -> Unreplayed
+pub(crate) fn unopened(valid: &Valid, plan: &Plan, log: &Log, fault: WasmReplayFault) -> Unreplayed
     ensures { result.fault ≡ fault }
 {
     let standing = Standing::unopened(valid, plan, log, fault);
@@ -224,6 +224,7 @@ impl<'a> Respond for Debugger<'a> {
             Command::Readers { address } => self.tell(alloc, Role::Reader, address),
             Command::Bytes(range) => self.show(alloc, range),
             Command::Way => lines(way_text(alloc, self.session.legs())),
+            Command::Order => self.show_order(alloc),
             Command::Help => lines(help_text(alloc)),
             Command::Quit => unreachable!(),
         }

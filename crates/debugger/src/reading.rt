@@ -64,6 +64,8 @@ const BYTES: &[u8] = b"bytes";
 
 const WAY: &[u8] = b"way";
 
+const ORDER: &[u8] = b"order";
+
 const HELP: &[u8] = b"help";
 
 const QUIT: &[u8] = b"quit";
@@ -106,6 +108,8 @@ fn alone(word: &[u8]) -> Option<Command>
         Some(Command::Threads)
     } else if word == WAY {
         Some(Command::Way)
+    } else if word == ORDER {
+        Some(Command::Order)
     } else if word == HELP {
         Some(Command::Help)
     } else if word == QUIT {

@@ -62,7 +62,8 @@ pub fn ends(command: Command) -> bool
         Command::Delete => false,
         Command::Threads | Command::Where { .. } | Command::Bytes(_) => false,
         Command::Locals { .. } | Command::Stack { .. } | Command::Waits { .. } => false,
-        Command::Around { .. } | Command::Object { .. } | Command::Way => false,
+        Command::Around { .. } | Command::Object { .. } => false,
+        Command::Way | Command::Order => false,
         Command::Writer { .. } | Command::Readers { .. } | Command::Help => false,
     }
 }

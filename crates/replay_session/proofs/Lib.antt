@@ -20,6 +20,7 @@ pub mod Reaching
 pub mod LastHits
 pub mod StepsOfWays
 pub mod LegByLeg
+pub mod PutPicks
 pub mod KeptWays
 pub mod KeptLists
 pub mod Reversing

@@ -12,3 +12,4 @@ pub mod Reverse
 pub mod Until
 pub mod Meets
 pub mod Pauses
+pub mod Picks

@@ -9,7 +9,7 @@
 //! leads to it (`Kept`). `reverse_until` goes back so to behind the last step of the way, before the one that led to the
 //! world, behind which a break or a test holds (`goes`). `go_to` opens the world again and goes on from there to a
 //! break; where none stops it, all is as it was (`stops`). At each time the way leads from the opening world to the
-//! world (`led`).
+//! world (`led`), and `schedule` answers picks by which a run of the threads, without a log, comes there (`comes`).
 //! Laws: a way leads from a world to one other (`ways_lead_once`), it has as many steps as all threads make on it
 //! (`ways_count_steps`), and where it leads somewhere, so do its first steps (`first_steps_lead`). Where a test holds
 //! nowhere, rounds up to it pause just where they stop at breaks (`pauses_as_stops`). Each version of an object was
@@ -25,6 +25,7 @@ mod laws;
 mod legs;
 mod paused;
 mod pausing;
+mod picks;
 mod putting;
 mod reverse;
 mod rounds;

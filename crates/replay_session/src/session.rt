@@ -1,9 +1,10 @@
 //! A replay that goes forward and back.
 
-ghost use Rattle.std.specs.Prelude.{◌≡◌, ◌⊎◌, ◌≤◌, ◌-◌, [], Some, IfOk, IfErr, OnOk, OnErr};
+ghost use Rattle.std.specs.Prelude.{◌≡◌, ◌⊎◌, ◌<◌, ◌≤◌, ◌-◌, [], Some, IfOk, IfErr, IfNone, IfSome, OnOk, OnErr};
 ghost use Rattle.std.specs.Coded.{Coded-set};
 ghost use Rattle.event_core.specs.Threads.{all_steps};
 ghost use Rattle.event_core.specs.World.{world_of};
+ghost use Rattle.pick_schedule.specs.Printing.{AreOfThreads};
 ghost use Rattle.replay_laws.specs.Turns.{turn_of, world_after_turn};
 ghost use Rattle.replay_session.specs.Writers.{OneWriterEach};
 ghost use Rattle.replay_gate.specs.Shows.{ShowsRecorded};
@@ -14,6 +15,7 @@ ghost use Rattle.replay_session.specs.Events.{events_on, EventsCease};
 ghost use Rattle.replay_session.specs.Gone.{steps_of_turn, CeasesSo, IfFault};
 ghost use Rattle.replay_session.specs.Legs.{steps_of_way, with_thread, with_rounds, without_last};
 ghost use Rattle.replay_session.specs.Pauses.{PausesAt, PausesRight, PausesFree};
+ghost use Rattle.replay_session.specs.Picks.{PicksLead};
 ghost use Rattle.replay_session.specs.Reaching.{is_break, GoesTo};
 ghost use Rattle.replay_session.specs.Reverse.{StepOfWay, IsLastHit, GoesBackUntil};
 ghost use Rattle.replay_session.specs.Until.{UntilCeases};
@@ -25,6 +27,7 @@ use crate::keeps::Keeps;
 use crate::legs::{Leg, first_steps, steps_of_way};
 use crate::paused::{Met, Paused};
 use crate::pausing::rounds_until;
+use crate::picks::picks_of_way;
 use crate::putting::{put_steps, put_turns};
 use crate::reverse::{Hit, last_hit};
 use crate::run_parts::run_and_keep;
@@ -33,6 +36,7 @@ use crate::test::Test;
 use crate::threads::{go_thread, steps_of};
 use crate::until::go_until;
 use event_core::World;
+use pick_schedule::{MOST_PICKS, Schedule};
 use replay_gate::{Break, OpenWorld, ReadLog, Replay, ReplayFault, Stopped, Turned};
 use rw_objects::{CopiedSpace, Machine, ObjectSpace};
 use std::alloc::Global;
@@ -314,6 +318,22 @@ impl<
             *self = other;
         }
         Ok(stopped)
+    }
+
+    /// A schedule by which a run of its threads comes from the opening world to its world, with as many picks as its way
+    /// has steps. None where these are more than 1,000,000.
+    pub fn schedule(&self, alloc: Global) -> Result<Option<Schedule>, NoMemory>
+        requires { O.suits self.now.opens }
+        ensures comes { IfOk result (λ schedule. IfSome schedule (λ picks. ∥ PicksLead S.meaning M.code (steps_of_way self.now.legs.items) picks (O.opened self.now.replay.opens) (world_of self.now.replay.world) ∥₁)) }
+        ensures of_threads { IfOk result (λ schedule. IfSome schedule AreOfThreads) }
+        ensures none { IfOk result (λ schedule. IfNone schedule (1000000 < steps_of_way self.now.legs.items)) }
+    {
+        if self.steps() > u64::from(MOST_PICKS) {
+            return Ok(None);
+        }
+        let mut replay = Replay::new(alloc, self.opens, self.log)?;
+        let picks = picks_of_way(alloc, &self.log, &mut replay, self.legs.as_slice())?;
+        Ok(Some(picks))
     }
 
     /// The last step of its way, before the one that led to its world, behind which a break or the test holds.

@@ -4,6 +4,8 @@
 use crate::breaks::{ACCESSES, SUMS};
 use crate::resting::scripts;
 use crate::sessions::{LentLog, Made, OfScripts, Seen, ThreeScripts, all_steps, log_of, look};
+use event_core::{Input, Pick};
+use pick_schedule::Stretch;
 use replay_gate::{Break, ReplayFault, Stopped, Turned};
 use replay_session::{Ceased, Leg, Met, Paused, Session};
 use std::alloc::Global;
@@ -48,6 +50,22 @@ fn run_again(
         }
         Ok(Stopped::Fault(ReplayFault::NoMemory)) => session.run_on(alloc, &[]),
         stopped => stopped,
+    }
+}
+
+/// How many picks there are in the schedule by which a run comes to where a session stands, and its second stretch. Where
+/// memory was wanted it is asked for again.
+fn schedule_again(
+    alloc: Global,
+    session: &OfScripts<'_>,
+) -> Result<Option<(u32, Option<Stretch>)>, NoMemory> {
+    let asked = match session.schedule(alloc) {
+        Err(_) => session.schedule(alloc)?,
+        Ok(asked) => asked,
+    };
+    match asked {
+        None => Ok(None),
+        Some(picks) => Ok(Some((picks.len(), picks.stretches().get(1).copied()))),
     }
 }
 
@@ -235,6 +253,15 @@ fn move_again(
     assert!(abort; ceased == Ceased::All);
     let stopped = run_again(abort, alloc, &mut session)?;
     assert!(abort; stopped == Stopped::Finished && all_steps(session.world()) == 606);
+    let picks = schedule_again(alloc, &session)?;
+    let second = Stretch {
+        pick: Pick {
+            thread: 1,
+            input: Input::Go,
+        },
+        times: 101,
+    };
+    assert!(abort; picks == Some((606, Some(second))));
     back_again(abort, alloc, &mut session, 504)?;
     let (seen, legs, last) = stand(&session);
     let last_leg = Leg::Thread {
