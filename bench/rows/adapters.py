@@ -2,10 +2,11 @@
 import base64, json, re
 from debugs import UNKNOWN, number
 from model import s32, s64
+from texts import disassembled
 
-MOST_FRAMES = 1024
+MOST_FRAMES, MOST_INSTRUCTIONS = 1024, 65536
 MOTIONS = ('next', 'stepIn', 'stepOut', 'continue', 'stepBack', 'reverseContinue', 'pause')
-CAN = ('ConfigurationDoneRequest', 'FunctionBreakpoints', 'StepBack', 'DataBreakpoints', 'ReadMemoryRequest', 'InstructionBreakpoints', 'TerminateRequest')
+CAN = ('ConfigurationDoneRequest', 'FunctionBreakpoints', 'StepBack', 'DataBreakpoints', 'ReadMemoryRequest', 'DisassembleRequest', 'InstructionBreakpoints', 'TerminateRequest')
 
 def text_of(message): return json.dumps(message, ensure_ascii=False, separators=(',', ':'), sort_keys=True)
 def framed(contents): return ''.join('Content-Length: %d\r\n\r\n%s' % (len(content.encode()), content) for content in contents)
@@ -34,7 +35,7 @@ class Adapter:
         if name == 'launch': named = given['module'], given['plan'], [str(it) for it in given['pieces']]
         if name in ('disconnect', 'terminate'): self.over = True; return {}
         if self.debugger is None:
-            if name == 'initialize': return dict({'supports' + it: True for it in CAN}, supportsDisassembleRequest=False)
+            if name == 'initialize': return {'supports' + it: True for it in CAN}
             if name != 'launch': raise Refused('error: launch first')
             if self.refused: raise Refused('error: a launch was refused before, start the adapter anew')
             opened = self.opens(*named[:2], *named[2]) if len(named[2]) == 1 else 'error: launch needs module, plan, and pieces, a list of one file'
@@ -91,12 +92,20 @@ class Adapter:
         self.debugger.instructions = kept + self.debugger.instructions[self.functions:]
         self.functions = len(kept)
         return self.verified(found, 'error: no such function')
+    def place(self, reference, more):
+        """The instruction that a reference names, so many bytes further."""
+        if not re.fullmatch('0x[0-9a-fA-F]+', reference): return None
+        return next(((f, at) for f, offsets in enumerate(self.debugger.world.m.offsets) for at, offset in enumerate(offsets) if offset == int(reference, 16) + more), None)
+    def on_disassemble(self, given, events, name):
+        first, count = given.get('instructionOffset', 0), given['instructionCount']
+        meant = self.place(given['memoryReference'], given.get('offset', 0))
+        if count > MOST_INSTRUCTIONS: raise Refused('error: more than 65536 instructions')
+        if meant is None: raise Refused('error: no such instruction')
+        there = dict(enumerate(disassembled(self.debugger.world.m.bytes)[meant[0]]))
+        told = [there.get(meant[1] + first + n, (0, '(no instruction)')) for n in range(count)]
+        return {'instructions': [{'address': hex(at), 'instruction': text} for at, text in told]}
     def on_set_instruction_breakpoints(self, given, events, name):
-        m = self.debugger.world.m
-        def place(reference, more):
-            if not re.fullmatch('0x[0-9a-fA-F]+', reference): return None
-            return next(((f, at) for f in range(len(m.funcs)) for at, offset in enumerate(m.offsets[f]) if offset == int(reference, 16) + more), None)
-        found = [place(it['instructionReference'], it.get('offset', 0)) for it in given['breakpoints']]
+        found = [self.place(it['instructionReference'], it.get('offset', 0)) for it in given['breakpoints']]
         self.debugger.instructions = self.debugger.instructions[:self.functions] + [it for it in found if it]
         return self.verified(found, 'error: no such instruction')
     def range(self, name):
@@ -169,6 +178,7 @@ def at_functions(*names): return 'setFunctionBreakpoints', {'breakpoints': [{'na
 def at_bytes(*ids): return 'setDataBreakpoints', {'breakpoints': [{'dataId': id} for id in ids]}
 def at_instructions(*places): return 'setInstructionBreakpoints', {'breakpoints': [{'instructionReference': place, 'offset': more} for place, more in places]}
 def memory(start, count, reference='memory'): return 'readMemory', {'memoryReference': reference, 'offset': start, 'count': count}
+def disassembly(place, count, **more): return 'disassemble', dict(memoryReference=place, instructionCount=count, **more)
 def all_of(name, *numbers): return [(name, {{'scopes': 'frameId', 'variables': 'variablesReference'}[name]: n}) for n in numbers]
 
 # before a launch, and behind one that is refused
@@ -184,6 +194,8 @@ EXCHANGES = {
                     at_instructions(('0x25', 0)), move('continue', 1)),
     'shown': (*all_of('scopes', 1, 2, 3, 16, 17, 0), *all_of('variables', 2, 3, 4, 5, 6, 0), stack(1, startFrame=1), stack(1, levels=1), stack(3), stack(0), memory(0, 16), memory(65530, 16), memory(65536, 1), memory(-1, 4), memory(0, 4, 'stack'),
               memory(9223372036854775807, 18446744073709551615), ('readMemory', {'memoryReference': 'memory'}), ('stackTrace', {'threadId': '1'}), ('disassemble', {'memoryReference': '0x25', 'instructionCount': 4})),
+    'disassembled': (stack(1), disassembly('0x25', 4), disassembly('0x29', 3, instructionOffset=-1), disassembly('0x25', 20, instructionOffset=-3), disassembly('0x29', 2, offset=-4), disassembly('0x26', 1), disassembly('37', 1),
+                     disassembly('0x25', 0), disassembly('0x25', 2, instructionOffset=2 ** 63 - 1), disassembly('0x25', 2, instructionOffset=-2 ** 63), disassembly('0x26', 65537), ('disassemble', {'memoryReference': '0x25'})),
     'evaluated': (evaluate('threads'), evaluate('step 0 3'), evaluate('locals 0'), evaluate('stack 0'), *all_of('variables', 2, 3), evaluate('writer 0'), evaluate('goto 1 1'), evaluate('waits 1'), evaluate('quit'), evaluate(''), evaluate('dance'),
                   evaluate('threads\n'), evaluate('back 2'), evaluate('way'), 'evaluate', 'terminate', 'threads'),
 }

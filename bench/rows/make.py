@@ -1,9 +1,9 @@
 """Writes the commands of crates/worked_rows, the files that they read, and what they must write: by the model, for the
 recordings of profile 1 by what was recorded apart, and for the hunt by what is kept with it and in `queue`."""
 import os, struct, sys
-from model import Module, Words, World, digest, schedule_text, shrunk
+from model import Module, Words, World, digest, leb, schedule_text, shrunk, sleb
 from charts import chart, EMPTY
-from adapters import BEFORE, BEHIND, EXCHANGES, answers, framed, launch, requests
+from adapters import BEFORE, BEHIND, EXCHANGES, answers, disassembly, framed, launch, requests
 from debugs import Debugger, Gathered, TALKS, drawn_talk, talk
 from hints import checked
 from objects import by_object
@@ -758,9 +758,28 @@ def adapted(name, *rows):
         contents = requests('initialize', launch(module_file, plan_file, name + '.pieces'), *EXCHANGES[it])
         exchanged('%s_%s' % (name, it), lambda *named: Debugger(module, plan, Gathered(pieces)), contents)
 for name in ('whole', 'second', 'five', 'named', 'reader', 'border64', 'traps'): adapted(name, 'motions', 'shown', 'evaluated')
-for name in ('whole', 'third', 'readers', 'named'): adapted(name, 'breakpoints')
+for name in ('whole', 'third', 'readers', 'named'): adapted(name, 'breakpoints', 'disassembled')
 for name in ('hole', 'missing', 'clash', 'version', 'kind', 'shorter', 'noend', 'deep'): adapted(name, 'motions')
 adapted('deep', 'shown')
+
+# each instruction of the profile: behind `unreachable` any may stand
+def access(code, align, offset=0): return code + leb(align) + leb(offset)
+NARROW = (0, 0, 1, 1, 0, 0, 1, 1, 2, 2)
+LOADS = [*zip((0x28, 0x29, *range(0x2c, 0x36)), (2, 3) + NARROW), *zip((0x36, 0x37, *range(0x3a, 0x3f)), (2, 3, 0, 1, 0, 1, 2))]
+ATOMICS = [(0, 2), (1, 2), (2, 3), *((0x10 + n, (2, 3, 0, 1, 0, 1, 2)[n % 7]) for n in range(63))]
+SINGLE = [bytes([it]) for it in (0x01, 0x0f, 0x1a, 0x1b, *range(0x45, 0x5b), *range(0x67, 0x8b), 0xa7, 0xac, 0xad, *range(0xc0, 0xc5))]
+INDEXED = [bytes([it, 0]) for it in (0x0c, 0x0d, 0x10)] + [bytes([it]) + leb(n) for it in (0x20, 0x21, 0x22) for n in (1, 300)] + [b'\x23\0', b'\x24\1', b'\x11\1\0', b'\x3f\0', b'\x40\0', b'\xfe\3\0']
+CONSTANTS = [b'\x41' + sleb(n) for n in (0, -5, 64, 2 ** 31 - 1, -2 ** 31)] + [b'\x42' + sleb(n) for n in (-1, 2 ** 63 - 1, -2 ** 63)]
+ACCESSES = [access(bytes([it]), *more) for it, align in LOADS for more in ((align, 0), (align, 16), (0, 0), (align // 2, 2 ** 32 - 1))]
+SHARING = [access(b'\xfe' + leb(it), align, offset) for it, align in ATOMICS for offset in (0, 4)]
+BLOCKS = [b'\2\x40', b'\3\x7f', b'\x0b', b'\2\x40', b'\4\x40', b'\x0e\3\0\1\2\0', b'\5', b'\x0e\0\1', b'\x0b', b'\x0b', b'\4\x7e', b'\5', b'\x0b', b'\2\x7f', b'\x0b', b'\x0b']
+EVERY = Module([('w', [], 'i32', add + ['end']), ('every', [], None, [it for one in SINGLE + INDEXED + CONSTANTS + ACCESSES + SHARING + BLOCKS for it in ('unreachable', ('bytes', one))] + ['unreachable', 'end'], [(301, 'i32')])],
+               table=(0,), globals=(('i32', False, 1), ('i64', True, 2)))
+keep('every.wasm', EVERY.bytes); keep('every.plan', plan_of('w'))
+recorded('every', 'every.wasm', EVERY, 'every.plan', plan_of('w'), b'go 0 9\n')
+FIRST_PLACE, *_ = EVERY.offsets[1]
+exchanged('every', lambda *named: Debugger(EVERY, plan_of('w'), Gathered(logs['every'][4])),
+          requests('initialize', launch('every.wasm', 'every.plan', 'every.pieces'), disassembly(hex(FIRST_PLACE), len(EVERY.offsets[1]) + 2, instructionOffset=-1)))
 exchanged('before', None, requests(*BEFORE))
 exchanged('nothing', None, [])
 for name, files, text in (('absent', ('counter.wasm', 'counter.plan', 'absent.pieces'), '44 SourceFailed'), ('bad', ('bad.wasm', 'bad.plan', 'whole.pieces'), '1 Refused 33'), ('other', ('readers.wasm', 'readers.plan', 'whole.pieces'), '51 OtherRun'),

@@ -1,6 +1,6 @@
 -- What requests leave as it is: the module, and that the adapter suits.
 use Rattle.std.proofs.Common.{◌≡◌, ℕ, ◌+◌, ◌≤◌, List, length, inl, inr, refl, sym, ap, ◌∙◌, subst, Option, Some, Result, Ok, Err, OnErr}
-use Rattle.std.specs.Prelude.{IfOk}
+use Rattle.std.specs.Prelude.{IfOk, ℤ}
 use Rattle.wasm_types.specs.declared.modules.Module.{Module}
 use Rattle.wasm_replay.specs.declared.opener.Opener.{Opener}
 use Rattle.wasm_replay.specs.Replays.{Suits as OpensSo}
@@ -15,8 +15,11 @@ use Rattle.debugger.specs.declared.command.Command.TheVariants.{Step, Event, Fin
 use Rattle.debugger.specs.declared.debugger.Debugger.{Debugger}
 use Rattle.adapter_messages.specs.declared.request.Motion.{Motion}
 use Rattle.adapter_messages.specs.declared.request.Command.{Command}
+use Rattle.adapter_messages.specs.declared.request.InstructionBreakpoint.{InstructionBreakpoint}
 use Rattle.adapter_messages.specs.declared.reply.Reply.{Reply}
 use Rattle.adapter.specs.Attends.{Attends, Shows}
+use Rattle.adapter.specs.Disassembly.{Disassembles, disassembly_reply}
+use Rattle.adapter.specs.InstructionBreaks.{IsPlaceOf}
 use Rattle.adapter.specs.Moves.{Goes, MovesBy, went_reply}
 use Rattle.adapter.specs.State.{AdapterAt, Suits}
 use Rattle.adapter.specs.declared.moving.Went.{Went}
@@ -115,3 +118,15 @@ pub attends_shown : {E : Type 0} (r : Result Reply E) (reply : Reply) (command k
     → ((x : Reply) → Shows reply s x u → Attends known s x u) → IfOk r (λ x. x ≡ reply) → IfOk r (λ x. Attends command s x u)
 attends_shown (Ok x) reply command known s u is same led so h = subst (λ (c : Command). Attends c s x u) (sym is) (so x (led, (h, same)))
 attends_shown (Err e) reply command known s u is same led so h = tt
+
+-- the same of what is told at any world
+pub attends_told : {E : Type 0} (r : Result Reply E) (P : Reply → Type 0) (command known : Command) (s u : AdapterAt) → command ≡ known → u ≡ s
+    → ((x : Reply) → P x × (u ≡ s) → Attends known s x u) → IfOk r P → IfOk r (λ x. Attends command s x u)
+attends_told (Ok x) P command known s u is same so h = subst (λ (c : Command). Attends c s x u) (sym is) (so x (h, same))
+attends_told (Err e) P command known s u is same so h = tt
+
+-- what is told around the instruction that is meant
+pub tells : {E : Type 0} (r : Result Reply E) (m other : Module) (meant : InstructionBreakpoint) (offset : ℤ) (count : ℕ) (found : Option CodePlace) → other ≡ m → IsPlaceOf m meant found
+    → IfOk r (λ x. x ≡ disassembly_reply other offset count found) → IfOk r (λ x. Disassembles m meant offset count x)
+tells (Ok x) m other meant offset count found same is h = (found, is, h ∙ ap (λ (k : Module). disassembly_reply k offset count found) same)
+tells (Err e) m other meant offset count found same is h = tt

@@ -2,3 +2,4 @@ pub mod Addresses
 pub mod Pairing
 pub mod References
 pub mod Keeping
+pub mod Told

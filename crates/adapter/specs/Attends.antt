@@ -13,6 +13,7 @@ use Rattle.debug_views.specs.Values.{memory_bytes}
 use Rattle.debugger.specs.Lines.{line_of}
 use Rattle.debugger.specs.Replies.{IsLed}
 use Rattle.adapter.specs.Breakpoints.{SetsData, SetsFunctions, SetsInstructions, breakpoints_reply, info_reply, no_sources, none_of}
+use Rattle.adapter.specs.Disassembly.{Disassembles}
 use Rattle.adapter.specs.Evaluates.{EvaluatesLine}
 use Rattle.adapter.specs.Frames.{threads_below, trace_of}
 use Rattle.adapter.specs.Ids.{thread_of}
@@ -57,7 +58,7 @@ Attends (StackTrace id start levels) s r u = Shows (stack_reply s start levels (
 Attends (Scopes frame) s r u = Shows (scopes_reply s frame) s r u
 Attends (Variables reference) s r u = Shows (variables_reply s reference) s r u
 Attends (ReadMemory reference offset count) s r u = Shows (memory_reply (memory_bytes shared_memory s.debugger.world) reference offset count) s r u
-Attends (Disassemble reference offset instructions count) s r u = Says (failure not_supported) s r u
+Attends (Disassemble reference offset instructions count) s r u = Disassembles s.debugger.code (record { reference = reference; offset = offset }) instructions count r × (u ≡ s)
 Attends (SetBreakpoints count) s r u = Says (breakpoints_reply no_sources (none_of count)) s r u
 Attends (SetFunctionBreakpoints names) s r u = SetsFunctions names s r u
 Attends (SetInstructionBreakpoints asked) s r u = SetsInstructions asked s r u

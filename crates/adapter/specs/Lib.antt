@@ -7,6 +7,8 @@ pub mod Variables
 pub mod Memory
 pub mod Moves
 pub mod InstructionBreaks
+pub mod InstructionText
+pub mod Disassembly
 pub mod Breakpoints
 pub mod Evaluates
 pub mod Attends

@@ -18,7 +18,7 @@ supported = record {
   step_back = true;
   data_breakpoints = true;
   read_memory = true;
-  disassemble = false;
+  disassemble = true;
   instruction_breakpoints = true;
   terminate = true;
 }

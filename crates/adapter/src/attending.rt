@@ -53,6 +53,20 @@ impl<'a> Adapter<'a> {
                 offset,
                 count,
             } => self.read_memory(alloc, reference, *offset, *count),
+            Command::Disassemble {
+                reference,
+                offset,
+                instruction_offset,
+                instruction_count,
+            } => {
+                self.disassemble(
+                    alloc,
+                    reference,
+                    *offset,
+                    *instruction_offset,
+                    *instruction_count,
+                )
+            }
             Command::SetBreakpoints { count } => self.refuse_sources(alloc, *count),
             Command::SetFunctionBreakpoints { names } => {
                 self.set_functions(alloc, names.as_slice())
@@ -66,7 +80,7 @@ impl<'a> Adapter<'a> {
             Command::Move { motion, thread } => self.move_thread(alloc, *motion, *thread),
             Command::Evaluate { expression } => self.evaluate(alloc, expression),
             Command::Disconnect | Command::Terminate => Ok(ended()),
-            Command::Disassemble { .. } | Command::Unknown => failure(alloc, NOT_SUPPORTED),
+            Command::Unknown => failure(alloc, NOT_SUPPORTED),
             Command::BadArguments => failure(alloc, BAD_ARGUMENTS),
         }
     }

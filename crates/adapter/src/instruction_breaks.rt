@@ -8,14 +8,12 @@ ghost use Rattle.adapter.specs.State.{Suits, state_of};
 use crate::adapter::Adapter;
 use crate::breakpoints::{breakpoints_of, those};
 use crate::code::Code;
+use crate::disassembly::NO_INSTRUCTION;
 use crate::replies::success;
-use adapter_messages::{Body, InstructionBreakpoint, Reply, Told};
+use adapter_messages::{Body, InstructionBreakpoint, Reply, Text, Told};
 use std::alloc::Global;
 use wasm_types::{Module, NoMemory};
 use wasm_world::CodePlace;
-
-/// What is said of an instruction that there is not.
-const NO_INSTRUCTION: &str = "error: no such instruction";
 
 /// How many numbers instructions have.
 const INSTRUCTIONS: usize = 1 << 32;
@@ -78,15 +76,15 @@ impl<'a> Adapter<'a> {
         None
     }
 
-    /// The instruction to which a breakpoint refers.
-    fn place_of(&self, asked: &InstructionBreakpoint) -> Option<CodePlace>
+    /// The instruction that a reference names, so many bytes further.
+    pub(crate) fn place_of(&self, reference: &Text, offset: i64) -> Option<CodePlace>
         requires { Suits self.now }
-        ensures { IsPlaceOf (state_of self.now).debugger.code asked.now result }
+        ensures { IsPlaceOf (state_of self.now).debugger.code (record { reference = reference.now; offset = offset }) result }
     {
-        let Some(named) = offset_named(asked.reference.as_str()) else {
+        let Some(named) = offset_named(reference.as_str()) else {
             return None;
         };
-        match named.checked_add_signed(asked.offset) {
+        match named.checked_add_signed(offset) {
             Some(offset) => self.find_at(offset as usize),
             None => None,
         }
@@ -103,7 +101,7 @@ impl<'a> Adapter<'a> {
     {
         let mut found = Vec::new(alloc);
         for one in asked {
-            found.push(self.place_of(one))?;
+            found.push(self.place_of(&one.reference, one.offset))?;
         }
         Ok(found)
     }

@@ -34,7 +34,7 @@ fn supported() -> Capabilities
         step_back: true,
         data_breakpoints: true,
         read_memory: true,
-        disassemble: false,
+        disassemble: true,
         instruction_breakpoints: true,
         terminate: true,
     }

@@ -566,6 +566,7 @@ a function and an instruction in it, which is its offset in the module, as in
   instruction            where a thread comes to the instruction at an offset
   data breakpoints       behind a write, of bytes that are named as in
                          write 0 4
+  disassemble            instructions of a function, around one of them
   evaluate               any command of `wreplay debug` but `quit`, answered as
                          there
 
