@@ -19,6 +19,7 @@ pub mod Refusals
 pub mod Reaching
 pub mod LastHits
 pub mod StepsOfWays
+pub mod RoundsSoFar
 pub mod LegByLeg
 pub mod PutPicks
 pub mod KeptWays

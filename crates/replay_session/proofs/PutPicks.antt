@@ -1,5 +1,5 @@
 -- Picks of the steps of a way.
-use Rattle.std.proofs.Common.{◌≡◌, ℕ, ◌+◌, ◌<◌, ◌≤◌, true, false, List, [], ◌∷◌, ◌++◌, length, get_or, drop, Option, Some, None, slice_get, nat_lt, Bool, cond, refl, sym, ap, ◌∙◌, subst, arith, append_assoc}
+use Rattle.std.proofs.Common.{◌≡◌, ℕ, ◌+◌, ◌<◌, ◌≤◌, true, false, List, [], ◌++◌, length, get_or, drop, Option, Some, None, slice_get, nat_lt, Bool, cond, refl, sym, ap, ◌∙◌, subst, arith, append_assoc}
 use Rattle.std.specs.Prelude.{option_map, unwrap_or, nat_le, ◌&&◌}
 use Rattle.std.proofs.Math.Logic.{∥∥₁_map}
 use Rattle.std.proofs.lemmas.Bool.{le-leb}
@@ -37,7 +37,6 @@ use Rattle.replay_laws.proofs.Orders.{turn_leaves, world_joined}
 use Rattle.replay_gate.specs.Answers.{makes_step}
 use Rattle.replay_gate.proofs.Rounds.{turned_length}
 use Rattle.replay_gate.specs.Turned.{answer_of_turn}
-use Rattle.replay_gate.specs.declared.answers.Turned.{Turned}
 use Rattle.replay_gate.specs.declared.answers.Turned.TheVariants as turned
 use Rattle.replay_session.specs.Gone.{steps_of_turn, TurnPasses}
 use Rattle.replay_session.specs.Legs.{steps_of_leg, steps_of_way}
