@@ -56,7 +56,7 @@ module _ (files : List MemoryFile) where
     by_request said told (Some p) path plan h (request.Debug r) k text done = absurd (another p.0 (codes "debug") h.0 k.0 refl)
     by_request said told (Some p) path plan h request.Adapter k text done = absurd (another p.0 (codes "dap") h.0 k refl)
 
-    module _ (took : List ℕ → Type 0) (tells : List ℕ → Type 0) (unread : Type 0) (words : List Text) (path : Bor (List ℕ)) (plan : Option (Bor (List ℕ))) (asks : Asks words (request.Check path plan)) where
-      pub is_valid : IsDoneBy (λ at. HoldsBytes (file_at files at)) (λ at. Fails (file_at files at)) brought ended broke took (Unit {0}) (Unit {0}) counted tells unread words → HasValidModule files path.now
+    module _ (took : List ℕ → Type 0) (tells : List ℕ → Type 0) (unheard unread : Type 0) (words : List Text) (path : Bor (List ℕ)) (plan : Option (Bor (List ℕ))) (asks : Asks words (request.Check path plan)) where
+      pub is_valid : IsDoneBy (λ at. HoldsBytes (file_at files at)) (λ at. Fails (file_at files at)) brought ended broke took unheard (Unit {0}) (Unit {0}) counted tells unread words → HasValidModule files path.now
       is_valid (inl h) = by_request (IsSaid tells (asks_why words)) tells (subcommand_of program words) path plan asks.found h.0 h.1.found h.2.0 h.2.1
       is_valid (inr h) = absurd (no_text (fault_of program words) asks.taken h.0)

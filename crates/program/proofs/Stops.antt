@@ -14,7 +14,6 @@ use Rattle.commands.specs.Hunts.{IsHuntAnswer}
 use Rattle.commands.specs.Replays.{IsReplayedText, IsReplayRefused}
 use Rattle.commands.specs.Debugs.{IsShownDebug, IsDebugStopped}
 use Rattle.commands.specs.Adapts.{IsAdapted, IsAdapterStopped, source_failures_in, source_failures_of, output_failures_in, output_failures_of}
-use Rattle.commands.proofs.Debugged.{unwritten_of}
 use Rattle.replica.specs.declared.skipping.Skipped.{Skipped}
 use Rattle.debug_views.specs.declared.notes.Notes.{Notes}
 use Rattle.command_words.specs.declared.requests.Request.TheVariants as request
@@ -41,11 +40,11 @@ is_dialogue (request.Debug r) = true
 is_dialogue request.Adapter = true
 is_dialogue r = false
 
-module _ (holds : List ℕ → List ℕ → Type 0) (fails brought : List ℕ → Type 0) (ended broke : Type 0) (took : List ℕ → Type 0) (unwritten unwritable : Type 0) where
+module _ (holds : List ℕ → List ℕ → Type 0) (fails brought : List ℕ → Type 0) (ended broke : Type 0) (took : List ℕ → Type 0) (unheard unwritten unwritable : Type 0) where
   -- any other command stops where its text does
   text_stops : (asks : Request) (fault : Fault) → is_dialogue asks ≡ false
       → IsTextStopped (IsRefused holds fails brought ended broke asks) (IsDone holds fails brought ended broke (λ skipped. Unit {0}) (λ line. Unit {0}) (λ line. Unit {0}) asks) took unwritten unwritable fault
-      → IsStopped holds fails brought ended broke took unwritten unwritable asks fault
+      → IsStopped holds fails brought ended broke took unheard unwritten unwritable asks fault
   text_stops (request.Debug r) fault other h = absurd (cc)
   text_stops request.Adapter fault other h = absurd (cc)
   text_stops asks fault other h = h
@@ -53,10 +52,10 @@ module _ (holds : List ℕ → List ℕ → Type 0) (fails brought : List ℕ �
   -- what was to be shown stops where the output fails
   pub shown_stops : (asked asks : Request) (text items : List ℕ) {T : Type 0} (result : Result T Fault) → asked ≡ asks → is_dialogue asks ≡ false → text ≡ items → IsDone holds fails brought ended broke (λ skipped. Unit {0}) (λ line. Unit {0}) (λ line. Unit {0}) asks items
       → IfErr result (λ fault. fault ≡ SinkFailed) → OnErr result unwritable → OnErr result ((part rest : List ℕ) × (text ≡ part ++ rest) × took part)
-      → IfErr result (IsStopped holds fails brought ended broke took unwritten unwritable asked)
+      → IfErr result (IsStopped holds fails brought ended broke took unheard unwritten unwritable asked)
   shown_stops asked asks text items (Ok x) is other same done e u b = tt
   shown_stops asked asks text items (Err fault) is other same done e u b =
-      subst (λ (r : Request). IsStopped holds fails brought ended broke took unwritten unwritable r fault) (sym is)
+      subst (λ (r : Request). IsStopped holds fails brought ended broke took unheard unwritten unwritable r fault) (sym is)
       (text_stops asks fault other (inr (e, u, (text, b.0, b.1, subst (IsDone holds fails brought ended broke (λ skipped. Unit {0}) (λ line. Unit {0}) (λ line. Unit {0}) asks) (sym same) done, b.2, b.3))))
 
   -- what was to be shown is done where the output took it
@@ -79,9 +78,9 @@ module _ (holds : List ℕ → List ℕ → Type 0) (fails brought : List ℕ �
 
   pub gathered_stops : (asked : Request) (skips : Bool) (form : GatherForm) {T : Type 0} (result : Result T Fault) → asked ≡ request.Gather skips form
       → IfErr result (IsTextStopped (IsNotGathered brought ended broke skips) (IsGatheredText brought ended (λ skipped. Unit {0}) (Unit {0}) skips (IsInForm form)) took unwritten unwritable)
-      → IfErr result (IsStopped holds fails brought ended broke took unwritten unwritable asked)
+      → IfErr result (IsStopped holds fails brought ended broke took unheard unwritten unwritable asked)
   gathered_stops asked skips form (Ok x) is stopped = tt
-  gathered_stops asked skips form (Err fault) is stopped = subst (λ (q : Request). IsStopped holds fails brought ended broke took unwritten unwritable q fault) (sym is) stopped
+  gathered_stops asked skips form (Err fault) is stopped = subst (λ (q : Request). IsStopped holds fails brought ended broke took unheard unwritten unwritable q fault) (sym is) stopped
 
   -- a recording is done where its text was shown, and its line told
   pub record_done : (asked : Request) (r : RecordRequest) (answer : AnswerAt) (counted : Skipped → Type 0) (said told : List ℕ → Type 0) {T : Type 0} (result : Result T Fault) → asked ≡ request.Record r
@@ -104,9 +103,9 @@ module _ (holds : List ℕ → List ℕ → Type 0) (fails brought : List ℕ �
 
   -- a replay that is refused stops
   pub replay_stops : (asked : Request) (r : ReplayRequest) (by_threads names offsets : Bool) (fault : Fault) → asked ≡ request.Replay r by_threads names offsets
-      → IsReplayRefused holds fails r by_threads fault → unwritten → IsStopped holds fails brought ended broke took unwritten unwritable asked fault
+      → IsReplayRefused holds fails r by_threads fault → unwritten → IsStopped holds fails brought ended broke took unheard unwritten unwritable asked fault
   replay_stops asked r by_threads names offsets fault is refused kept =
-      subst (λ (q : Request). IsStopped holds fails brought ended broke took unwritten unwritable q fault) (sym is) (inl (refused, kept))
+      subst (λ (q : Request). IsStopped holds fails brought ended broke took unheard unwritten unwritable q fault) (sym is) (inl (refused, kept))
 
   -- a dialogue is done where the output took its answers
   pub debug_done : (asked : Request) (r : ReplayRequest) (counted : Skipped → Type 0) (said told : List ℕ → Type 0) {T : Type 0} (result : Result T Fault) → asked ≡ request.Debug r
@@ -115,11 +114,10 @@ module _ (holds : List ℕ → List ℕ → Type 0) (fails brought : List ℕ �
       subst (λ (q : Request). IsShown took (IsDone holds fails brought ended broke counted said told q)) (sym is) (shown.0, (shown.1, none), shown.2)
   debug_done asked r counted said told (Err fault) is none shown = tt
 
-  pub debug_stops : (unused : Type 0) → (unused → unwritten) → (asked : Request) (r : ReplayRequest) {T : Type 0} (result : Result T Fault) → asked ≡ request.Debug r
-      → IfErr result (IsDebugStopped brought ended took holds fails unused broke unwritable r) → IfErr result (IsStopped holds fails brought ended broke took unwritten unwritable asked)
-  debug_stops unused less asked r (Ok x) is stopped = tt
-  debug_stops unused less asked r (Err fault) is stopped =
-      subst (λ (q : Request). IsStopped holds fails brought ended broke took unwritten unwritable q fault) (sym is) (unwritten_of brought ended took holds r fails unused unwritten broke unwritable less fault stopped)
+  pub debug_stops : (asked : Request) (r : ReplayRequest) {T : Type 0} (result : Result T Fault) → asked ≡ request.Debug r
+      → IfErr result (IsDebugStopped brought ended took holds fails (unheard × unwritten) broke unwritable r) → IfErr result (IsStopped holds fails brought ended broke took unheard unwritten unwritable asked)
+  debug_stops asked r (Ok x) is stopped = tt
+  debug_stops asked r (Err fault) is stopped = subst (λ (q : Request). IsStopped holds fails brought ended broke took unheard unwritten unwritable q fault) (sym is) stopped
 
   -- an exchange is done where the output took its answers
   pub adapter_done : (asked : Request) (counted : Skipped → Type 0) (said told : List ℕ → Type 0) {T : Type 0} (result : Result T Fault) → asked ≡ request.Adapter
@@ -130,10 +128,10 @@ module _ (holds : List ℕ → List ℕ → Type 0) (fails brought : List ℕ �
 
   pub adapter_stops : (asked : Request) {T : Type 0} (result : Result T Fault) → asked ≡ request.Adapter
       → IfErr result (IsFailure broke unwritable) → IfErr result (λ fault. (came text : List ℕ) × brought came × took text × IsAdapterStopped came ended holds fails fault text)
-      → IfErr result (IsStopped holds fails brought ended broke took unwritten unwritable asked)
+      → IfErr result (IsStopped holds fails brought ended broke took unheard unwritten unwritable asked)
   adapter_stops asked (Ok x) is failed stopped = tt
   adapter_stops asked (Err fault) is failed stopped =
-      subst (λ (q : Request). IsStopped holds fails brought ended broke took unwritten unwritable q fault) (sym is) (failed, stopped.0, stopped.1, stopped.2, stopped.3, stopped.4)
+      subst (λ (q : Request). IsStopped holds fails brought ended broke took unheard unwritten unwritable q fault) (sym is) (failed, stopped.0, stopped.1, stopped.2, stopped.3, stopped.4)
 
 -- what failed, by how many calls did
 pub failure_in : {T : Type 0} (result : Result T Fault) (source_before source_now output_before output_now : ℕ)

@@ -29,7 +29,7 @@ use Rattle.commands.specs.Hunts.{IsHuntAnswer, IsHuntRefused}
 use Rattle.commands.specs.Replays.{IsInputRefused, IsReplayedText, IsReplayRefused}
 use Rattle.commands.specs.Views.{IsViewedText, IsViewRefused}
 use Rattle.commands.specs.Traces.{IsTracedText, IsTraceRefused}
-use Rattle.commands.specs.Debugs.{IsDebugText, IsDebugBroken}
+use Rattle.commands.specs.Debugs.{IsDebugText, IsDebugStopped}
 use Rattle.commands.specs.Adapts.{IsAdapted, IsAdapterStopped}
 use Rattle.commands.specs.declared.fault.Fault.{Fault}
 use Rattle.commands.specs.declared.fault.Fault.TheVariants.{Gather, NoMemory, SinkFailed}
@@ -38,6 +38,13 @@ use Rattle.commands.specs.declared.fault.Fault.TheVariants.{Gather, NoMemory, Si
 abbrev pub fault_of : GatherFault → Fault
 fault_of gathering.SinkFailed = SinkFailed
 fault_of fault = Gather fault
+
+-- a command that reads its standard input
+abbrev pub reads_input : Request → Bool
+reads_input (request.Gather skips form) = true
+reads_input (request.Debug r) = true
+reads_input request.Adapter = true
+reads_input r = false
 
 -- what a listing by threads says
 abbrev pub form_of : Bool → Bool → ListingForm
@@ -183,27 +190,32 @@ module _ (holds : List ℕ → List ℕ → Type 0) (fails : List ℕ → Type 0
   IsRefused (request.Debug r) fault = IsInputRefused holds fails r fault
   IsRefused request.Adapter fault = ⊥
 
-  -- Which texts the output took from first to last, and whether it took nothing, or failed.
-  module _ (took : List ℕ → Type 0) (unwritten unwritable : Type 0) where
+  -- Which texts the output took from first to last, whether nothing of the source was read, and whether the output took
+  -- nothing, or failed.
+  module _ (took : List ℕ → Type 0) (unheard unwritten unwritable : Type 0) where
     -- a command stops: it is refused, and nothing was written; or the output failed; or a dialogue or an exchange, which
     -- writes before its source comes to its end, stops before that
     abbrev pub IsStopped : Request → Fault → Type 0
-    IsStopped (request.Debug r) fault = (IsRefused (request.Debug r) fault × unwritten) ⊎ IsDebugBroken brought ended took holds unwritten broke unwritable r fault
+    IsStopped (request.Debug r) fault = IsDebugStopped brought ended took holds fails (unheard × unwritten) broke unwritable r fault
     IsStopped request.Adapter fault = IsFailure broke unwritable fault × (came text : List ℕ) × brought came × took text × IsAdapterStopped came ended holds fails fault text
     IsStopped r fault = IsTextStopped (IsRefused r) (IsDone (λ skipped. Unit {0}) (λ line. Unit {0}) (λ line. Unit {0}) r) took unwritten unwritable fault
 
     -- Whether numbers of lines were told, which texts were told from first to last, and whether no file and no input
     -- was read.
     module _ (counted : Skipped → Type 0) (tells : List ℕ → Type 0) (unread : Type 0) (words : List Text) where
+      -- a command that does not read its standard input leaves it as it is
+      abbrev pub LeavesInput : Request → Type 0
+      LeavesInput r = reads_input r ≡ false → unheard
+
       -- the very text of the command that the words ask for, or a text of help where they ask for that, and nothing
       -- told
       abbrev pub IsDoneBy : Type 0
-      IsDoneBy = ((r : Request) × Asks words r × IsShown took (IsDone counted (IsSaid tells (asks_why words)) tells r)) ⊎ (AsksForText words × unread × IsShown took (λ text. Unit {0}) × tells [])
+      IsDoneBy = ((r : Request) × Asks words r × IsShown took (IsDone counted (IsSaid tells (asks_why words)) tells r) × LeavesInput r) ⊎ (AsksForText words × unread × IsShown took (λ text. Unit {0}) × tells [])
 
       -- the command that the words ask for stops so; or a text of help is not written; or there is no memory for the
       -- words
       abbrev pub IsRefusedBy : Fault → Type 0
-      IsRefusedBy fault = ((r : Request) × Asks words r × IsStopped r fault × IsTold tells (asks_why words) r fault)
+      IsRefusedBy fault = ((r : Request) × Asks words r × IsStopped r fault × IsTold tells (asks_why words) r fault × LeavesInput r)
           ⊎ ((AsksForText words × unread × (fault ≡ SinkFailed) × unwritable × IsCut took (λ text. Unit {0}) × tells (fault_line fault))
           ⊎ (unread × unwritten × (fault ≡ NoMemory) × tells (fault_line fault)))
 

@@ -1,10 +1,10 @@
 //! What the words of a command line do.
 
-ghost use Rattle.std.specs.Prelude.{◌≡◌, ◌<◌, ◌-◌, ◌^◌, ◌⊎◌, ◌++◌, ◌+◌, List, [], ◌∷◌, Err, OnOk, OnErr, IfErr, Some, map};
+ghost use Rattle.std.specs.Prelude.{◌≡◌, ◌<◌, ◌-◌, ◌^◌, ◌⊎◌, ◌++◌, ◌+◌, List, [], ◌∷◌, Err, OnOk, OnErr, IfErr, Some, false, map};
 ghost use Rattle.std.specs.IoError.{error_kind};
 ghost use Rattle.commands.specs.Texts.{skipped_text};
 ghost use Rattle.commands.specs.declared.fault.Fault.TheVariants as faults;
-ghost use Rattle.program.specs.Answers.{IsShown, IsSaid, IsDone, IsStopped, IsAnswered, fault_line, not_text_line, odd_line};
+ghost use Rattle.program.specs.Answers.{IsShown, IsSaid, IsDone, IsStopped, IsAnswered, fault_line, not_text_line, odd_line, reads_input};
 
 use crate::gathering::list;
 use crate::refusing::{refuse, refuse_request};
@@ -53,7 +53,8 @@ fn perform<L: Log + Sync, T: Threads + Wait + Sync, F: Files, R: Source, W: Sink
     requires errors { E.failed errors.old < 2 ^ 64 - 1 }
     ensures done { OnOk result (IsShown (λ text. W.takes output.old text output.new) (IsDone (F.holds files.old) (F.fails files.old) (λ text. R.brings source.old text source.new) (R.ended source.new) (R.failed source.new ≡ R.failed source.old + 1) (λ skipped. (E.takes errors.old (skipped_text skipped ++ 10 ∷ []) errors.new) ⊎ (E.failed errors.new ≡ E.failed errors.old + 1)) (IsSaid (λ text. (E.takes errors.old text errors.new) ⊎ (E.failed errors.new ≡ E.failed errors.old + 1)) why) (λ text. (E.takes errors.old text errors.new) ⊎ (E.failed errors.new ≡ E.failed errors.old + 1)) request.now)) }
     ensures untold { OnErr result (errors.new ≡ errors.old) }
-    ensures stopped { IfErr result (IsStopped (F.holds files.old) (F.fails files.old) (λ text. R.brings source.old text source.new) (R.ended source.new) (R.failed source.new ≡ R.failed source.old + 1) (λ text. W.takes output.old text output.new) (output.new ≡ output.old) (W.failed output.new ≡ W.failed output.old + 1) request.now) }
+    ensures stopped { IfErr result (IsStopped (F.holds files.old) (F.fails files.old) (λ text. R.brings source.old text source.new) (R.ended source.new) (R.failed source.new ≡ R.failed source.old + 1) (λ text. W.takes output.old text output.new) (source.new ≡ source.old) (output.new ≡ output.old) (W.failed output.new ≡ W.failed output.old + 1) request.now) }
+    ensures unheard { reads_input request.now ≡ false → source.new ≡ source.old }
     ensures source_worked { OnOk result (R.failed source.new ≡ R.failed source.old) }
     ensures output_worked { OnOk result (W.failed output.new ≡ W.failed output.old) }
 {
@@ -161,10 +162,11 @@ pub fn run<
     // numbers of lines that were passed over, which run is caught, or where the words ask for it the line of the threads
     // that stopped, or else nothing; or it failed. Refused: `errors` took the line of the fault, and where the words ask
     // for it one more line, of the reason, or failed; and nothing was written but by a failing output, or by a dialogue
-    // or an exchange that stopped. Not understood: nothing was read or written.
+    // or an exchange that stopped. Nothing of the source was read but by a command that reads its standard input. Not
+    // understood: nothing was read or written.
     ensures answered { IsAnswered (F.holds files.old) (F.fails files.old)
         (λ text. R.brings source.old text source.new) (R.ended source.new) (R.failed source.new ≡ R.failed source.old + 1)
-        (λ text. W.takes output.old text output.new) (output.new ≡ output.old) (W.failed output.new ≡ W.failed output.old + 1)
+        (λ text. W.takes output.old text output.new) (source.new ≡ source.old) (output.new ≡ output.old) (W.failed output.new ≡ W.failed output.old + 1)
         (λ skipped. (E.takes errors.old (skipped_text skipped ++ 10 ∷ []) errors.new) ⊎ (E.failed errors.new ≡ E.failed errors.old + 1))
         (λ text. (E.takes errors.old text errors.new) ⊎ (E.failed errors.new ≡ E.failed errors.old + 1))
         ((files.new ≡ files.old) × (source.new ≡ source.old)) (map S.text words.now) result }

@@ -31,7 +31,8 @@ returns-in-Ok-clause-answered g c =
       done = λ z. inl (
         c.in-Ok-Request.request,
         asked.0,
-        done_as_asked _ (g.F.Files.fails c.args.files.now) _ _ broke _ (Unit {0}) (Unit {0}) _ tells _ _ c.in-Ok-Request.request asked.1 c.in-Ok.ensures.done,
+        done_as_asked _ (g.F.Files.fails c.args.files.now) _ _ broke _ (Unit {0}) (Unit {0}) (Unit {0}) _ tells _ _ c.in-Ok-Request.request asked.1 c.in-Ok.ensures.done,
+        c.perform.ensures.unheard,
       );
       refused = λ z. absurd (omega (arith, z));
       unknown = λ z. absurd (omega (arith, z));
@@ -54,6 +55,7 @@ returns-in-Ok-Request-clause-answered g c =
           c.in-Err-perform.ensures.stopped,
           subst (λ (b : Bool). IsTold (λ text. g.E.Sink.takes c.args.errors.now text c.refuse_request.new.errors ⊎ (g.E.Sink.failed c.refuse_request.new.errors ≡ g.E.Sink.failed c.args.errors.now + 1)) b request fault) asked.1
               (subst (λ e. IsTold (λ text. g.E.Sink.takes e text c.refuse_request.new.errors ⊎ (g.E.Sink.failed c.refuse_request.new.errors ≡ g.E.Sink.failed e + 1)) c.in-Ok-Request.why request fault) c.in-Err-perform.ensures.untold told),
+          c.perform.ensures.unheard,
         ),
       );
       unknown = λ z. absurd (omega (arith, z, c.refuse_request.ensures.status));
