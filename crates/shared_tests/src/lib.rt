@@ -18,6 +18,8 @@ mod meeting;
 #[cfg(test)]
 mod memory;
 #[cfg(test)]
+mod mixing;
+#[cfg(test)]
 mod operations;
 #[cfg(test)]
 mod plain;
