@@ -130,7 +130,7 @@ func main() {
 	want(ok && len(frames.Body.StackFrames) == 3 && frames.Body.StackFrames[0].Name == "put", "stackTrace", frames)
 	scope := dap.ScopesRequest{Request: c.request("scopes"), Arguments: dap.ScopesArguments{FrameId: frames.Body.StackFrames[0].Id}}
 	scopes, ok := c.ask(&scope, "scopes").(*dap.ScopesResponse)
-	want(ok && len(scopes.Body.Scopes) == 2, "scopes", scopes)
+	want(ok && len(scopes.Body.Scopes) == 3, "scopes", scopes)
 	held := dap.VariablesRequest{Request: c.request("variables"),
 		Arguments: dap.VariablesArguments{VariablesReference: scopes.Body.Scopes[0].VariablesReference}}
 	variables, ok := c.ask(&held, "variables").(*dap.VariablesResponse)

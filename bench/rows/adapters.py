@@ -1,6 +1,6 @@
 """Exchanges with a debug adapter, by the model of a debugger."""
 import base64, json, re
-from debugs import UNKNOWN, number
+from debugs import CLASH, UNKNOWN, number, touch
 from model import s32, s64
 from texts import disassembled
 
@@ -68,12 +68,19 @@ class Adapter:
     def on_scopes(self, given, events, name):
         id = given['frameId']
         self.frame(id)
-        return {'scopes': [{'name': it, 'variablesReference': 2 * id + n, 'expensive': False} for n, it in enumerate(('Locals', 'Operands'))]}
+        return {'scopes': [{'name': it, 'variablesReference': 3 * id + n, 'expensive': False} for n, it in enumerate(('Locals', 'Operands', 'Versions'))]}
     def on_variables(self, given, events, name):
-        frame = self.frame(given['variablesReference'] // 2)
-        if given['variablesReference'] % 2: found = [('operand %d' % n, str(v) if v < 65536 else hex(v)) for n, (_, v) in enumerate(reversed(frame.stack))]
+        id, scope = divmod(given['variablesReference'], 3)
+        frame = self.frame(id)
+        if scope == 2: found = self.versions(self.debugger.world.threads[(id - 1) % 16])
+        elif scope == 1: found = [('operand %d' % n, str(v) if v < 65536 else hex(v)) for n, (_, v) in enumerate(reversed(frame.stack))]
         else: found = [('local %d' % n, '%s %d' % (kind, (s32 if kind == 'i32' else s64)(v))) for n, (kind, v) in enumerate(frame.locals)]
         return {'variables': [{'name': it, 'value': value, 'variablesReference': 0} for it, value in found]}
+    def versions(self, t):
+        """Each object that a thread's next event touches by the log, as it is now, and as the log has it."""
+        world, entry = self.debugger.world, self.debugger.log.entries.get((t.n, len(t.entries)))
+        touched = [] if entry is None or entry is CLASH else [(int(touch(word)[1:]), word) for word in entry[1]]
+        return [('object %d' % o, 'version %d reads %d, next %s' % (world.version.get(o, 0), world.reads.get(o, 0), word)) for o, word in touched]
     def on_read_memory(self, given, events, name):
         start, count = given.get('offset', 0), given['count']
         if given['memoryReference'] != 'memory': raise Refused('error: no such memory, try memory')
@@ -192,11 +199,13 @@ EXCHANGES = {
                     ('dataBreakpointInfo', {'name': 'x'}), at_bytes('write 0 4', 'read 0 4', 'write 4294967295 4294967295'), at_functions('0', 'none', '1'), at_instructions(('0x29', 0), ('0x2d', -4), ('0x2a', 0), ('29', 0), ('0x', 0)),
                     move('continue', 1), move('continue', 1), move('continue', 1), evaluate('break 0 5'), at_functions(), move('continue', 1), at_bytes(), move('continue', 1), evaluate('delete'), move('reverseContinue', 1),
                     at_instructions(('0x25', 0)), move('continue', 1)),
-    'shown': (*all_of('scopes', 1, 2, 3, 16, 17, 0), *all_of('variables', 2, 3, 4, 5, 6, 0), stack(1, startFrame=1), stack(1, levels=1), stack(3), stack(0), memory(0, 16), memory(65530, 16), memory(65536, 1), memory(-1, 4), memory(0, 4, 'stack'),
+    'shown': (*all_of('scopes', 1, 2, 3, 16, 17, 0), *all_of('variables', 3, 4, 5, 6, 7, 8, 9, 11, 0, 2), stack(1, startFrame=1), stack(1, levels=1), stack(3), stack(0), memory(0, 16), memory(65530, 16), memory(65536, 1), memory(-1, 4), memory(0, 4, 'stack'),
               memory(9223372036854775807, 18446744073709551615), ('readMemory', {'memoryReference': 'memory'}), ('stackTrace', {'threadId': '1'}), ('disassemble', {'memoryReference': '0x25', 'instructionCount': 4})),
+    'versions': (*all_of('scopes', 1, 17), *all_of('variables', 5, 8, 11, 53), evaluate('event 1 99'), evaluate('waits 1'), *all_of('variables', 5, 8), evaluate('event 2 1'), *all_of('variables', 11), evaluate('step 5 2'), *all_of('variables', 20, 68),
+                 evaluate('event 0 99'), evaluate('waits 0'), *all_of('variables', 5, 8), move('continue', 1), evaluate('threads'), *all_of('variables', 5, 8, 20, 68), move('stepBack', 1), *all_of('variables', 5, 8, 11)),
     'disassembled': (stack(1), disassembly('0x25', 4), disassembly('0x29', 3, instructionOffset=-1), disassembly('0x25', 20, instructionOffset=-3), disassembly('0x29', 2, offset=-4), disassembly('0x26', 1), disassembly('37', 1),
                      disassembly('0x25', 0), disassembly('0x25', 2, instructionOffset=2 ** 63 - 1), disassembly('0x25', 2, instructionOffset=-2 ** 63), disassembly('0x26', 65537), ('disassemble', {'memoryReference': '0x25'})),
-    'evaluated': (evaluate('threads'), evaluate('step 0 3'), evaluate('locals 0'), evaluate('stack 0'), *all_of('variables', 2, 3), evaluate('writer 0'), evaluate('goto 1 1'), evaluate('waits 1'), evaluate('quit'), evaluate(''), evaluate('dance'),
+    'evaluated': (evaluate('threads'), evaluate('step 0 3'), evaluate('locals 0'), evaluate('stack 0'), *all_of('variables', 3, 4, 5), evaluate('writer 0'), evaluate('goto 1 1'), evaluate('waits 1'), evaluate('quit'), evaluate(''), evaluate('dance'),
                   evaluate('threads\n'), evaluate('back 2'), evaluate('way'), 'evaluate', 'terminate', 'threads'),
 }
 
@@ -216,6 +225,6 @@ def drawn_requests(words, threads, count):
         if kind == 12: return memory(some(70) - 1, some(70))
         if kind == 13: return 'threads'
         if kind < 16: return all_of('scopes', some(40))[0]
-        if kind < 18: return all_of('variables', some(80))[0]
+        if kind < 18: return all_of('variables', some(120))[0]
         return evaluate(('threads', 'way', 'back %d' % some(9), 'event %d' % id, 'goto %d %d' % (id, some(4)), 'break 0 %d' % some(6), 'delete', bytes_named(), 'writer 0', 'reverse', 'watch 0 4', 'continue')[words(12)])
     return [row() for _ in range(count)] + [evaluate('threads')]

@@ -761,6 +761,7 @@ for name in ('whole', 'second', 'five', 'named', 'reader', 'border64', 'traps'):
 for name in ('whole', 'third', 'readers', 'named'): adapted(name, 'breakpoints', 'disassembled')
 for name in ('hole', 'missing', 'clash', 'version', 'kind', 'shorter', 'noend', 'deep'): adapted(name, 'motions')
 adapted('deep', 'shown')
+for name in ('whole', 'hole', 'clash', 'version', 'five', 'named'): adapted(name, 'versions')
 
 # each instruction of the profile: behind `unreachable` any may stand
 def access(code, align, offset=0): return code + leb(align) + leb(offset)

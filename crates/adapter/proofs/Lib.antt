@@ -1,4 +1,5 @@
 pub mod Addresses
+pub mod Numbers
 pub mod Pairing
 pub mod References
 pub mod Keeping

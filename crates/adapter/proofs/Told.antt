@@ -1,14 +1,15 @@
 -- Instructions that are told.
-use Rattle.std.proofs.Common.{◌≡◌, ◌∙◌, ℕ, ◌<◌, ◌^◌, Bool, true, false, List, Some, None, refl, sym, ap, arith, slice_get}
-use Rattle.std.specs.Prelude.{ℤ, pos, negsuc, unsigned_abs, nat_lt, if◌then◌else◌}
+use Rattle.std.proofs.Common.{◌≡◌, ◌∙◌, ℕ, ◌+◌, ◌<◌, ◌^◌, Bool, true, false, List, [], ◌∷◌, ◌++◌, Some, None, refl, sym, ap, arith, slice_get}
+use Rattle.std.specs.Prelude.{ℤ, pos, negsuc, ◌+ℤ◌, unsigned_abs, nat_lt, if◌then◌else◌}
 use Rattle.std.specs.Int.{w64, FitsUnsigned}
 use Rattle.std.proofs.lemmas.Int.{ints}
+use Rattle.std.proofs.lemmas.List.FromFn.{map-range_with_len_more}
 use Rattle.std.proofs.lemmas.Bool.Decides.{nat_tests}
 use Rattle.wasm_types.specs.declared.instruction.Instr.{Instr}
 use Rattle.wasm_types.specs.declared.modules.Body.{Body}
 use Rattle.adapter_messages.specs.declared.parts.Instruction.{Instruction}
 use Rattle.adapter.specs.Code.{offset_at, reference_of}
-use Rattle.adapter.specs.Disassembly.{no_instruction, told, told_at, told_if}
+use Rattle.adapter.specs.Disassembly.{no_instruction, told, told_at, told_from, told_if}
 use Rattle.adapter.specs.InstructionText.{instruction_text}
 
 small : (n : ℕ) → n < 2 ^ 32 → nat_lt n (2 ^ 32) ≡ true
@@ -42,3 +43,9 @@ module _ (source : List ℕ) (b : Body) (function : ℕ) where
   pub one_told : (z : ℤ) (n : ℕ) → FitsUnsigned w64 z → n ≡ unsigned_abs z → told_at source b function n ≡ told source b function z
   one_told (pos m) n fits is = ap (told_at source b function) is
   one_told (negsuc m) n fits is = absurd (below_no m fits)
+
+  pub told_more : (at : ℕ) (offset : ℤ) (n : ℕ) (x : Instruction) → x ≡ told source b function (pos (at + n) +ℤ offset) → told_from source b function at offset n ++ x ∷ [] ≡ told_from source b function at offset (n + 1)
+  told_more at offset n x is =
+      let one : ℕ → Instruction = λ i. told source b function (pos (at + i) +ℤ offset) in
+      let same : 0 + n ≡ n = omega arith in
+      ap (λ y. told_from source b function at offset n ++ y ∷ []) is ∙ sym (map-range_with_len_more one 0 n n same)

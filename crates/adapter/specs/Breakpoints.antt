@@ -1,6 +1,6 @@
 -- Breakpoints that clients set: Debug Adapter Protocol, "Requests", "SetFunctionBreakpoints" and those beside it. Each
 -- request sets those of its kind anew, and those of other kinds stay.
-use Rattle.std.specs.Prelude.{◌≡◌, ℕ, zero, suc, true, false, List, [], ◌∷◌, ◌++◌, Option, Some, None, codes, drop, length, slice_get, take}
+use Rattle.std.specs.Prelude.{◌≡◌, ℕ, true, false, List, [], ◌∷◌, ◌++◌, Option, Some, None, codes, drop, length, replicate, take}
 use Rattle.std.specs.List.{flat_map}
 use Rattle.std.specs.Option.{option_to_list}
 use Rattle.adapter_messages.specs.declared.body.Body.TheVariants.{Breakpoints, DataBreakpoint}
@@ -19,6 +19,7 @@ use Rattle.debugger.specs.declared.command.Command.TheVariants as command
 use Rattle.debugger.specs.declared.command.Line.{Line}
 use Rattle.debugger.specs.declared.command.Line.TheVariants as line
 use Rattle.adapter.specs.InstructionBreaks.{IsPlaceOf}
+use Rattle.adapter.specs.Numbered.{numbered}
 use Rattle.adapter.specs.Replies.{success}
 use Rattle.adapter.specs.State.{AdapterAt}
 
@@ -37,21 +38,15 @@ abbrev pub breakpoint_at : {X : Type 0} → (message : List ℕ) → (number : �
 breakpoint_at message number None = record { id = number; is_verified = false; message = message }
 breakpoint_at message number (Some x) = record { id = number; is_verified = true; message = [] }
 
-abbrev pub breakpoint_if : {X : Type 0} → (message : List ℕ) → (number : ℕ) → Option (Option X) → List Breakpoint
-breakpoint_if message number None = []
-breakpoint_if message number (Some found) = breakpoint_at message number found ∷ []
-
-abbrev pub breakpoints_below : {X : Type 0} → (message : List ℕ) → List (Option X) → ℕ → List Breakpoint
-breakpoints_below message found zero = []
-breakpoints_below message found (suc n) = breakpoints_below message found n ++ breakpoint_if message n (slice_get found n)
+abbrev pub breakpoints_of : {X : Type 0} → (message : List ℕ) → List (Option X) → List Breakpoint
+breakpoints_of message found = numbered (breakpoint_at message) 0 found
 
 -- none of so many is found
 abbrev pub none_of : ℕ → List (Option ℕ)
-none_of zero = []
-none_of (suc n) = none_of n ++ None ∷ []
+none_of n = replicate n None
 
 abbrev pub breakpoints_reply : {X : Type 0} → (message : List ℕ) → List (Option X) → Reply
-breakpoints_reply message found = success (Breakpoints (breakpoints_below message found (length found))) []
+breakpoints_reply message found = success (Breakpoints (breakpoints_of message found)) []
 
 abbrev pub no_sources : List ℕ
 no_sources = codes "error: no sources are known, set breakpoints at functions or instructions"

@@ -1,5 +1,6 @@
 -- Instructions around one that is meant: Debug Adapter Protocol, "Requests", "Disassemble".
-use Rattle.std.specs.Prelude.{◌≡◌, ℕ, zero, suc, ◌+◌, ℤ, pos, negsuc, ◌+ℤ◌, ◌^◌, nat_lt, nat_le, List, [], ◌∷◌, ◌++◌, Option, Some, None, codes, slice_get, if◌then◌else◌}
+use Rattle.std.specs.Prelude.{◌≡◌, ℕ, ◌+◌, ℤ, pos, negsuc, ◌+ℤ◌, ◌^◌, nat_lt, nat_le, List, [], Option, Some, None, codes, map, slice_get, if◌then◌else◌}
+use Rattle.std.specs.List.{range_with_len}
 use Rattle.wasm_types.specs.declared.instruction.Instr.{Instr}
 use Rattle.wasm_types.specs.declared.modules.Body.{Body}
 use Rattle.wasm_types.specs.declared.modules.Module.{Module}
@@ -33,8 +34,7 @@ module _ (source : List ℕ) (b : Body) (function : ℕ) where
 
   -- so many, from instruction `at` moved by `offset` on
   abbrev pub told_from : (at : ℕ) → (offset : ℤ) → (n : ℕ) → List Instruction
-  told_from at offset zero = []
-  told_from at offset (suc n) = told_from at offset n ++ told (pos (at + n) +ℤ offset) ∷ []
+  told_from at offset n = map (λ i. told (pos (at + i) +ℤ offset)) (range_with_len 0 n)
 
 -- around a place of a function that has this body; a place that is meant has one
 abbrev pub around : (source : List ℕ) → Option Body → CodePlace → (offset : ℤ) → (count : ℕ) → List Instruction

@@ -1,5 +1,6 @@
 -- The threads of a world, and the frames of their stacks: Debug Adapter Protocol, "Requests", "Threads" and "StackTrace".
-use Rattle.std.specs.Prelude.{ℕ, zero, suc, ◌+◌, ◌-◌, ◌==◌, List, [], ◌∷◌, ◌++◌, Option, Some, None, codes, length, min, slice_get, if◌then◌else◌}
+use Rattle.std.specs.Prelude.{ℕ, ◌+◌, ◌-◌, ◌==◌, List, ◌++◌, codes, drop, length, map, min, take, if◌then◌else◌}
+use Rattle.std.specs.List.{range_with_len}
 use Rattle.std.specs.Fmt.{decimal}
 use Rattle.adapter_messages.specs.declared.body.Body.{Body}
 use Rattle.adapter_messages.specs.declared.body.Body.TheVariants.{StackTrace}
@@ -11,6 +12,7 @@ use Rattle.wasm_world.specs.CodePlace.{CodePlace}
 use Rattle.adapter.specs.declared.frames.TheConstants.{MOST_FRAMES}
 use Rattle.adapter.specs.Code.{offset_at, reference_of}
 use Rattle.adapter.specs.Ids.{frame_id}
+use Rattle.adapter.specs.Numbered.{numbered}
 
 -- `thread T`
 abbrev pub thread_item : ℕ → Thread
@@ -18,8 +20,7 @@ thread_item t = record { id = t + 1; name = codes "thread " ++ decimal t }
 
 -- the threads below a number
 abbrev pub threads_below : ℕ → List Thread
-threads_below zero = []
-threads_below (suc n) = threads_below n ++ thread_item n ∷ []
+threads_below n = map thread_item (range_with_len 0 n)
 
 -- the frame of a thread at a depth, which stands at that place in the code of these bytes
 abbrev pub frame_at : (source : List ℕ) → (thread depth : ℕ) → CodePlace → StackFrame
@@ -29,14 +30,9 @@ frame_at source thread depth p = record {
   instruction = reference_of (offset_at source p);
 }
 
-abbrev pub frame_if : (source : List ℕ) → (thread depth : ℕ) → Option CodePlace → List StackFrame
-frame_if source thread depth None = []
-frame_if source thread depth (Some p) = frame_at source thread depth p ∷ []
-
 -- so many frames of a thread that stands at these places, from the first depth on
 abbrev pub frames_of : (source : List ℕ) → List CodePlace → (thread first n : ℕ) → List StackFrame
-frames_of source places thread first zero = []
-frames_of source places thread first (suc n) = frames_of source places thread first n ++ frame_if source thread (first + n) (slice_get places (first + n))
+frames_of source places thread first n = numbered (frame_at source thread) first (take n (drop first places))
 
 -- how many frames are told of a stack of that depth: all from the first one asked for on where `levels` is 0, and no more
 -- than `levels` where it is not

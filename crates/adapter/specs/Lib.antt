@@ -1,8 +1,17 @@
+pub use Rattle.adapter_messages.specs.Exchanges
+pub use Rattle.adapter_messages.specs.declared.exchanging.Ended
+pub use Rattle.adapter_messages.specs.declared.exchanging.ExchangeFault
+pub use Rattle.adapter_messages.specs.declared.fault.FrameFault
+pub use Rattle.adapter_messages.specs.declared.replying.SendFault
+pub use Rattle.adapter_messages.specs.declared.request.Command
+pub use Rattle.adapter_messages.specs.declared.request.Request
 pub mod State
 pub mod Code
 pub mod Ids
+pub mod Numbered
 pub mod Replies
 pub mod Frames
+pub mod Versions
 pub mod Variables
 pub mod Memory
 pub mod Moves

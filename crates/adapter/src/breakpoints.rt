@@ -1,8 +1,8 @@
 //! Breakpoints that clients set.
 
-ghost use Rattle.std.specs.Prelude.{◌≡◌, ◌++◌, ◌<◌, IfOk, OnErr, OnOk, length, slice_get};
+ghost use Rattle.std.specs.Prelude.{◌≡◌, IfOk, OnErr};
 ghost use Rattle.debugger.specs.Functions.{IsEntry};
-ghost use Rattle.adapter.specs.Breakpoints.{Pairs, SetsData, SetsFunctions, breakpoint_at, breakpoint_if, breakpoints_below, breakpoints_reply, no_sources, none_of, those};
+ghost use Rattle.adapter.specs.Breakpoints.{Pairs, SetsData, SetsFunctions, breakpoint_at, breakpoints_of, breakpoints_reply, no_sources, none_of, those};
 ghost use Rattle.adapter.specs.State.{Suits, state_of};
 
 use crate::adapter::Adapter;
@@ -42,32 +42,17 @@ fn breakpoint_at<T: Copy>(
     })
 }
 
-/// Puts what is said of the breakpoint of a number behind others.
-fn push_breakpoint<T: Copy>(
-    alloc: Global,
-    breakpoints: &mut List<Breakpoint>,
-    message: &str,
-    found: &[Option<T>],
-    number: usize,
-) -> Result<(), NoMemory>
-    requires { number < length found.now }
-    ensures { OnOk result (breakpoints.new ≡ breakpoints.old ++ breakpoint_if message.now number (slice_get found.now number)) }
-{
-    breakpoints.push(breakpoint_at(alloc, message, number, found[number])?)?;
-    Ok(())
-}
-
 /// What is said of breakpoints for which these were found.
 pub(crate) fn breakpoints_of<T: Copy>(
     alloc: Global,
     message: &str,
     found: &[Option<T>],
 ) -> Result<List<Breakpoint>, NoMemory>
-    ensures { IfOk result (λ breakpoints. breakpoints ≡ breakpoints_below message.now found.now (length found.now)) }
+    ensures { IfOk result (λ breakpoints. breakpoints ≡ breakpoints_of message.now found.now) }
 {
     let mut breakpoints = List::new(alloc);
-    for number in 0..found.len() {
-        push_breakpoint(alloc, &mut breakpoints, message, found, number)?;
+    for (number, one) in found.iter().enumerate() {
+        breakpoints.push(breakpoint_at(alloc, message, number, *one)?)?;
     }
     Ok(breakpoints)
 }
@@ -85,23 +70,12 @@ pub(crate) fn those<T: Copy>(alloc: Global, found: &[Option<T>]) -> Result<Vec<T
     Ok(items)
 }
 
-/// So many times nothing.
-fn none_of(alloc: Global, count: usize) -> Result<Vec<Option<u32>>, NoMemory>
-    ensures { IfOk result (λ found. found.items ≡ none_of count) }
-{
-    let mut found = Vec::new(alloc);
-    for _ in 0..count {
-        found.push(None)?;
-    }
-    Ok(found)
-}
-
 impl<'a> Adapter<'a> {
     /// Answers that there are no breakpoints in sources.
     pub(crate) fn refuse_sources(&self, alloc: Global, count: usize) -> Result<Reply, NoMemory>
         ensures { IfOk result (λ reply. reply ≡ breakpoints_reply no_sources (none_of count)) }
     {
-        let found = none_of(alloc, count)?;
+        let found: Vec<Option<u32>> = vec![in alloc; None; count]?;
         let breakpoints = breakpoints_of(alloc, NO_SOURCES, &found)?;
         Ok(success(Body::Breakpoints(breakpoints), Told::none()))
     }

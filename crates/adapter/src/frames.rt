@@ -1,8 +1,10 @@
 //! Threads, and the frames of their stacks.
 
 ghost use Rattle.std.specs.Prelude.{◌≡◌, ◌+◌, ◌^◌, ◌<◌, ◌++◌, ◌-◌, IfOk, OnOk, length, min, slice_get};
+ghost use Rattle.std.specs.Option.{option_to_list};
 ghost use Rattle.wasm_world.specs.Standing.{standing};
-ghost use Rattle.adapter.specs.Frames.{frame_at, frame_count, frame_if, frames_of, thread_item, threads_below, trace_of};
+ghost use Rattle.adapter.specs.Frames.{frame_at, frame_count, frames_of, thread_item, threads_below, trace_of};
+ghost use Rattle.adapter.specs.Numbered.{numbered};
 
 use crate::code::{Code, reference_of};
 use crate::ids::frame_id;
@@ -66,7 +68,7 @@ fn push_frame(
     thread: u32,
     depth: u32,
 ) -> Result<(), NoMemory>
-    ensures { OnOk result (frames.new ≡ frames.old ++ frame_if code.now thread depth (slice_get (standing machine.now.thread.state) depth)) }
+    ensures { OnOk result (frames.new ≡ frames.old ++ numbered (frame_at code.now thread) depth (option_to_list (slice_get (standing machine.now.thread.state) depth))) }
 {
     if let Some(place) = machine.code_place(depth as usize) {
         frames.push(frame_at(alloc, code, thread, depth, place)?)?;
@@ -75,6 +77,7 @@ fn push_frame(
 }
 
 /// So many frames of a thread, from the first depth on.
+#[tactic(auto, using(crate::proofs::Numbers::numbered_behind))]
 fn frames_of(
     alloc: Global,
     code: &Code<'_>,

@@ -25,8 +25,10 @@ mod moving;
 mod replies;
 mod shown;
 mod variables;
+mod versions;
 mod waiting;
 
 pub use adapter::Adapter;
+pub use adapter_messages::{Command, Ended, ExchangeFault, FrameFault, Request, exchange, resume};
 pub use replies::failure;
 pub use waiting::{Waiting, launched};

@@ -1,16 +1,22 @@
 //! The scopes of frames, and their variables.
 
 ghost use Rattle.std.specs.Prelude.{◌≡◌, ◌++◌, ◌<◌, IfOk, IsTrue, OnOk, Some, length, reverse, slice_get, string_bytes};
+ghost use Rattle.std.specs.Option.{option_to_list};
+ghost use Rattle.rw_objects.specs.Counts.{count_at};
 ghost use Rattle.debug_views.specs.TraceLines.{number_text};
 ghost use Rattle.wasm_world.specs.Standing.{locals_at, operands_at};
 ghost use Rattle.debugger.specs.Replies.{IsLed};
+ghost use Rattle.adapter.specs.Numbered.{numbered};
 ghost use Rattle.adapter.specs.State.{state_of};
-ghost use Rattle.adapter.specs.Variables.{frame_depth, frame_thread, is_frame, local_if, local_item, locals_below, locals_of, operand_if, operand_item, operands_below, operands_of, scope, scopes_of, scopes_reply, variables_reply};
+ghost use Rattle.adapter.specs.Variables.{frame_depth, frame_thread, is_frame, local_item, locals_of, operand_item, operands_of, scope, scopes_of, scopes_reply, variables_reply, versions_if};
 
 use crate::adapter::Adapter;
 use crate::frames::MOST_FRAMES;
 use crate::replies::{failure, success};
+use crate::versions::versions_of;
 use adapter_messages::{Body, List, Reply, Scope, Text, Told, Variable};
+use log_pieces::Flat;
+use rw_objects::{Entry, Versions};
 use std::alloc::Global;
 use std::fmt::Write;
 use wasm_types::{NoMemory, Value};
@@ -62,8 +68,9 @@ fn scopes_of(alloc: Global, frame: u64, place: Option<CodePlace>) -> Result<Repl
         return failure(alloc, NO_FRAME);
     }
     let mut scopes = List::new(alloc);
-    scopes.push(scope(alloc, "Locals", 2 * frame)?)?;
-    scopes.push(scope(alloc, "Operands", 2 * frame + 1)?)?;
+    scopes.push(scope(alloc, "Locals", 3 * frame)?)?;
+    scopes.push(scope(alloc, "Operands", 3 * frame + 1)?)?;
+    scopes.push(scope(alloc, "Versions", 3 * frame + 2)?)?;
     Ok(success(Body::Scopes(scopes), Told::none()))
 }
 
@@ -82,27 +89,13 @@ fn local_item(alloc: Global, number: usize, value: Value) -> Result<Variable, No
     })
 }
 
-/// Puts the local of a number behind others.
-fn push_local(
-    alloc: Global,
-    items: &mut List<Variable>,
-    values: &[Value],
-    number: usize,
-) -> Result<(), NoMemory>
-    requires { number < length values.now }
-    ensures { OnOk result (items.new ≡ items.old ++ local_if number (slice_get values.now number)) }
-{
-    items.push(local_item(alloc, number, values[number])?)?;
-    Ok(())
-}
-
 /// Locals.
 fn locals_of(alloc: Global, values: &[Value]) -> Result<Reply, NoMemory>
     ensures { IfOk result (λ reply. reply ≡ locals_of (Some values.now)) }
 {
     let mut items = List::new(alloc);
-    for number in 0..values.len() {
-        push_local(alloc, &mut items, values, number)?;
+    for (number, value) in values.iter().enumerate() {
+        items.push(local_item(alloc, number, *value)?)?;
     }
     Ok(success(Body::Variables(items), Told::none()))
 }
@@ -142,13 +135,14 @@ fn push_operand(
     number: usize,
 ) -> Result<(), NoMemory>
     requires { number < length words.now }
-    ensures { OnOk result (items.new ≡ items.old ++ operand_if number (slice_get (reverse words.now) number)) }
+    ensures { OnOk result (items.new ≡ items.old ++ numbered operand_item number (option_to_list (slice_get (reverse words.now) number))) }
 {
     items.push(operand_item(alloc, number, words[words.len() - 1 - number])?)?;
     Ok(())
 }
 
 /// Operands.
+#[tactic(auto, using(crate::proofs::Numbers::numbered_next))]
 fn operands_of(alloc: Global, words: &[u64]) -> Result<Reply, NoMemory>
     ensures { IfOk result (λ reply. reply ≡ operands_of (Some words.now)) }
 {
@@ -179,6 +173,22 @@ fn operands_at(alloc: Global, machine: &ThreadState<'_>, depth: usize) -> Result
     }
 }
 
+/// The versions for a thread of whose next event this is claimed, if it is in a function there.
+fn versions_if(
+    alloc: Global,
+    versions: &Versions,
+    item: Option<Flat<Entry>>,
+    place: Option<CodePlace>,
+) -> Result<Reply, NoMemory>
+    ensures { IfOk result (λ reply. reply ≡ versions_if (count_at versions.now) item place) }
+{
+    if place.is_none() {
+        return failure(alloc, NO_FRAME);
+    }
+    let items = versions_of(alloc, versions, item)?;
+    Ok(success(Body::Variables(items), Told::none()))
+}
+
 impl<'a> Adapter<'a> {
     /// Shows the scopes of a frame.
     pub(crate) fn show_scopes(&self, alloc: Global, frame: u64) -> Result<Reply, NoMemory>
@@ -201,18 +211,22 @@ impl<'a> Adapter<'a> {
         ensures shows { IfOk result (λ reply. reply ≡ variables_reply (state_of self.now) reference) }
     {
         let world = self.debugger.world();
-        let frame = reference / 2;
+        let frame = reference / 3;
         if !is_frame(frame) {
             return failure(alloc, NO_FRAME);
         }
-        let Some(machine) = world.machine(frame_thread(frame)) else {
+        let thread = frame_thread(frame);
+        let (Some(machine), Some(places)) = (world.machine(thread), world.places(thread)) else {
             return failure(alloc, NO_FRAME);
         };
         let depth = frame_depth(frame);
-        if reference % 2 == 0 {
-            locals_at(alloc, machine, depth)
-        } else {
-            operands_at(alloc, machine, depth)
+        match reference % 3 {
+            0 => locals_at(alloc, machine, depth),
+            1 => operands_at(alloc, machine, depth),
+            _ => {
+                let item = self.debugger.entry(thread, places);
+                versions_if(alloc, world.versions(), item, machine.code_place(depth))
+            }
         }
     }
 }

@@ -554,8 +554,9 @@ The editor's `launch` names the files, as the arguments of `wreplay debug` do:
 
 The threads are those of the run, with numbers from 1 on; a frame of a stack is
 a function and an instruction in it, which is its offset in the module, as in
-0x1f. Its scopes are its locals and its operands. The memory's reference is
-`memory`.
+0x1f. Its scopes are its locals, its operands, and the versions of the objects
+that the next event of its thread touches, beside those for which it waits. The
+memory's reference is `memory`.
 
   next, stepIn           go on with this thread alone, by a step
   stepOut                go on with this thread alone, until its function returns

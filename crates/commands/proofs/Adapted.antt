@@ -1,9 +1,9 @@
 -- What exchanges of a debug adapter come to.
 use Rattle.std.proofs.Common.{◌≡◌, ℕ, List, ◌++◌, Result, Ok, Err, OnOk, IfErr, inr, refl, sym, subst}
-use Rattle.adapter_messages.specs.declared.request.Request.{Request}
-use Rattle.adapter_messages.specs.Exchanges.{At, IsWaiting}
-use Rattle.adapter_messages.specs.declared.exchanging.Ended.{Ended}
-use Rattle.adapter_messages.specs.declared.exchanging.ExchangeFault.{ExchangeFault}
+use Rattle.adapter.specs.Request.{Request}
+use Rattle.adapter.specs.Exchanges.{At, IsWaiting}
+use Rattle.adapter.specs.Ended.{Ended}
+use Rattle.adapter.specs.ExchangeFault.{ExchangeFault}
 use Rattle.adapter.specs.Waits.{Waits, holds_back}
 use Rattle.adapter.specs.declared.waiting.Waiting.{Waiting}
 use Rattle.commands.specs.Adapts.{fault_of, outcome_of, start, IsUpToLaunch, IsAnsweredBehind, IsBrokenBehind, IsAdapted, IsAdapterStopped}

@@ -2,7 +2,7 @@
 use Rattle.std.proofs.Common.{◌≡◌, ◌≢◌, ◌<◌, ℕ, List, [], ◌++◌, refl, sym, ap, subst, ◌∙◌, arith}
 use Rattle.std.specs.Prelude.{Option, Some, None}
 use Rattle.std.proofs.lemmas.List.{append-nil}
-use Rattle.byte_streams.specs.declared.memory.MemorySource.{MemorySource}
+use Rattle.debugger.specs.MemorySource.{MemorySource}
 use Rattle.commands.specs.declared.memory.MemoryFile.{MemoryFile}
 use Rattle.commands.specs.Files.{IsOpened}
 use Rattle.commands.specs.Memory.{HoldsBytes, Fails}

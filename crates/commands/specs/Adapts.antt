@@ -6,16 +6,16 @@ use Rattle.replica.specs.declared.log.Log.{Log}
 use Rattle.replica.specs.declared.fault.GatherFault.TheVariants as gathering
 use Rattle.wasm_replay.specs.Replays.{IsNotOpened, IsOfRun}
 use Rattle.debugger.specs.Replies.{DebugAt, IsOpening}
-use Rattle.adapter_messages.specs.declared.fault.FrameFault.{FrameFault}
-use Rattle.adapter_messages.specs.declared.fault.FrameFault.TheVariants as frame
-use Rattle.adapter_messages.specs.declared.request.Command.{Command}
-use Rattle.adapter_messages.specs.declared.request.Command.TheVariants.{Launch}
-use Rattle.adapter_messages.specs.declared.request.Request.{Request}
-use Rattle.adapter_messages.specs.Exchanges.{At, at_of, IsBroken, IsEnded, IsResumed, IsUnresumed, IsWaiting}
-use Rattle.adapter_messages.specs.declared.exchanging.Ended.{Ended}
-use Rattle.adapter_messages.specs.declared.exchanging.Ended.TheVariants.{Asked, HeldBack, NothingMore}
-use Rattle.adapter_messages.specs.declared.exchanging.ExchangeFault.{ExchangeFault}
-use Rattle.adapter_messages.specs.declared.exchanging.ExchangeFault.TheVariants as exchange
+use Rattle.adapter.specs.FrameFault.{FrameFault}
+use Rattle.adapter.specs.FrameFault.TheVariants as frame
+use Rattle.adapter.specs.Command.{Command}
+use Rattle.adapter.specs.Command.TheVariants.{Launch}
+use Rattle.adapter.specs.Request.{Request}
+use Rattle.adapter.specs.Exchanges.{At, at_of, IsBroken, IsEnded, IsResumed, IsUnresumed, IsWaiting}
+use Rattle.adapter.specs.Ended.{Ended}
+use Rattle.adapter.specs.Ended.TheVariants.{Asked, HeldBack, NothingMore}
+use Rattle.adapter.specs.ExchangeFault.{ExchangeFault}
+use Rattle.adapter.specs.ExchangeFault.TheVariants as exchange
 use Rattle.adapter.specs.Attends.{Attends}
 use Rattle.adapter.specs.Replies.{failure}
 use Rattle.adapter.specs.State.{AdapterAt, opening_of}

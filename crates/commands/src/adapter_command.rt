@@ -4,9 +4,9 @@ ghost use Rattle.std.specs.Prelude.{◌≡◌, ℕ, ◌<◌, ◌+◌, ◌-◌, �
 ghost use Rattle.replica.specs.Log.{log_of};
 ghost use Rattle.thread_plan.specs.Plans.{IsPlanOf};
 ghost use Rattle.wasm_replay.specs.Replays.{IsOfRun};
-ghost use Rattle.adapter_messages.specs.Exchanges.{At, at_of, IsResumed, IsUnresumed};
-ghost use Rattle.adapter_messages.specs.declared.exchanging.Ended.{Ended};
-ghost use Rattle.adapter_messages.specs.declared.exchanging.ExchangeFault.{ExchangeFault};
+ghost use Rattle.adapter.specs.Exchanges.{At, at_of, IsResumed, IsUnresumed};
+ghost use Rattle.adapter.specs.Ended.{Ended};
+ghost use Rattle.adapter.specs.ExchangeFault.{ExchangeFault};
 ghost use Rattle.adapter.specs.Attends.{Attends};
 ghost use Rattle.adapter.specs.Replies.{failure};
 ghost use Rattle.adapter.specs.State.{AdapterAt, Suits, state_of};
@@ -19,11 +19,12 @@ ghost use Rattle.commands.specs.Adapts.{fault_of, frame_fault, outcome_of, sourc
 use crate::fault::Fault;
 use crate::files::Files;
 use crate::gathered::{ReplayInput, read_replay_input};
-use adapter::{Adapter, Waiting, failure, launched};
-use adapter_messages::{Command, Ended, ExchangeFault, FrameFault, Request, exchange, resume};
-use byte_streams::{Sink, Source};
+use adapter::{
+    Adapter, Command, Ended, ExchangeFault, FrameFault, Request, Waiting, exchange, failure,
+    launched, resume,
+};
 use command_words::ReplayRequest;
-use debugger::Debugger;
+use debugger::{Debugger, Sink, Source};
 use log::Log;
 use replica::GatherFault;
 use std::alloc::Global;

@@ -4,7 +4,7 @@ ghost use Rattle.std.specs.Prelude.{◌≡◌};
 
 use crate::files::{FileFault, InputFile};
 use crate::quotes::{ImportNames, Quote};
-use adapter_messages::FrameFault;
+use adapter::FrameFault;
 use binary_decoder::DecodeFault;
 use debug_views::ViewFault;
 use pick_schedule::ScheduleFault;

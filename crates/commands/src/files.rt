@@ -3,7 +3,7 @@
 ghost use Rattle.std.specs.Prelude.{◌≡◌, ℕ, List, IfOk, IfErr, Err};
 ghost use Rattle.commands.specs.Files.{IsRead, IsFileFault, IsOpened};
 
-use byte_streams::Source;
+use debugger::Source;
 use log::{Log, info};
 use std::alloc::Global;
 use thiserror::Error;

@@ -34,8 +34,8 @@ mod thread_runs;
 mod trace_command;
 mod view_command;
 
+pub use adapter::FrameFault;
 pub use adapter_command::adapt;
-pub use adapter_messages::FrameFault;
 pub use check_command::check;
 pub use debug_command::debug;
 pub use fault::Fault;

@@ -6,7 +6,7 @@ ghost use Rattle.commands.specs.Memory.{HoldsBytes, Fails, file_at};
 ghost use Rattle.commands.specs.declared.files.FileFault.TheVariants as faults;
 
 use crate::files::{FileFault, FileState, Files};
-use byte_streams::MemorySource;
+use debugger::MemorySource;
 use std::alloc::Global;
 
 /// How many bytes a call of a stream brings at most: few, so that lines stand over the borders of calls.

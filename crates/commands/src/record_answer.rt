@@ -3,7 +3,7 @@
 ghost use Rattle.std.specs.Prelude.{◌≡◌, ◌+◌, ◌-◌, ◌^◌, ◌<◌, ◌≤◌, ℕ, List, ◌++◌, IfOk, OnOk, OnErr};
 ghost use Rattle.commands.specs.Records.{pieces_text};
 
-use byte_streams::{Failed, Sink, write_all};
+use debugger::{Failed, Sink, write_all};
 use std::alloc::Global;
 use std::marker::Model;
 use wasm_record::{LineRoom, Recording};

@@ -10,7 +10,7 @@ use crate::files::FileFault;
 use arrayvec::ArrayString;
 use binary_decoder::DecodeFault;
 use debug_views::ViewFault;
-use itoa::Buffer;
+use debugger::put_number;
 use pick_schedule::ScheduleFault;
 use replica::{GatherFault, Skipped};
 use std::fmt;
@@ -28,16 +28,6 @@ fn plain(head: &str) -> ArrayString<64>
     let mut text = ArrayString::<64>::new();
     text.push_str(head);
     text
-}
-
-// Puts a number behind a text.
-fn put_number(text: &mut ArrayString<64>, number: u64)
-    requires { array_string_len text.old + 20 ≤ 64 }
-    ensures text { text.new.bytes ≡ text.old.bytes ++ decimal number }
-    ensures short { array_string_len text.new ≤ array_string_len text.old + 20 }
-{
-    let mut buffer = Buffer::new();
-    text.push_str(buffer.format(number));
 }
 
 // A text with a number behind it.

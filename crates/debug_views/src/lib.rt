@@ -42,6 +42,7 @@ pub use report_text::{noted_report, put_row, report};
 pub use text::{stop_words, view, write_objects, write_rows, write_thread};
 pub use threads::{ThreadView, thread_view};
 pub use trace_choice::TraceChoice;
+pub use trace_seen::number_in;
 pub use tracing::{TraceFault, trace_log};
 pub use values::{bytes, is_in_view, versions};
 pub use viewing::{ViewChoice, WasmViewFault, view_log};

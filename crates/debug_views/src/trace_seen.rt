@@ -108,9 +108,9 @@ pub(crate) fn pages_in(world: &World<ThreadState<'_>, SharedSpace>) -> u32
     world.space().pages()
 }
 
-/// The number that an access finds at an address in memory, where this reaches so far.
+/// The number that an access finds at an address in memory, little-endian; none where memory ends before it.
 #[inline(always)]
-pub(crate) fn number_in(
+pub fn number_in(
     world: &World<ThreadState<'_>, SharedSpace>,
     access: Access,
     address: u32,

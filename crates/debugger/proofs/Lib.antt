@@ -6,6 +6,7 @@ pub mod Writing
 pub mod Closing
 pub mod Places
 pub mod Lists
+pub mod Numbered
 pub mod ThreadEvents
 pub mod OneWriter
 pub mod WriterTold

@@ -1,3 +1,4 @@
+pub use Rattle.byte_streams.specs.declared.memory.MemorySource
 pub mod Lines
 pub mod Kept
 pub mod Answers

@@ -1,20 +1,17 @@
 -- Numbers in memory that are watched.
-use Rattle.std.specs.Prelude.{ℕ, ◌==◌, Bool, not, List, Option, Some, None, drop, length, nat_le, if◌then◌else◌}
-use Rattle.std.specs.Int.{Width, byte_len}
+use Rattle.std.specs.Prelude.{ℕ, ◌==◌, Bool, not, Option, Some, None, if◌then◌else◌}
+use Rattle.std.specs.Option.{unwrap_or}
 use Rattle.wasm_types.specs.Widths.{width_of}
-use Rattle.block_objects.specs.Access.{number_at}
 use Rattle.wasm_world.specs.SharedMemory.{shared_memory}
 use Rattle.wasm_world.specs.Opening.{WasmWorld}
+use Rattle.debug_views.specs.Trace.{number_if}
 use Rattle.debug_views.specs.Values.{memory_bytes}
 use Rattle.debugger.specs.declared.watching.WatchedNumber.{WatchedNumber}
 use Rattle.debugger.specs.declared.watching.Seen.{Seen}
 
--- the number of a width in a memory, little-endian; 0 where the memory ends before
-abbrev pub number_within : Width → ℕ → List ℕ → ℕ
-number_within w address memory = if nat_le (byte_len w) (length (drop address memory)) then number_at w address memory else 0
-
+-- the number in memory, little-endian; 0 where the memory ends before
 abbrev pub number_now : WasmWorld → WatchedNumber → ℕ
-number_now w k = number_within (width_of k.width) k.address (memory_bytes shared_memory w)
+number_now w k = unwrap_or (number_if (width_of k.width) k.address (memory_bytes shared_memory w)) 0
 
 -- the number changes; or it becomes or ceases to be the one that is asked for
 abbrev pub is_change : Option ℕ → (old new : ℕ) → Bool

@@ -4,9 +4,9 @@ ghost use Rattle.std.specs.Prelude.{◌≡◌, ◌≤◌, IfSome, length};
 ghost use Rattle.debugger.specs.Replies.{back_line, fault_words, ceased_words, gone_line, stopped_line, unreached_line, reverse_line, break_line, paused_line, test_words, watch_line, IsPauseOf, IsStopOf};
 ghost use Rattle.replay_session.specs.declared.paused.Paused.TheVariants as paused;
 
+use crate::numbers::put_number;
 use arrayvec::ArrayString;
 use debug_views::stop_words;
-use itoa::Buffer;
 use replay_gate::{Break, Stopped};
 use replay_session::{Ceased, Gone, Met, Paused};
 use wasm_replay::ReplayFault;
@@ -42,10 +42,9 @@ fn ceased_words(ceased: Ceased) -> &'static str
 pub fn gone_line(gone: Gone) -> ArrayString<64>
     ensures { result.bytes ≡ gone_line gone }
 {
-    let mut number = Buffer::new();
     let mut line = ArrayString::<64>::new();
     line.push_str("stepped ");
-    line.push_str(number.format(gone.steps));
+    put_number(&mut line, gone.steps);
     line.push_str(ceased_words(gone.ceased));
     line
 }
@@ -133,10 +132,9 @@ pub(crate) fn reverse_line(
 pub(crate) fn break_line(number: usize) -> ArrayString<64>
     ensures { result.bytes ≡ break_line number }
 {
-    let mut digits = Buffer::new();
     let mut line = ArrayString::<64>::new();
     line.push_str("break ");
-    line.push_str(digits.format(number));
+    put_number(&mut line, number as u64);
     line.push_str("\n");
     line
 }
@@ -145,10 +143,9 @@ pub(crate) fn break_line(number: usize) -> ArrayString<64>
 pub(crate) fn watch_line(number: usize) -> ArrayString<64>
     ensures { result.bytes ≡ watch_line number }
 {
-    let mut digits = Buffer::new();
     let mut line = ArrayString::<64>::new();
     line.push_str("watch ");
-    line.push_str(digits.format(number));
+    put_number(&mut line, number as u64);
     line.push_str("\n");
     line
 }

@@ -1,7 +1,9 @@
 //! Locals and operands of a function that a thread is in, as lines.
 
-ghost use Rattle.std.specs.Prelude.{◌≡◌, ◌++◌, IfOk, OnOk, Some, length, reverse, slice_get, string_bytes};
-ghost use Rattle.debugger.specs.Locals.{first_locals, first_operands, local_line, locals_text, operand_line, operands_text};
+ghost use Rattle.std.specs.Prelude.{◌≡◌, ◌++◌, IfOk, OnOk, reverse, slice_get, string_bytes};
+ghost use Rattle.std.specs.List.{flat_map};
+ghost use Rattle.std.specs.Option.{option_to_list};
+ghost use Rattle.debugger.specs.Locals.{lines_of, local_line, locals_text, operand_line, operands_text};
 
 use std::alloc::Global;
 use std::fmt::Write;
@@ -18,7 +20,7 @@ const LEAST_HEXADECIMAL: u64 = 65536;
 
 /// Writes the local of a number, if there is one, as a line.
 fn write_local(text: &mut String, values: &[Value], number: usize) -> Result<(), NoMemory>
-    ensures { OnOk result (string_bytes text.new ≡ string_bytes text.old ++ local_line number (slice_get values.now number)) }
+    ensures { OnOk result (string_bytes text.new ≡ string_bytes text.old ++ flat_map (local_line number) (option_to_list (slice_get values.now number))) }
 {
     if let Some(value) = values.get(number) {
         write!(text, "local {number} {value}\n")?;
@@ -28,7 +30,7 @@ fn write_local(text: &mut String, values: &[Value], number: usize) -> Result<(),
 
 /// Writes locals, a line for each.
 fn write_locals(text: &mut String, values: &[Value]) -> Result<(), NoMemory>
-    ensures { OnOk result (string_bytes text.new ≡ string_bytes text.old ++ first_locals values.now (length values.now)) }
+    ensures { OnOk result (string_bytes text.new ≡ string_bytes text.old ++ lines_of local_line values.now) }
 {
     for number in 0..values.len() {
         write_local(text, values, number)?;
@@ -51,7 +53,7 @@ pub(crate) fn locals_text(alloc: Global, values: &[Value]) -> Result<String, NoM
 
 /// Writes an operand, as a line.
 fn write_bits(text: &mut String, number: usize, bits: u64) -> Result<(), NoMemory>
-    ensures { OnOk result (string_bytes text.new ≡ string_bytes text.old ++ operand_line number (Some bits)) }
+    ensures { OnOk result (string_bytes text.new ≡ string_bytes text.old ++ operand_line number bits) }
 {
     if bits < LEAST_HEXADECIMAL {
         write!(text, "operand {number} {bits}\n")?;
@@ -63,7 +65,7 @@ fn write_bits(text: &mut String, number: usize, bits: u64) -> Result<(), NoMemor
 
 /// Writes the operand of a number, if there is one, as a line. The topmost, which stands last here, has number 0.
 fn write_operand(text: &mut String, words: &[u64], number: usize) -> Result<(), NoMemory>
-    ensures { OnOk result (string_bytes text.new ≡ string_bytes text.old ++ operand_line number (slice_get (reverse words.now) number)) }
+    ensures { OnOk result (string_bytes text.new ≡ string_bytes text.old ++ flat_map (operand_line number) (option_to_list (slice_get (reverse words.now) number))) }
 {
     if number < words.len() {
         write_bits(text, number, words[words.len() - 1 - number])?;
@@ -73,7 +75,7 @@ fn write_operand(text: &mut String, words: &[u64], number: usize) -> Result<(), 
 
 /// Writes operands, the topmost of which stands last here and is written first, a line for each.
 fn write_operands(text: &mut String, words: &[u64]) -> Result<(), NoMemory>
-    ensures { OnOk result (string_bytes text.new ≡ string_bytes text.old ++ first_operands words.now (length words.now)) }
+    ensures { OnOk result (string_bytes text.new ≡ string_bytes text.old ++ lines_of operand_line (reverse words.now)) }
 {
     for number in 0..words.len() {
         write_operand(text, words, number)?;

@@ -2,6 +2,7 @@
 
 ghost use Rattle.std.specs.Prelude.{◌≡◌, IfOk};
 ghost use Rattle.event_core.specs.World.{world_of};
+ghost use Rattle.wasm_replay.specs.Replays.{gathered_log};
 ghost use Rattle.debug_views.specs.Writes.{IsWriteOfRange};
 ghost use Rattle.debugger.specs.At.{at_of, IsOpenedAs};
 ghost use Rattle.debugger.specs.Functions.{IsEntry};
@@ -12,8 +13,10 @@ use crate::functions::{function_called, has_instruction};
 use crate::word::word_of;
 use debug_views::write_break;
 use event_core::World;
-use replay_gate::Break;
+use log_pieces::Flat;
+use replay_gate::{Break, ReadLog};
 use replay_session::Leg;
+use rw_objects::Entry;
 use std::alloc::Global;
 use wasm_types::{ByteRange, NoMemory};
 use wasm_world::{CodePlace, SharedSpace, ThreadState, Valid};
@@ -32,6 +35,13 @@ impl<'a> Debugger<'a> {
         ensures { result.now ≡ (at_of self.now).code }
     {
         self.valid
+    }
+
+    /// What the log has of the event of a thread at a place.
+    pub fn entry(&self, thread: u32, place: u32) -> Option<Flat<Entry>>
+        ensures { result ≡ (gathered_log (at_of self.now).log).entry thread place }
+    {
+        self.session.log().entry(thread, place)
     }
 
     /// The way from the opening world.

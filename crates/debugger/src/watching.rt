@@ -5,9 +5,9 @@ ghost use Rattle.std.specs.List.{list_any};
 ghost use Rattle.wasm_types.specs.Accesses.{access_width};
 ghost use Rattle.wasm_types.specs.Widths.{width_of};
 ghost use Rattle.event_core.specs.World.{world_of};
-ghost use Rattle.debugger.specs.Watches.{is_change, is_changed, number_now, number_within, seen_now};
+ghost use Rattle.debugger.specs.Watches.{is_change, is_changed, number_now, seen_now};
 
-use block_objects::access_number;
+use debug_views::number_in;
 use event_core::World;
 use std::alloc::Global;
 use wasm_types::{Access, Narrow, NoMemory, ValType, Width};
@@ -43,24 +43,11 @@ fn access_of(width: Width) -> Access
     }
 }
 
-/// The number of a width in a memory; 0 where the memory ends before.
-fn number_within(memory: &[u8], width: Width, address: usize) -> u64
-    ensures { result ≡ number_within (width_of width) address memory.now }
-{
-    match memory.get(address..) {
-        Some(bytes) if width.bytes() as usize <= bytes.len() => {
-            access_number(bytes, access_of(width))
-        }
-        Some(_) | None => 0,
-    }
-}
-
 /// What a number in memory is.
 fn number_now(world: &World<ThreadState<'_>, SharedSpace>, watched: WatchedNumber) -> u64
     ensures { result ≡ number_now (world_of world.now) watched }
 {
-    let memory = world.space().bytes();
-    number_within(memory, watched.width, watched.address as usize)
+    number_in(world, access_of(watched.width), watched.address).unwrap_or(0)
 }
 
 /// Whether what is watched of a number changes between these two.

@@ -1,5 +1,5 @@
 use Rattle.std.proofs.Common.{false}
-use Rattle.adapter_messages.specs.Exchanges.{at_of, IsUnresumed}
+use Rattle.adapter.specs.Exchanges.{at_of, IsUnresumed}
 use Rattle.adapter.specs.Attends.{Attends}
 use Rattle.adapter.specs.State.{state_of}
 use Rattle.adapter.specs.Waits.{launched_reply}

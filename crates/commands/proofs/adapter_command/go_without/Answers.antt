@@ -1,7 +1,7 @@
 use Rattle.std.proofs.Common.{[], inl, refl}
-use Rattle.adapter_messages.specs.Exchanges.{at_of, IsUnresumed}
-use Rattle.adapter_messages.specs.declared.exchanging.ExchangeFault.TheVariants as exchange
-use Rattle.adapter_messages.specs.declared.replying.SendFault.TheVariants as sending
+use Rattle.adapter.specs.Exchanges.{at_of, IsUnresumed}
+use Rattle.adapter.specs.ExchangeFault.TheVariants as exchange
+use Rattle.adapter.specs.SendFault.TheVariants as sending
 use Rattle.adapter.specs.Replies.{failure}
 use Rattle.adapter.specs.Waits.{Waits, holds_back}
 use Rattle.adapter.specs.declared.waiting.Waiting.TheVariants.{ForEnd}

@@ -1,8 +1,8 @@
 -- the locals so far are written
-use Rattle.std.proofs.Common.{◌≡◌, ◌++◌}
+use Rattle.std.proofs.Common.{◌≡◌, ◌++◌, take}
 use Rattle.std.specs.Prelude.{string_bytes}
-use Rattle.debugger.specs.Locals.{first_locals}
+use Rattle.debugger.specs.Locals.{lines_of, local_line}
 use Rattle.debugger.proofs.locals.write_locals.Given as goal
 
 abbrev pub invariant-loop-number : goal.invariant-loop-number
-invariant-loop-number l = string_bytes l.text ≡ string_bytes l.initial.text ++ first_locals l.values l.number
+invariant-loop-number l = string_bytes l.text ≡ string_bytes l.initial.text ++ lines_of local_line (take l.number l.values)
