@@ -484,12 +484,13 @@ pub record GoesToWriter (s : DebugAt) (address : ℕ) (text : List ℕ) (u : Deb
   pub goes : ((e : EventAt) × IsFirstEvent (gathered_log s.log) (sought_at s role.Writer address) s.world.threads e × (Reaches s e.thread (e.place + 1) text u ⊎ Wants s text u))
       ⊎ (NoEvent (gathered_log s.log) (sought_at s role.Writer address) s.world.threads × (text ≡ nobody_line) × (u ≡ s))
 
--- the lines of a schedule by which a run comes here; a schedule has no more picks
+-- the lines of a schedule by which a run that the log lets pass comes here
 pub record IsOrder (s : DebugAt) (text : List ℕ) : Type 0 where
   pub picks : List Pick
   pub lines : schedule_of text ≡ Ok picks
-  pub comes : ∥ PicksLead shared_memory thread_code (steps_of_way s.legs) picks s.opening s.world ∥₁
+  pub comes : ∥ PicksLead shared_memory thread_code (gathered_log s.log) (steps_of_way s.legs) picks s.opening s.world ∥₁
 
+-- a schedule has no more picks
 pub record IsTooLong (s : DebugAt) (text : List ℕ) : Type 0 where
   pub many : 1000000 < steps_of_way s.legs
   pub is : text ≡ codes "error: more than 1000000 steps\n"

@@ -10,7 +10,7 @@ use Rattle.std.proofs.lemmas.Option.{slice_get_within}
 use Rattle.rw_objects.specs.declared.entry.Entry.{Entry}
 use Rattle.rw_objects.specs.declared.next.Next.{Next}
 use Rattle.rw_objects.specs.declared.next.Next.TheVariants as next
-use Rattle.rw_objects.specs.Space.{Space}
+use Rattle.rw_objects.specs.Space.{Space, SpaceLaws}
 use Rattle.rw_objects.specs.Code.{Code, CodeLaws}
 use Rattle.event_core.specs.declared.pick.Pick.{Pick}
 use Rattle.event_core.specs.declared.pick.Input.{Input}
@@ -29,11 +29,11 @@ use Rattle.replay_laws.specs.declared.turn.Turn.TheVariants as turn
 use Rattle.replay_laws.specs.declared.turn.Refusal.{Refusal}
 use Rattle.replay_laws.specs.declared.turn.Refusal.TheVariants.{Diverged}
 use Rattle.replay_laws.specs.RunLog.{end_of_thread}
-use Rattle.replay_laws.specs.Gates.{is_open}
-use Rattle.replay_laws.specs.Log.{Log}
+use Rattle.replay_laws.specs.Gates.{is_open, IsGatedRun}
+use Rattle.replay_laws.specs.Log.{Log, HasLimits}
 use Rattle.replay_laws.specs.Ordered.{pick_made}
 use Rattle.replay_laws.specs.Turns.{input_for, input_of_turn, pick_of, can_give, same_end, turn_of, turn_by_step, turn_by_item, turn_by_entry, turn_by_place, turn_by_next, turn_by_end, turn_by_thread, world_after_turn}
-use Rattle.replay_laws.proofs.Orders.{turn_leaves, world_joined}
+use Rattle.replay_laws.proofs.Orders.{gated_joined, made_gated, turn_leaves, world_joined}
 use Rattle.replay_gate.specs.Answers.{makes_step}
 use Rattle.replay_gate.proofs.Rounds.{turned_length}
 use Rattle.replay_gate.specs.Turned.{answer_of_turn}
@@ -134,100 +134,106 @@ module _ {State Op Reply Value Fixed : Type 0} (space : Space Op Reply Value Fix
 
   -- ---- picks behind others
 
-  pub none_put : (ps : List Pick) (w : WorldAt State Value Fixed) → ArePut space code 0 ps ps w w
-  none_put ps w = record { picks = []; put = sym (append-nil ps); of_threads = refl; lead = record { count = refl; leads = refl } }
+  module _ (log : Log) where
+    pub none_put : (ps : List Pick) (w : WorldAt State Value Fixed) → ArePut space code log 0 ps ps w w
+    none_put ps w = record { picks = []; put = sym (append-nil ps); of_threads = refl; lead = record { count = refl; gated = tt; leads = refl } }
 
-  pub put_joined : (m n : ℕ) (ps qs rs : List Pick) (w u v : WorldAt State Value Fixed) → ArePut space code m ps qs w u → ArePut space code n qs rs u v → ArePut space code (m + n) ps rs w v
-  put_joined m n ps qs rs w u v a b =
-      let ca = a.lead.count in
-      let cb = b.lead.count in
-      let l = length-append a.picks b.picks in
-      record {
-        picks = a.picks ++ b.picks;
-        put = b.put ∙ ap (λ xs. xs ++ b.picks) a.put ∙ append_assoc ps a.picks b.picks;
-        of_threads = list_all-append (λ (q : Pick). nat_le q.thread 15) a.picks b.picks ∙ both _ _ a.of_threads b.of_threads;
-        lead = record { count = omega (arith, l, ca, cb); leads = world_joined space code w a.picks b.picks ∙ ap (λ x. world_run space code x b.picks) a.lead.leads ∙ b.lead.leads };
-      }
-    where
-      both : (x y : Bool) → x ≡ true → y ≡ true → (x && y) ≡ true
-      both true true h g = refl
-      both true false h g = absurd cc
-      both false y h g = absurd cc
+    pub put_joined : (m n : ℕ) (ps qs rs : List Pick) (w u v : WorldAt State Value Fixed) → ArePut space code log m ps qs w u → ArePut space code log n qs rs u v → ArePut space code log (m + n) ps rs w v
+    put_joined m n ps qs rs w u v a b =
+        let ca = a.lead.count in
+        let cb = b.lead.count in
+        let l = length-append a.picks b.picks in
+        record {
+          picks = a.picks ++ b.picks;
+          put = b.put ∙ ap (λ xs. xs ++ b.picks) a.put ∙ append_assoc ps a.picks b.picks;
+          of_threads = list_all-append (λ (q : Pick). nat_le q.thread 15) a.picks b.picks ∙ both _ _ a.of_threads b.of_threads;
+          lead = record {
+            count = omega (arith, l, ca, cb);
+            gated = gated_joined space code log w a.picks b.picks a.lead.gated (subst (λ x. IsGatedRun space code log x b.picks) (sym a.lead.leads) b.lead.gated);
+            leads = world_joined space code w a.picks b.picks ∙ ap (λ x. world_run space code x b.picks) a.lead.leads ∙ b.lead.leads;
+          };
+        }
+      where
+        both : (x y : Bool) → x ≡ true → y ≡ true → (x && y) ≡ true
+        both true true h g = refl
+        both true false h g = absurd cc
+        both false y h g = absurd cc
 
-  -- those of a turn
-  turn_put : (log : Log) (t k : ℕ) (ps qs : List Pick) (u v : WorldAt State Value Fixed) → length u.threads ≤ 16 → qs ≡ ps ++ pick_made t (input_of_turn (turn_of space code log u t)) → TurnPasses space code log t u v k → ArePut space code k ps qs u v
-  turn_put log t k ps qs u v few is h =
-      let x = turn_of space code log u t in
-      record {
-        picks = pick_made t (input_of_turn x);
-        put = is;
-        of_threads = of_thread t x (λ made. let l = steps_within log u t made in omega (arith, l, few));
-        lead = record { count = picks_count t x ∙ sym h.0; leads = sym (turn_leaves space code u t x) ∙ sym h.1 };
-      }
+    pub few_passed : (t k : ℕ) (u v : WorldAt State Value Fixed) → TurnPasses space code log t u v k → k ≤ 1
+    few_passed t k u v h = let e = h.0 in let f = few_of_turn (turn_of space code log u t) in omega (arith, e, f)
 
-  pub turn_behind : (log : Log) (t m k : ℕ) (ps qs rs : List Pick) (w u v : WorldAt State Value Fixed) → length u.threads ≤ 16 → ArePut space code m ps qs w u
-      → rs ≡ qs ++ pick_made t (input_of_turn (turn_of space code log u t)) → TurnPasses space code log t u v k → ArePut space code (m + k) ps rs w v
-  turn_behind log t m k ps qs rs w u v few a is h = put_joined m k ps qs rs w u v a (turn_put log t k qs rs u v few is h)
+    pub put_length : (n : ℕ) (ps qs : List Pick) (w v : WorldAt State Value Fixed) → ArePut space code log n ps qs w v → length qs ≡ length ps + n
+    put_length n ps qs w v a =
+        let e = ap (λ xs. length xs) a.put in
+        let l = length-append ps a.picks in
+        let c = a.lead.count in
+        omega (arith, e, l, c)
 
-  -- the same by what a turn answers
-  pub turn_answered : (log log' : Log) → log' ≡ log → (t m k : ℕ) (ps qs rs : List Pick) (w u v : WorldAt State Value Fixed) (input : Option Input) → length u.threads ≤ 16 → ArePut space code m ps qs w u
-      → input ≡ input_of_turn (turn_of space code log' u t) → v ≡ world_after_turn space code u t (turn_of space code log' u t) → rs ≡ qs ++ pick_made t input → k ≡ length (pick_made t input)
-      → ArePut space code (m + k) ps rs w v × TurnPasses space code log t u v k × (length v.threads ≤ 16)
-  turn_answered log log' same t m k ps qs rs w u v input few a told after is count =
-      let x = turn_of space code log u t in
-      let e = ap (λ l. turn_of space code l u t) same in
-      let f = told ∙ ap input_of_turn e in
-      let g = after ∙ ap (world_after_turn space code u t) e in
-      let h : TurnPasses space code log t u v k = (count ∙ ap (λ i. length (pick_made t i)) f ∙ picks_count t x, g) in
-      let l = ap (λ (y : WorldAt State Value Fixed). length y.threads) g ∙ turned_length space code u t x in
-      (turn_behind log t m k ps qs rs w u v few a (is ∙ ap (λ i. qs ++ pick_made t i) f) h, h, omega (arith, l, few))
+    module _ (laws : SpaceLaws space) (rules : CodeLaws space code) (limits : HasLimits log) where
+      -- those of a turn
+      turn_put : (t k : ℕ) (ps qs : List Pick) (u v : WorldAt State Value Fixed) → length u.threads ≤ 16 → qs ≡ ps ++ pick_made t (input_of_turn (turn_of space code log u t)) → TurnPasses space code log t u v k → ArePut space code log k ps qs u v
+      turn_put t k ps qs u v few is h =
+          let x = turn_of space code log u t in
+          record {
+            picks = pick_made t (input_of_turn x);
+            put = is;
+            of_threads = of_thread t x (λ made. let l = steps_within log u t made in omega (arith, l, few));
+            lead = record { count = picks_count t x ∙ sym h.0; gated = made_gated space code laws rules log limits u t (input_of_turn x) refl; leads = sym (turn_leaves space code u t x) ∙ sym h.1 };
+          }
 
-  pub few_passed : (log : Log) (t k : ℕ) (u v : WorldAt State Value Fixed) → TurnPasses space code log t u v k → k ≤ 1
-  few_passed log t k u v h = let e = h.0 in let f = few_of_turn (turn_of space code log u t) in omega (arith, e, f)
+      turn_behind : (t m k : ℕ) (ps qs rs : List Pick) (w u v : WorldAt State Value Fixed) → length u.threads ≤ 16 → ArePut space code log m ps qs w u
+          → rs ≡ qs ++ pick_made t (input_of_turn (turn_of space code log u t)) → TurnPasses space code log t u v k → ArePut space code log (m + k) ps rs w v
+      turn_behind t m k ps qs rs w u v few a is h = put_joined m k ps qs rs w u v a (turn_put t k qs rs u v few is h)
 
-  pub put_length : (n : ℕ) (ps qs : List Pick) (w v : WorldAt State Value Fixed) → ArePut space code n ps qs w v → length qs ≡ length ps + n
-  put_length n ps qs w v a =
-      let e = ap (λ xs. length xs) a.put in
-      let l = length-append ps a.picks in
-      let c = a.lead.count in
-      omega (arith, e, l, c)
+      -- the same by what a turn answers
+      pub turn_answered : (log' : Log) → log' ≡ log → (t m k : ℕ) (ps qs rs : List Pick) (w u v : WorldAt State Value Fixed) (input : Option Input) → length u.threads ≤ 16 → ArePut space code log m ps qs w u
+          → input ≡ input_of_turn (turn_of space code log' u t) → v ≡ world_after_turn space code u t (turn_of space code log' u t) → rs ≡ qs ++ pick_made t input → k ≡ length (pick_made t input)
+          → ArePut space code log (m + k) ps rs w v × TurnPasses space code log t u v k × (length v.threads ≤ 16)
+      turn_answered log' same t m k ps qs rs w u v input few a told after is count =
+          let x = turn_of space code log u t in
+          let e = ap (λ l. turn_of space code l u t) same in
+          let f = told ∙ ap input_of_turn e in
+          let g = after ∙ ap (world_after_turn space code u t) e in
+          let h : TurnPasses space code log t u v k = (count ∙ ap (λ i. length (pick_made t i)) f ∙ picks_count t x, g) in
+          let l = ap (λ (y : WorldAt State Value Fixed). length y.threads) g ∙ turned_length space code u t x in
+          (turn_behind t m k ps qs rs w u v few a (is ∙ ap (λ i. qs ++ pick_made t i) f) h, h, omega (arith, l, few))
 
-  -- ---- leg by leg
+    -- ---- leg by leg
 
-  -- of a way with so many legs ahead, the picks of those behind were put behind none
-  pub record ArePutBefore (legs ahead : List Leg) (picks : List Pick) (w u : WorldAt State Value Fixed) : Type 0 where
-    pub steps : ℕ
-    pub put : ArePut space code steps [] picks w u
-    pub all : steps + steps_of_way ahead ≡ steps_of_way legs
+    -- of a way with so many legs ahead, the picks of those behind were put behind none
+    pub record ArePutBefore (legs ahead : List Leg) (picks : List Pick) (w u : WorldAt State Value Fixed) : Type 0 where
+      pub steps : ℕ
+      pub put : ArePut space code log steps [] picks w u
+      pub all : steps + steps_of_way ahead ≡ steps_of_way legs
 
-  pub put_before_all : (legs : List Leg) (w : WorldAt State Value Fixed) → ArePutBefore legs legs [] w w
-  put_before_all legs w = record { steps = 0; put = none_put [] w; all = omega arith }
+    pub put_before_all : (legs : List Leg) (w : WorldAt State Value Fixed) → ArePutBefore legs legs [] w w
+    put_before_all legs w = record { steps = 0; put = none_put [] w; all = omega arith }
 
-  module _ (legs : List Leg) (k : ℕ) (below : k < length legs) where
-    abbrev here : Leg
-    here = get_or legs k (leg.Thread 0 0)
+    module _ (legs : List Leg) (k : ℕ) (below : k < length legs) where
+      abbrev here : Leg
+      here = get_or legs k (leg.Thread 0 0)
 
-    counted : steps_of_way (drop k legs) ≡ steps_of_leg here + steps_of_way (drop (k + 1) legs)
-    counted = ap steps_of_way (drop_more legs k (leg.Thread 0 0) below) ∙ sum_by-cons steps_of_leg here (drop (k + 1) legs)
+      counted : steps_of_way (drop k legs) ≡ steps_of_leg here + steps_of_way (drop (k + 1) legs)
+      counted = ap steps_of_way (drop_more legs k (leg.Thread 0 0) below) ∙ sum_by-cons steps_of_leg here (drop (k + 1) legs)
 
-    pub room_here : (most : ℕ) (picks : List Pick) (w u : WorldAt State Value Fixed) → steps_of_way legs ≤ most → ArePutBefore legs (drop k legs) picks w u → length picks + steps_of_leg here ≤ most
-    room_here most picks w u few a =
-        let l = put_length a.steps [] picks w u a.put in
+      pub room_here : (most : ℕ) (picks : List Pick) (w u : WorldAt State Value Fixed) → steps_of_way legs ≤ most → ArePutBefore legs (drop k legs) picks w u → length picks + steps_of_leg here ≤ most
+      room_here most picks w u few a =
+          let l = put_length a.steps [] picks w u a.put in
+          let all = a.all in
+          let c = counted in
+          omega (arith, few, l, all, c)
+
+      pub put_here : (log' : Log) → log' ≡ log → (ps qs : List Pick) (w u v : WorldAt State Value Fixed) → ArePutBefore legs (drop k legs) ps w u → ArePut space code log' (steps_of_leg here) ps qs u v → ArePutBefore legs (drop (k + 1) legs) qs w v
+      put_here log' same ps qs w u v a b =
+          let all = a.all in
+          let c = counted in
+          record { steps = a.steps + steps_of_leg here; put = put_joined a.steps (steps_of_leg here) [] ps qs w u v a.put (subst (λ l. ArePut space code l (steps_of_leg here) ps qs u v) same b); all = omega (arith, all, c) }
+
+    pub all_put : (legs ahead : List Leg) (picks : List Pick) (w u : WorldAt State Value Fixed) → ahead ≡ [] → ArePutBefore legs ahead picks w u → ArePut space code log (steps_of_way legs) [] picks w u
+    all_put legs ahead picks w u none a =
+        let e = ap steps_of_way none in
         let all = a.all in
-        let c = counted in
-        omega (arith, few, l, all, c)
-
-    pub put_here : (ps qs : List Pick) (w u v : WorldAt State Value Fixed) → ArePutBefore legs (drop k legs) ps w u → ArePut space code (steps_of_leg here) ps qs u v → ArePutBefore legs (drop (k + 1) legs) qs w v
-    put_here ps qs w u v a b =
-        let all = a.all in
-        let c = counted in
-        record { steps = a.steps + steps_of_leg here; put = put_joined a.steps (steps_of_leg here) [] ps qs w u v a.put b; all = omega (arith, all, c) }
-
-  pub all_put : (legs ahead : List Leg) (picks : List Pick) (w u : WorldAt State Value Fixed) → ahead ≡ [] → ArePutBefore legs ahead picks w u → ArePut space code (steps_of_way legs) [] picks w u
-  all_put legs ahead picks w u none a =
-      let e = ap steps_of_way none in
-      let all = a.all in
-      subst (λ n. ArePut space code n [] picks w u) (let z : a.steps ≡ steps_of_way legs = omega (arith, e, all) in z) a.put
+        subst (λ n. ArePut space code log n [] picks w u) (let z : a.steps ≡ steps_of_way legs = omega (arith, e, all) in z) a.put
 
   module _ (rules : CodeLaws space code) (log log' : Log) (same : log' ≡ log) (opened start w : WorldAt State Value Fixed) (begins : start ≡ opened) (legs legs' : List Leg) (all : legs' ≡ legs) (lead : ∥ WayLeads space code log legs opened w ∥₁) where
     leads_too : WayLeads space code log legs opened w → WayLeads space code log' legs' start w
@@ -237,7 +243,7 @@ module _ {State Op Reply Value Fixed : Type 0} (space : Space Op Reply Value Fix
     pub leads_again : ∥ ((v : WorldAt State Value Fixed) × WayLeads space code log' legs' start v) ∥₁
     leads_again = ∥∥₁_map lead (λ h. (w, leads_too h))
 
-    pub comes_there : (picks : List Pick) (v : WorldAt State Value Fixed) → WayLeads space code log' legs' start v → ArePut space code (steps_of_way legs') [] picks start v → ∥ PicksLead space code (steps_of_way legs) picks opened w ∥₁
+    pub comes_there : (picks : List Pick) (v : WorldAt State Value Fixed) → WayLeads space code log' legs' start v → ArePut space code log' (steps_of_way legs') [] picks start v → ∥ PicksLead space code log (steps_of_way legs) picks opened w ∥₁
     comes_there picks v led a = ∥∥₁_map lead (λ h.
         let there = ways_lead_once space code rules log' legs' start v w led (leads_too h) in
         let count = a.lead.count in
@@ -245,8 +251,9 @@ module _ {State Op Reply Value Fixed : Type 0} (space : Space Op Reply Value Fix
         let e = ap steps_of_way all in
         record {
           count = omega (arith, count, one, e);
+          gated = subst (λ l. IsGatedRun space code l opened picks) same (subst (λ o. IsGatedRun space code log' o picks) begins (subst (IsGatedRun space code log' start) (sym a.put) a.lead.gated));
           leads = ap (λ o. world_run space code o picks) (sym begins) ∙ ap (λ xs. world_run space code start xs) a.put ∙ a.lead.leads ∙ there;
         })
 
-    pub threads_told : (picks : List Pick) (v : WorldAt State Value Fixed) → ArePut space code (steps_of_way legs') [] picks start v → AreOfThreads picks
+    pub threads_told : (picks : List Pick) (v : WorldAt State Value Fixed) → ArePut space code log' (steps_of_way legs') [] picks start v → AreOfThreads picks
     threads_told picks v a = ap are_of_threads a.put ∙ a.of_threads

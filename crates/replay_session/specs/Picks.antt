@@ -11,6 +11,8 @@ use Rattle.event_core.specs.World.{WorldAt}
 use Rattle.log_pieces.specs.declared.flat.Flat.{Flat}
 use Rattle.log_pieces.specs.declared.flat.Flat.TheVariants as flat
 use Rattle.pick_schedule.specs.Printing.{AreOfThreads}
+use Rattle.replay_laws.specs.Gates.{IsGatedRun}
+use Rattle.replay_laws.specs.Log.{Log}
 use Rattle.replay_laws.specs.Turns.{input_for}
 
 -- how a thread is picked for an event of which the log has this
@@ -19,10 +21,11 @@ input_by (Some (flat.Known item)) = input_for item.kind
 input_by (Some flat.Clash) = Go
 input_by None = Go
 
-module _ {State Op Reply Value Fixed : Type 0} (space : Space Op Reply Value Fixed) (code : Code State Op Reply Fixed) where
-  -- a run by these picks, n of them, leads from one world to another
+module _ {State Op Reply Value Fixed : Type 0} (space : Space Op Reply Value Fixed) (code : Code State Op Reply Fixed) (log : Log) where
+  -- a gated run by these picks, n of them, leads from one world to another
   pub record PicksLead (n : ℕ) (picks : List Pick) (w v : WorldAt State Value Fixed) : Type 0 where
     pub count : length picks ≡ n
+    pub gated : IsGatedRun space code log w picks
     pub leads : world_run space code w picks ≡ v
 
   -- such picks, of threads that a schedule can name, were put behind others

@@ -93,7 +93,7 @@ fn pick_thread<M: Machine<S>, S: ObjectSpace, L: ReadLog, O: OpenWorld<M, S>>(
     ensures log { replay.new.log ≡ replay.old.log }
     ensures opens { replay.new.opens ≡ replay.old.opens }
     ensures leads { OnOk result (ThreadLeads S.meaning M.code (L.log replay.old.log) thread steps (world_of replay.old.world) (world_of replay.new.world)) }
-    ensures put { OnOk result (ArePut S.meaning M.code steps picks.old picks.new (world_of replay.old.world) (world_of replay.new.world)) }
+    ensures put { OnOk result (ArePut S.meaning M.code (L.log replay.old.log) steps picks.old picks.new (world_of replay.old.world) (world_of replay.new.world)) }
 {
     let mut reader = replay.reader();
     let _count = replay.world().count();
@@ -118,7 +118,7 @@ fn pick_rounds<M: Machine<S>, S: ObjectSpace, L: ReadLog, O: OpenWorld<M, S>>(
     ensures log { replay.new.log ≡ replay.old.log }
     ensures opens { replay.new.opens ≡ replay.old.opens }
     ensures leads { OnOk result (TurnsLead S.meaning M.code (L.log replay.old.log) steps (world_of replay.old.world) (world_of replay.new.world)) }
-    ensures put { OnOk result (ArePut S.meaning M.code steps picks.old picks.new (world_of replay.old.world) (world_of replay.new.world)) }
+    ensures put { OnOk result (ArePut S.meaning M.code (L.log replay.old.log) steps picks.old picks.new (world_of replay.old.world) (world_of replay.new.world)) }
 {
     let mut reader = replay.reader();
     let count = replay.world().count() as u32;
@@ -154,7 +154,7 @@ fn pick_leg<M: Machine<S>, S: ObjectSpace, L: ReadLog, O: OpenWorld<M, S>>(
     ensures log { replay.new.log ≡ replay.old.log }
     ensures opens { replay.new.opens ≡ replay.old.opens }
     ensures leads { OnOk result (LegLeads S.meaning M.code (L.log replay.old.log) leg (world_of replay.old.world) (world_of replay.new.world)) }
-    ensures put { OnOk result (ArePut S.meaning M.code (steps_of_leg leg) picks.old picks.new (world_of replay.old.world) (world_of replay.new.world)) }
+    ensures put { OnOk result (ArePut S.meaning M.code (L.log replay.old.log) (steps_of_leg leg) picks.old picks.new (world_of replay.old.world) (world_of replay.new.world)) }
 {
     match leg {
         Leg::Thread { thread, steps } => pick_thread(alloc, log, replay, picks, thread, steps),
@@ -173,7 +173,7 @@ pub(crate) fn picks_of_way<M: Machine<S>, S: ObjectSpace, L: ReadLog, O: OpenWor
     requires leads { ∥ ((v : WorldAt M.State S.Value S.Fixed) × WayLeads S.meaning M.code (L.log replay.old.log) legs.now (world_of replay.old.world) v) ∥₁ }
     requires few { steps_of_way legs.now ≤ 1000000 }
     ensures leads { OnOk result (WayLeads S.meaning M.code (L.log replay.old.log) legs.now (world_of replay.old.world) (world_of replay.new.world)) }
-    ensures put { IfOk result (λ picks. ArePut S.meaning M.code (steps_of_way legs.now) [] picks (world_of replay.old.world) (world_of replay.new.world)) }
+    ensures put { IfOk result (λ picks. ArePut S.meaning M.code (L.log replay.old.log) (steps_of_way legs.now) [] picks (world_of replay.old.world) (world_of replay.new.world)) }
 {
     let mut picks = Schedule::new(alloc);
     for leg in legs {

@@ -320,11 +320,11 @@ impl<
         Ok(stopped)
     }
 
-    /// A schedule by which a run of its threads comes from the opening world to its world, with as many picks as its way
-    /// has steps. None where these are more than 1,000,000.
+    /// A schedule by which a run of its threads that its log lets pass comes from the opening world to its world, with as
+    /// many picks as its way has steps. None where these are more than 1,000,000.
     pub fn schedule(&self, alloc: Global) -> Result<Option<Schedule>, NoMemory>
         requires { O.suits self.now.opens }
-        ensures comes { IfOk result (λ schedule. IfSome schedule (λ picks. ∥ PicksLead S.meaning M.code (steps_of_way self.now.legs.items) picks (O.opened self.now.replay.opens) (world_of self.now.replay.world) ∥₁)) }
+        ensures comes { IfOk result (λ schedule. IfSome schedule (λ picks. ∥ PicksLead S.meaning M.code (L.log self.now.replay.log) (steps_of_way self.now.legs.items) picks (O.opened self.now.replay.opens) (world_of self.now.replay.world) ∥₁)) }
         ensures of_threads { IfOk result (λ schedule. IfSome schedule AreOfThreads) }
         ensures none { IfOk result (λ schedule. IfNone schedule (1000000 < steps_of_way self.now.legs.items)) }
     {

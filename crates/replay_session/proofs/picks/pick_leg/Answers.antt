@@ -32,8 +32,8 @@ returns-in-Rounds-clause-leads g c =
 
 pub returns-in-Thread-clause-put : goal.returns-in-Thread-clause-put
 returns-in-Thread-clause-put g c =
-    subst (λ l. OnOk c.pick_thread.result (ArePut g.S.ObjectSpace.meaning g.M.Machine.code (steps_of_leg l) c.args.picks.now c.pick_thread.new.picks (world_of c.args.replay.now.world) (world_of c.pick_thread.new.replay.world))) (sym c.in-Thread.is) c.pick_thread.ensures.put
+    subst (λ l. OnOk c.pick_thread.result (ArePut g.S.ObjectSpace.meaning g.M.Machine.code (g.L.ReadLog.log c.args.replay.now.log) (steps_of_leg l) c.args.picks.now c.pick_thread.new.picks (world_of c.args.replay.now.world) (world_of c.pick_thread.new.replay.world))) (sym c.in-Thread.is) c.pick_thread.ensures.put
 
 pub returns-in-Rounds-clause-put : goal.returns-in-Rounds-clause-put
 returns-in-Rounds-clause-put g c =
-    subst (λ l. OnOk c.pick_rounds.result (ArePut g.S.ObjectSpace.meaning g.M.Machine.code (steps_of_leg l) c.args.picks.now c.pick_rounds.new.picks (world_of c.args.replay.now.world) (world_of c.pick_rounds.new.replay.world))) (sym c.in-Rounds.is) c.pick_rounds.ensures.put
+    subst (λ l. OnOk c.pick_rounds.result (ArePut g.S.ObjectSpace.meaning g.M.Machine.code (g.L.ReadLog.log c.args.replay.now.log) (steps_of_leg l) c.args.picks.now c.pick_rounds.new.picks (world_of c.args.replay.now.world) (world_of c.pick_rounds.new.replay.world))) (sym c.in-Rounds.is) c.pick_rounds.ensures.put

@@ -14,7 +14,7 @@ loop-made-init g c =
     let most = c.count-count.ensures.few in
     record {
       rounds = none_so_far space code (g.L.ReadLog.log c.args.replay.now.log) w c.args.steps c.count-count.result all most;
-      put = none_put space code c.args.picks.now w;
+      put = none_put space code (g.L.ReadLog.log c.args.replay.now.log) c.args.picks.now w;
       threads = omega (arith, all, most);
       reads = c.reader-reader.ensures;
       log = refl;
@@ -23,7 +23,7 @@ loop-made-init g c =
 
 pub put_pick-requires : goal.put_pick-requires
 put_pick-requires g c =
-    let count = put_length g.S.ObjectSpace.meaning g.M.Machine.code c.loop-made.made c.args.picks.now c.loop-made.picks _ _ c.loop-made.invariant.put in
+    let count = put_length g.S.ObjectSpace.meaning g.M.Machine.code (g.L.ReadLog.log c.args.replay.now.log) c.loop-made.made c.args.picks.now c.loop-made.picks _ _ c.loop-made.invariant.put in
     let below = c.loop-made-test.true in
     let room = c.requires.room in
     omega (arith, count, below, room)
@@ -44,7 +44,7 @@ loop-made-preserved-then-next-count g c =
     let inv = c.loop-made.invariant in
     let turned = c.in_ok-input.ensures in
     let n = c.in_ok-made.field-0 in
-    let on = turn_answered space code log (g.L.ReadLog.log c.loop-made.replay.log) (ap g.L.ReadLog.log inv.log) k m n c.args.picks.now c.loop-made.picks c.put_pick.new.picks w u v c.in_ok-input.input inv.threads inv.put turned.input turned.world c.in_ok-made.ensures.put c.in_ok-made.ensures.count in
+    let on = turn_answered space code log spaces laws limits (g.L.ReadLog.log c.loop-made.replay.log) (ap g.L.ReadLog.log inv.log) k m n c.args.picks.now c.loop-made.picks c.put_pick.new.picks w u v c.in_ok-input.input inv.threads inv.put turned.input turned.world c.in_ok-made.ensures.put c.in_ok-made.ensures.count in
     record {
       rounds = turn_so_far space code log w c.args.steps laws m c.loop-made.before k _ u inv.rounds spaces limits c.loop-made-test.true c.if-next-count.true n v on.1;
       put = on.0;
@@ -83,4 +83,4 @@ returns-clause-put g c =
     let few = inv.rounds.few in
     let past = c.loop-made-test.false in
     let end : c.loop-made.made ≡ c.args.steps = omega (arith, few, past) in
-    subst (λ n. ArePut g.S.ObjectSpace.meaning g.M.Machine.code n c.args.picks.now c.loop-made.picks (world_of c.args.replay.now.world) (world_of c.loop-made.replay.world)) end inv.put
+    subst (λ n. ArePut g.S.ObjectSpace.meaning g.M.Machine.code (g.L.ReadLog.log c.args.replay.now.log) n c.args.picks.now c.loop-made.picks (world_of c.args.replay.now.world) (world_of c.loop-made.replay.world)) end inv.put

@@ -10,7 +10,7 @@ pub loop-leg-init : goal.loop-leg-init
 loop-leg-init g c = record {
   rest = c.requires.leads;
   on = λ v h. h;
-  put = subst (λ ps. ArePutBefore g.S.ObjectSpace.meaning g.M.Machine.code c.args.legs.now c.args.legs.now ps (world_of c.args.replay.now.world) (world_of c.args.replay.now.world)) (sym c.new-picks.ensures) (put_before_all g.S.ObjectSpace.meaning g.M.Machine.code c.args.legs.now (world_of c.args.replay.now.world));
+  put = subst (λ ps. ArePutBefore g.S.ObjectSpace.meaning g.M.Machine.code (g.L.ReadLog.log c.args.replay.now.log) c.args.legs.now c.args.legs.now ps (world_of c.args.replay.now.world) (world_of c.args.replay.now.world)) (sym c.new-picks.ensures) (put_before_all g.S.ObjectSpace.meaning g.M.Machine.code (g.L.ReadLog.log c.args.replay.now.log) c.args.legs.now (world_of c.args.replay.now.world));
   log = refl;
 }
 
@@ -21,7 +21,7 @@ pick_leg-requires-clause-leads g c =
 
 pub pick_leg-requires-clause-room : goal.pick_leg-requires-clause-room
 pick_leg-requires-clause-room g c =
-    room_here g.S.ObjectSpace.meaning g.M.Machine.code c.args.legs.now c.loop-leg.leg-index c.loop-leg-test.true 1000000 c.loop-leg.picks _ _ c.requires.few c.loop-leg.invariant.put
+    room_here g.S.ObjectSpace.meaning g.M.Machine.code (g.L.ReadLog.log c.args.replay.now.log) c.args.legs.now c.loop-leg.leg-index c.loop-leg-test.true 1000000 c.loop-leg.picks _ _ c.requires.few c.loop-leg.invariant.put
 
 pub loop-leg-preserved : goal.loop-leg-preserved
 loop-leg-preserved g c =
@@ -35,7 +35,7 @@ loop-leg-preserved g c =
     record {
       rest = on_leads rules same c.args.legs.now k c.loop-leg-test.true u x gone.leads inv.rest;
       on = λ v h. inv.on v (back_leads rules same c.args.legs.now k c.loop-leg-test.true u x v gone.leads h);
-      put = put_here g.S.ObjectSpace.meaning g.M.Machine.code c.args.legs.now k c.loop-leg-test.true c.loop-leg.picks c.pick_leg.new.picks _ u x inv.put gone.put;
+      put = put_here g.S.ObjectSpace.meaning g.M.Machine.code (g.L.ReadLog.log c.args.replay.now.log) c.args.legs.now k c.loop-leg-test.true _ same c.loop-leg.picks c.pick_leg.new.picks _ u x inv.put gone.put;
       log = gone.log ∙ inv.log;
     }
 
@@ -46,4 +46,4 @@ returns-clause-leads g c =
 
 pub returns-clause-put : goal.returns-clause-put
 returns-clause-put g c =
-    all_put g.S.ObjectSpace.meaning g.M.Machine.code c.args.legs.now _ c.loop-leg.picks _ _ (drop_all c.loop-leg.leg-index c.args.legs.now c.loop-leg-test.false) c.loop-leg.invariant.put
+    all_put g.S.ObjectSpace.meaning g.M.Machine.code (g.L.ReadLog.log c.args.replay.now.log) c.args.legs.now _ c.loop-leg.picks _ _ (drop_all c.loop-leg.leg-index c.args.legs.now c.loop-leg-test.false) c.loop-leg.invariant.put

@@ -1,6 +1,6 @@
 use Rattle.std.proofs.Common.{sym, ap, ◌∙◌}
 use Rattle.event_core.specs.World.{world_of}
-use Rattle.replay_session.proofs.PutPicks.{comes_there, leads_again, threads_told}
+use Rattle.replay_session.proofs.PutPicks.{comes_there, leads_again}
 use Rattle.replay_session.proofs.session.Session.schedule.Goals as goal
 
 pub picks_of_way-requires-clause-leads : goal.picks_of_way-requires-clause-leads
